@@ -10,7 +10,8 @@ use Rattle.agent_model.proofs.CutLemmas.{stream-fate}
 use Rattle.agent_model.proofs.FatedLemmas.{first-tied, run-tied, step-fated, waits-until}
 use Rattle.agent_laws.specs.Answered.{IsAnswered}
 
-pub first-answered : (settings : Settings) (events : List Timed) → IsAnswered (first_state settings) events
+pub first-answered : (settings : Settings) (events : List Timed)
+    → IsAnswered (first_state settings) events
 first-answered settings events = record {
   waits = λ before later number ask port whole found waits.
       let waiting = (tied before).tied.waits number ask port found waits in

@@ -32,7 +32,10 @@ use Rattle.agent_laws.proofs.ApartPortLemmas.{KeepsPlace, alike-itself, keeps-te
 module _ (who : Insiders) where
   -- ---- its own port
 
-  own_by : (test : Bool) (number : ℕ) (f : Port → Port) → KeepsPlace f → who.is_insider number ≡ true → (port : Port) (ports : List Port) → (port.number == number) ≡ test → AreAlikePorts who ports (change_port number f ports) → AreAlikePorts who (port ∷ ports) (cond test (f port ∷ ports) (port ∷ change_port number f ports))
+  own_by : (test : Bool) (number : ℕ) (f : Port → Port) → KeepsPlace f
+      → who.is_insider number ≡ true → (port : Port) (ports : List Port)
+      → (port.number == number) ≡ test → AreAlikePorts who ports (change_port number f ports)
+      → AreAlikePorts who (port ∷ ports) (cond test (f port ∷ ports) (port ∷ change_port number f ports))
   own_by true number f keeps inside port ports test later =
       let same : port.number ≡ number = grind (arith, nat_tests) in (
         record {
@@ -44,45 +47,59 @@ module _ (who : Insiders) where
       )
   own_by false number f keeps inside port ports test later = (alike-itself who port, later)
 
-  pub ports-own : (number : ℕ) (f : Port → Port) → KeepsPlace f → who.is_insider number ≡ true → (ports : List Port) → AreAlikePorts who ports (change_port number f ports)
+  pub ports-own : (number : ℕ) (f : Port → Port) → KeepsPlace f → who.is_insider number ≡ true
+      → (ports : List Port) → AreAlikePorts who ports (change_port number f ports)
   ports-own number f keeps inside [] = tt
   ports-own number f keeps inside (port ∷ ports) = own_by (port.number == number) number f keeps inside port ports refl (ports-own number f keeps inside ports)
 
   -- ---- hidden keys
 
-  open_differs : (key : HeldKey) (blob : List ℕ) → who.is_hidden key.blob ≡ false → who.is_hidden blob ≡ true → bytes_eq key.blob blob ≡ true → ⊥
+  open_differs : (key : HeldKey) (blob : List ℕ) → who.is_hidden key.blob ≡ false
+      → who.is_hidden blob ≡ true → bytes_eq key.blob blob ≡ true → ⊥
   open_differs key blob open_one hidden same =
       let equal : key.blob ≡ blob = (bytes_eq-Decides key.blob blob).0 same in
       let no : false ≡ true = sym open_one ∙ ap who.is_hidden equal ∙ hidden in
       absurd (cc)
 
-  put_open : (test : Bool) (key : HeldKey) (number : ℕ) (twos : List HeldKey) {ones more : List HeldKey} → (test ≡ true → ⊥) → who.is_hidden key.blob ≡ false → key.confirm ≡ false → AreAlikeKeys who ones more → AreAlikeKeys who (key ∷ ones) (cond test twos (renumbered number key ∷ more))
+  put_open : (test : Bool) (key : HeldKey) (number : ℕ) (twos : List HeldKey) {ones more : List HeldKey}
+      → (test ≡ true → ⊥) → who.is_hidden key.blob ≡ false → key.confirm ≡ false
+      → AreAlikeKeys who ones more
+      → AreAlikeKeys who (key ∷ ones) (cond test twos (renumbered number key ∷ more))
   put_open true key number twos never shown_one plain rest = absurd (never refl)
   put_open false key number twos never shown_one plain rest = both key number shown_one plain rest
 
-  put_other : (test : Bool) (key new : HeldKey) {ones twos more : List HeldKey} → who.is_hidden key.blob ≡ true → who.is_hidden new.blob ≡ true → AreAlikeKeys who ones twos → AreAlikeKeys who ones more → AreAlikeKeys who ones (cond test (new ∷ twos) (key ∷ more))
+  put_other : (test : Bool) (key new : HeldKey) {ones twos more : List HeldKey}
+      → who.is_hidden key.blob ≡ true → who.is_hidden new.blob ≡ true → AreAlikeKeys who ones twos
+      → AreAlikeKeys who ones more → AreAlikeKeys who ones (cond test (new ∷ twos) (key ∷ more))
   put_other true key new hidden hidden_new whole rest = second_has new hidden_new whole
   put_other false key new hidden hidden_new whole rest = second_has key hidden rest
 
-  put-hidden : (new : HeldKey) → who.is_hidden new.blob ≡ true → {ones twos : List HeldKey} → AreAlikeKeys who ones twos → AreAlikeKeys who ones (put_identity new twos)
+  put-hidden : (new : HeldKey) → who.is_hidden new.blob ≡ true → {ones twos : List HeldKey}
+      → AreAlikeKeys who ones twos → AreAlikeKeys who ones (put_identity new twos)
   unfolding put_identity
   put-hidden new hidden none = second_has new hidden none
   put-hidden new hidden (both {twos = twos} key number shown_one plain rest) =
       put_open (bytes_eq key.blob new.blob) key number (new ∷ twos) (open_differs key new.blob shown_one hidden) shown_one plain (put-hidden new hidden rest)
-  put-hidden new hidden (first_has key hidden_one rest) = first_has key hidden_one (put-hidden new hidden rest)
+  put-hidden new hidden (first_has key hidden_one rest) =
+      first_has key hidden_one (put-hidden new hidden rest)
   put-hidden new hidden (second_has key hidden_one rest) = put_other (bytes_eq key.blob new.blob) key new hidden_one hidden rest (put-hidden new hidden rest)
 
-  removed_other : (test : Bool) (key : HeldKey) {ones twos less : List HeldKey} → who.is_hidden key.blob ≡ true → AreAlikeKeys who ones twos → AreAlikeKeys who ones less → AreAlikeKeys who ones (cond test twos (key ∷ less))
+  removed_other : (test : Bool) (key : HeldKey) {ones twos less : List HeldKey}
+      → who.is_hidden key.blob ≡ true → AreAlikeKeys who ones twos → AreAlikeKeys who ones less
+      → AreAlikeKeys who ones (cond test twos (key ∷ less))
   removed_other true key hidden whole rest = whole
   removed_other false key hidden whole rest = second_has key hidden rest
 
-  removed-hidden : (blob : List ℕ) → who.is_hidden blob ≡ true → {ones twos : List HeldKey} → AreAlikeKeys who ones twos → AreAlikeKeys who ones (remove_identity blob twos)
+  removed-hidden : (blob : List ℕ) → who.is_hidden blob ≡ true → {ones twos : List HeldKey}
+      → AreAlikeKeys who ones twos → AreAlikeKeys who ones (remove_identity blob twos)
   unfolding remove_identity
   removed-hidden blob hidden none = none
   removed-hidden blob hidden (both {twos = twos} key number shown_one plain rest) =
       put_open (bytes_eq key.blob blob) key number twos (open_differs key blob shown_one hidden) shown_one plain (removed-hidden blob hidden rest)
-  removed-hidden blob hidden (first_has key hidden_one rest) = first_has key hidden_one (removed-hidden blob hidden rest)
-  removed-hidden blob hidden (second_has key hidden_one rest) = removed_other (bytes_eq key.blob blob) key hidden_one rest (removed-hidden blob hidden rest)
+  removed-hidden blob hidden (first_has key hidden_one rest) =
+      first_has key hidden_one (removed-hidden blob hidden rest)
+  removed-hidden blob hidden (second_has key hidden_one rest) =
+      removed_other (bytes_eq key.blob blob) key hidden_one rest (removed-hidden blob hidden rest)
 
   -- ---- its requests
 
@@ -92,10 +109,13 @@ module _ (who : Insiders) where
     same : served.work.under_way ≡ under_way
 
   module _ (asker : Asker) (held : KeyState) (under_way : UnderWay) (alike : IsAlikeHeld who held held) (now : asker.mono ≡ held.table.greatest) where
-    stays-aside : (served : Served) → served.held ≡ held → served.work.under_way ≡ under_way → IsAside held under_way served
-    stays-aside served is same = record { keys = subst (IsAlikeHeld who held) (sym is) alike; same = same }
+    stays-aside : (served : Served) → served.held ≡ held → served.work.under_way ≡ under_way
+        → IsAside held under_way served
+    stays-aside served is same =
+        record { keys = subst (IsAlikeHeld who held) (sym is) alike; same = same }
 
-    add_with : (fault : Option Cause) (addition : Addition) → who.is_hidden addition.key.blob ≡ true → IsAside held under_way (add_unless fault addition asker.mono held under_way)
+    add_with : (fault : Option Cause) (addition : Addition) → who.is_hidden addition.key.blob ≡ true
+        → IsAside held under_way (add_unless fault addition asker.mono held under_way)
     add_with (Some cause) addition hidden = stays-aside _ refl refl
     add_with None addition hidden = record {
       keys = record {
@@ -109,15 +129,19 @@ module _ (who : Insiders) where
       same = refl;
     }
 
-    add_seen_so : (seen : Bool) (addition : Addition) → who.is_hidden addition.key.blob ≡ true → IsAside held under_way (add_seen seen addition asker.mono held under_way)
+    add_seen_so : (seen : Bool) (addition : Addition) → who.is_hidden addition.key.blob ≡ true
+        → IsAside held under_way (add_seen seen addition asker.mono held under_way)
     add_seen_so false addition hidden = stays-aside _ refl refl
     add_seen_so true addition hidden = add_with _ addition hidden
 
-    added_so : (asked : Option HeldKey) (addition : Addition) → who.is_hidden addition.key.blob ≡ true → IsAside held under_way (add_by asked asker addition held under_way)
+    added_so : (asked : Option HeldKey) (addition : Addition)
+        → who.is_hidden addition.key.blob ≡ true
+        → IsAside held under_way (add_by asked asker addition held under_way)
     added_so None addition hidden = add_seen_so true addition hidden
     added_so (Some key) addition hidden = add_seen_so (sees asker key) addition hidden
 
-    remove_seen_so : (seen : Bool) (blob : List ℕ) → who.is_hidden blob ≡ true → IsAside held under_way (remove_seen seen blob held under_way)
+    remove_seen_so : (seen : Bool) (blob : List ℕ) → who.is_hidden blob ≡ true
+        → IsAside held under_way (remove_seen seen blob held under_way)
     remove_seen_so false blob hidden = stays-aside _ refl refl
     remove_seen_so true blob hidden = record {
       keys = record {
@@ -131,14 +155,17 @@ module _ (who : Insiders) where
       same = refl;
     }
 
-    removed_so : (asked : Option HeldKey) (blob : List ℕ) → who.is_hidden blob ≡ true → IsAside held under_way (remove_by asked asker blob held under_way)
+    removed_so : (asked : Option HeldKey) (blob : List ℕ) → who.is_hidden blob ≡ true
+        → IsAside held under_way (remove_by asked asker blob held under_way)
     removed_so None blob hidden = stays-aside _ refl refl
     removed_so (Some key) blob hidden = remove_seen_so (sees asker key) blob hidden
 
-    own-unlocked : (request : ClientRequest) → IsOwnMatter who request → IsAside held under_way (serve_unlocked request asker held under_way)
+    own-unlocked : (request : ClientRequest) → IsOwnMatter who request
+        → IsAside held under_way (serve_unlocked request asker held under_way)
     own-unlocked ListIdentities own = stays-aside _ refl refl
     own-unlocked (Sign signing) own = absurd own
-    own-unlocked (Add addition) own = added_so (find_identity addition.key.blob held.table.identities) addition own
+    own-unlocked (Add addition) own =
+        added_so (find_identity addition.key.blob held.table.identities) addition own
     own-unlocked (Remove blob) own = removed_so (find_identity blob held.table.identities) blob own
     own-unlocked RemoveAll own = absurd own
     own-unlocked (Lock passphrase) own = absurd own
@@ -147,7 +174,8 @@ module _ (who : Insiders) where
     own-unlocked (OtherExtension name) own = absurd own
     own-unlocked (Unsupported number) own = absurd own
 
-    own-locked : (passphrase : List ℕ) (request : ClientRequest) → IsOwnMatter who request → IsAside held under_way (serve_locked passphrase request held under_way)
+    own-locked : (passphrase : List ℕ) (request : ClientRequest) → IsOwnMatter who request
+        → IsAside held under_way (serve_locked passphrase request held under_way)
     own-locked passphrase ListIdentities own = stays-aside _ refl refl
     own-locked passphrase (Sign signing) own = absurd own
     own-locked passphrase (Add addition) own = stays-aside _ refl refl
@@ -159,11 +187,14 @@ module _ (who : Insiders) where
     own-locked passphrase (OtherExtension name) own = absurd own
     own-locked passphrase (Unsupported number) own = absurd own
 
-    by_lock : (lock : Option (List ℕ)) (request : ClientRequest) → IsOwnMatter who request → IsAside held under_way (serve_by lock request asker held under_way)
+    by_lock : (lock : Option (List ℕ)) (request : ClientRequest) → IsOwnMatter who request
+        → IsAside held under_way (serve_by lock request asker held under_way)
     by_lock None request own = own-unlocked request own
     by_lock (Some passphrase) request own = own-locked passphrase request own
 
-    own-served : (read : Result ClientRequest MsgFault) → ((request : ClientRequest) → read ≡ Ok request → IsOwnMatter who request) → IsAside held under_way (serve read asker held under_way)
+    own-served : (read : Result ClientRequest MsgFault)
+        → ((request : ClientRequest) → read ≡ Ok request → IsOwnMatter who request)
+        → IsAside held under_way (serve read asker held under_way)
     own-served (Err fault) own = stays-aside _ refl refl
     own-served (Ok request) own = by_lock held.lock request (own request refl)
 
@@ -179,13 +210,16 @@ module _ (who : Insiders) where
       calm = alike.calm;
     }
 
-    taken-own : (body_len : ℕ) → ((request : ClientRequest) → agent_request_of (front_body body_len port.heard) ≡ Ok request → IsOwnMatter who request) → AreAlike who start (taken body_len (front_body body_len port.heard) port state).state
+    taken-own : (body_len : ℕ)
+        → ((request : ClientRequest) → agent_request_of (front_body body_len port.heard) ≡ Ok request → IsOwnMatter who request)
+        → AreAlike who start (taken body_len (front_body body_len port.heard) port state).state
     taken-own body_len own = subst (λ (s : State). AreAlikePorts who start.ports s.ports → AreAlike who start (taken body_len body port s).state) (sym rest) so ports
       where
         body : List ℕ
         body = front_body body_len port.heard
 
-        so : AreAlikePorts who start.ports state.ports → AreAlike who start (taken body_len body port (record start { ports = state.ports })).state
+        so : AreAlikePorts who start.ports state.ports
+            → AreAlike who start (taken body_len body port (record start { ports = state.ports })).state
         so these =
             let aside = own-served (asker_at start.moment port) start.held start.under_way alike.held now (agent_request_of body) own in
             let verdict : Verdict = (serve (agent_request_of body) (asker_at start.moment port) start.held start.under_way).work.verdict in
@@ -200,18 +234,26 @@ module _ (who : Insiders) where
               calm = alike.calm;
             }
 
-    front-own : (answer : Front) → due port ≡ answer → ((announced : ℕ) → due port ≢ Bad announced) → ((body_len : ℕ) (request : ClientRequest) → due port ≡ Whole body_len → agent_request_of (front_body body_len port.heard) ≡ Ok request → IsOwnMatter who request) → AreAlike who start (look_front answer port state).state
-    front-own (Whole body_len) is well own = taken-own body_len (λ request read. own body_len request is read)
+    front-own : (answer : Front) → due port ≡ answer → ((announced : ℕ) → due port ≢ Bad announced)
+        → ((body_len : ℕ) (request : ClientRequest) → due port ≡ Whole body_len → agent_request_of (front_body body_len port.heard) ≡ Ok request → IsOwnMatter who request)
+        → AreAlike who start (look_front answer port state).state
+    front-own (Whole body_len) is well own =
+        taken-own body_len (λ request read. own body_len request is read)
     front-own (Bad announced) is well own = absurd (well announced is)
     front-own More is well own = stays
 
-    owed-own : (owed : List ℕ) → port.owed ≡ owed → port.waits ≡ Nothing → ((announced : ℕ) → due port ≢ Bad announced) → ((body_len : ℕ) (request : ClientRequest) → due port ≡ Whole body_len → agent_request_of (front_body body_len port.heard) ≡ Ok request → IsOwnMatter who request) → AreAlike who start (look_owed owed port state).state
+    owed-own : (owed : List ℕ) → port.owed ≡ owed → port.waits ≡ Nothing
+        → ((announced : ℕ) → due port ≢ Bad announced)
+        → ((body_len : ℕ) (request : ClientRequest) → due port ≡ Whole body_len → agent_request_of (front_body body_len port.heard) ≡ Ok request → IsOwnMatter who request)
+        → AreAlike who start (look_owed owed port state).state
     owed-own [] is nothing well own =
         front-own (front longest_body port.heard)
         (ap (λ (w : Waits). due (record port { waits = w })) nothing ∙ ap (λ (o : List ℕ). due (record port { waits = Nothing; owed = o })) is) well own
     owed-own (byte ∷ bytes) is nothing well own = stays
 
-    waits-own : (waits : Waits) → port.waits ≡ waits → ((announced : ℕ) → due port ≢ Bad announced) → ((body_len : ℕ) (request : ClientRequest) → due port ≡ Whole body_len → agent_request_of (front_body body_len port.heard) ≡ Ok request → IsOwnMatter who request) → AreAlike who start (look_waits waits port state).state
+    waits-own : (waits : Waits) → port.waits ≡ waits → ((announced : ℕ) → due port ≢ Bad announced)
+        → ((body_len : ℕ) (request : ClientRequest) → due port ≡ Whole body_len → agent_request_of (front_body body_len port.heard) ≡ Ok request → IsOwnMatter who request)
+        → AreAlike who start (look_waits waits port state).state
     waits-own Nothing is well own = owed-own port.owed refl is well own
     waits-own (OnAsk ask) is well own = stays
     waits-own (OnConfirmation job) is well own = stays
@@ -236,14 +278,16 @@ module _ (who : Insiders) where
         at_greatest : (at_moment moment state).moment.mono ≡ (at_moment moment state).held.table.greatest
         at_greatest = at_moment-keeps (λ s. s.moment.mono ≡ s.held.table.greatest) moment state (λ s is. is) (λ one s there is. is) refl
 
-    pub heard-own : (piece : List ℕ) → IsInside who port (heard_more piece port) → AreAlike who state (step state moment (Heard number piece)).state
+    pub heard-own : (piece : List ℕ) → IsInside who port (heard_more piece port)
+        → AreAlike who state (step state moment (Heard number piece)).state
     heard-own piece inside =
         subst (λ (s : State). AreAlike who state (handle (Heard number piece) s).state) (sym same)
         (subst (λ (asked : Option Port). AreAlike who state (heard_at asked piece state).state) (sym found)
         (subst (λ d. AreAlike who state (heard_at (Some (record port { door = d })) piece state).state) (sym client)
         (looked-own state alike now number port found (heard_more piece) (keeps-heard who piece) inside)))
 
-    pub took-own : (count : ℕ) → IsInside who port (took_some count port) → AreAlike who state (step state moment (Took number count)).state
+    pub took-own : (count : ℕ) → IsInside who port (took_some count port)
+        → AreAlike who state (step state moment (Took number count)).state
     took-own count inside =
         subst (λ (s : State). AreAlike who state (handle (Took number count) s).state) (sym same)
         (subst (λ (asked : Option Port). AreAlike who state (took_at asked count state).state) (sym found)

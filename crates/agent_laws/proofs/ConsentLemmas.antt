@@ -14,7 +14,8 @@ use Rattle.agent_laws.specs.Past.{PastAddition, last_addition}
 use Rattle.agent_laws.proofs.ConsequenceLemmas.{claimed}
 
 -- a request claims no addition
-no_addition : (read : Result ClientRequest MsgFault) (port : ℕ) (claim : Claim) → claim_of_request read port ≡ Some claim → claim.addition ≡ None
+no_addition : (read : Result ClientRequest MsgFault) (port : ℕ) (claim : Claim)
+    → claim_of_request read port ≡ Some claim → claim.addition ≡ None
 no_addition (Err fault) port claim is = absurd (cc)
 no_addition (Ok ListIdentities) port claim is = absurd (cc)
 no_addition (Ok (Sign signing)) port claim is =
@@ -40,7 +41,9 @@ pub record Consents (action : Action) (rest : List Stamped) (claim : Claim) (add
   pub addition : raising.addition ≡ added.number
   pub what : raising.signing ≡ claim.signing
 
-by_raised : (job : ℕ) (rest : List Stamped) (claim : Claim) (added : PastAddition) (raised : Option Raising) → raised_at job rest ≡ raised → claim_of_raising raised ≡ Some claim → is_consented claim.addition added ≡ true → Consents (Granted job) rest claim added
+by_raised : (job : ℕ) (rest : List Stamped) (claim : Claim) (added : PastAddition) (raised : Option Raising)
+    → raised_at job rest ≡ raised → claim_of_raising raised ≡ Some claim
+    → is_consented claim.addition added ≡ true → Consents (Granted job) rest claim added
 by_raised job rest claim added None is claims consented = absurd (cc)
 by_raised job rest claim added (Some raising) is claims consented =
     let one : Claim = record { port = raising.port; addition = Some raising.addition; signing = raising.signing } in
@@ -56,7 +59,9 @@ by_raised job rest claim added (Some raising) is claims consented =
       what = ap (λ (c : Claim). c.signing) same;
     }
 
-consents : (action : Action) (rest : List Stamped) (claim : Claim) (added : PastAddition) → claim_of action rest ≡ Some claim → is_consented claim.addition added ≡ true → added.addition.terms.confirm ≡ true → Consents action rest claim added
+consents : (action : Action) (rest : List Stamped) (claim : Claim) (added : PastAddition)
+    → claim_of action rest ≡ Some claim → is_consented claim.addition added ≡ true
+    → added.addition.terms.confirm ≡ true → Consents action rest claim added
 consents (Requested requesting) rest claim added claims consented confirm =
     let none : claim.addition ≡ None = no_addition (agent_request_of requesting.body) requesting.port claim claims in
     let clash : false ≡ true = ap not (sym confirm) ∙ ap (λ a. is_consented a added) (sym none) ∙ consented in
@@ -65,11 +70,16 @@ consents (Asked asking) rest claim added claims consented confirm = absurd (cc)
 consents (Answered settled) rest claim added claims consented confirm = absurd (cc)
 consents (Proved proving) rest claim added claims consented confirm = absurd (cc)
 consents (Raised raising) rest claim added claims consented confirm = absurd (cc)
-consents (Granted job) rest claim added claims consented confirm = by_raised job rest claim added (raised_at job rest) refl claims consented
+consents (Granted job) rest claim added claims consented confirm =
+    by_raised job rest claim added (raised_at job rest) refl claims consented
 consents (Over job) rest claim added claims consented confirm = absurd (cc)
 consents Lost rest claim added claims consented confirm = absurd (cc)
 
-pub put-consented : (before : List Stamped) (port : ℕ) (signing : Signing) (settings : Settings) (events : List Timed) (past : PastAddition) → HasNumbers (run (first_state settings) events) → IsPutBehind before port signing settings events → last_addition signing.blob (onto [] before) ≡ Some past → past.addition.terms.confirm ≡ true → IsConsented (onto [] before) port past.number signing
+pub put-consented : (before : List Stamped) (port : ℕ) (signing : Signing) (settings : Settings) (events : List Timed) (past : PastAddition)
+    → HasNumbers (run (first_state settings) events)
+    → IsPutBehind before port signing settings events
+    → last_addition signing.blob (onto [] before) ≡ Some past → past.addition.terms.confirm ≡ true
+    → IsConsented (onto [] before) port past.number signing
 put-consented before port signing settings events past numbers put last confirm =
     let by = claimed before port signing settings events numbers put in
     let same : Some by.met.added ≡ Some past = sym by.met.last ∙ ap (λ (s : Signing). last_addition s.blob (onto [] before)) by.what ∙ last in

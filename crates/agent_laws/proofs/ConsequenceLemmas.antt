@@ -33,7 +33,8 @@ pub record IsMetAt (life : Option ℕ) (past : List Stamped) (claim : Claim) : T
   pub unlocked : was_locked past ≡ false
 
 -- what is held at a second was added last
-held_last : (last : Option PastAddition) (life : Option ℕ) (now : ℕ) (added : PastAddition) → held_by last life now ≡ Some added → last ≡ Some added
+held_last : (last : Option PastAddition) (life : Option ℕ) (now : ℕ) (added : PastAddition)
+    → held_by last life now ≡ Some added → last ≡ Some added
 held_last None life now added is = absurd (cc)
 held_last (Some past) life now added is = grind (arith, nat_tests)
 
@@ -45,7 +46,11 @@ module _ (life : Option ℕ) (newest : Stamped) (rest : List Stamped) (claim : C
   abbrev whole : List Stamped
   whole = newest ∷ rest
 
-  by_held : (held : Option PastAddition) → held_by (last_addition claim.signing.blob whole) life newest.moment.mono ≡ held → claim_of newest.action rest ≡ Some claim → is_met held claim (proved_of claim.port whole) newest.moment.wall (open_asks whole) (was_locked whole) ≡ true → IsMetAt life whole claim
+  by_held : (held : Option PastAddition)
+      → held_by (last_addition claim.signing.blob whole) life newest.moment.mono ≡ held
+      → claim_of newest.action rest ≡ Some claim
+      → is_met held claim (proved_of claim.port whole) newest.moment.wall (open_asks whole) (was_locked whole) ≡ true
+      → IsMetAt life whole claim
   by_held None is claims met = absurd (cc)
   by_held (Some added) is claims met =
       let few : Bool = nat_lt (length (open_asks whole)) 256 in
@@ -63,25 +68,33 @@ module _ (life : Option ℕ) (newest : Stamped) (rest : List Stamped) (claim : C
         unlocked = not_true (was_locked whole) parts.3;
       }
 
-  by_claim : (claimed : Option Claim) → claim_of newest.action rest ≡ claimed → met_by claimed life newest.moment whole ≡ Some claim → IsMetAt life whole claim
+  by_claim : (claimed : Option Claim) → claim_of newest.action rest ≡ claimed
+      → met_by claimed life newest.moment whole ≡ Some claim → IsMetAt life whole claim
   by_claim None is due = absurd (cc)
   by_claim (Some other) is due = by_met (is_met (held_by (last_addition other.signing.blob whole) life newest.moment.mono) other (proved_of other.port whole) newest.moment.wall (open_asks whole) (was_locked whole)) refl due
     where
-      by_met : (met : Bool) → is_met (held_by (last_addition other.signing.blob whole) life newest.moment.mono) other (proved_of other.port whole) newest.moment.wall (open_asks whole) (was_locked whole) ≡ met → cond met (Some other) None ≡ Some claim → IsMetAt life whole claim
+      by_met : (met : Bool)
+          → is_met (held_by (last_addition other.signing.blob whole) life newest.moment.mono) other (proved_of other.port whole) newest.moment.wall (open_asks whole) (was_locked whole) ≡ met
+          → cond met (Some other) None ≡ Some claim → IsMetAt life whole claim
       by_met true met some =
           let same : other ≡ claim = cc in
           by_held _ refl (is ∙ ap Some same) (subst (λ one. is_met (held_by (last_addition one.signing.blob whole) life newest.moment.mono) one (proved_of one.port whole) newest.moment.wall (open_asks whole) (was_locked whole) ≡ true) same met)
       by_met false met some = absurd (cc)
 
-due-met : (life : Option ℕ) (past : List Stamped) (claim : Claim) → due_signing life past ≡ Some claim → IsMetAt life past claim
+due-met : (life : Option ℕ) (past : List Stamped) (claim : Claim)
+    → due_signing life past ≡ Some claim → IsMetAt life past claim
 due-met life [] claim due = absurd (cc)
-due-met life (newest ∷ rest) claim due = by_claim life newest rest claim (claim_of newest.action rest) refl due
+due-met life (newest ∷ rest) claim due =
+    by_claim life newest rest claim (claim_of newest.action rest) refl due
 
 -- ---- what is put
 
-lawful-at : (life : Option ℕ) (past before : List Stamped) (one : Stamped) (later : List Stamped) → IsLawful life past (before ++ one ∷ later) → StandsAt one.action (due_signing life (onto past before))
+lawful-at : (life : Option ℕ) (past before : List Stamped) (one : Stamped) (later : List Stamped)
+    → IsLawful life past (before ++ one ∷ later)
+    → StandsAt one.action (due_signing life (onto past before))
 lawful-at life past [] one later lawful = lawful.0
-lawful-at life past (first ∷ before) one later lawful = lawful-at life (first ∷ past) before one later lawful.1
+lawful-at life past (first ∷ before) one later lawful =
+    lawful-at life (first ∷ past) before one later lawful.1
 
 -- the claim that is met where a signature is put
 pub record IsClaimed (life : Option ℕ) (before : List Stamped) (port : ℕ) (signing : Signing) : Type 0 where
@@ -90,11 +103,16 @@ pub record IsClaimed (life : Option ℕ) (before : List Stamped) (port : ℕ) (s
   pub asker : claim.port ≡ port
   pub what : claim.signing ≡ signing
 
-claimed_by : (life : Option ℕ) (before : List Stamped) (port : ℕ) (signing : Signing) (due : Option Claim) → due_signing life (onto [] before) ≡ due → IsSomeAnd due (λ claim. (claim.port ≡ port) × (claim.signing ≡ signing)) → IsClaimed life before port signing
+claimed_by : (life : Option ℕ) (before : List Stamped) (port : ℕ) (signing : Signing) (due : Option Claim)
+    → due_signing life (onto [] before) ≡ due
+    → IsSomeAnd due (λ claim. (claim.port ≡ port) × (claim.signing ≡ signing))
+    → IsClaimed life before port signing
 claimed_by life before port signing None is some = absurd some
 claimed_by life before port signing (Some claim) is some = record { claim = claim; met = due-met life (onto [] before) claim is; asker = some.0; what = some.1 }
 
-pub claimed : (before : List Stamped) (port : ℕ) (signing : Signing) (settings : Settings) (events : List Timed) → HasNumbers (run (first_state settings) events) → IsPutBehind before port signing settings events → IsClaimed settings.life before port signing
+pub claimed : (before : List Stamped) (port : ℕ) (signing : Signing) (settings : Settings) (events : List Timed)
+    → HasNumbers (run (first_state settings) events)
+    → IsPutBehind before port signing settings events → IsClaimed settings.life before port signing
 claimed before port signing settings events numbers put =
     let lawful = subst (IsLawful settings.life []) put.is (first-lawful settings events numbers) in
     let stands = subst (λ action. StandsAt action (due_signing settings.life (onto [] before))) put.action (lawful-at settings.life [] before put.one put.later lawful) in
@@ -113,15 +131,21 @@ locked-on DidLock other = refl
 locked-on DidUnlock other = absurd (other refl)
 locked-on (DidUse blob) other = refl
 
-stays_locked : (past between : List Stamped) → was_locked past ≡ true → NoneUnlocks between → was_locked (onto past between) ≡ true
+stays_locked : (past between : List Stamped) → was_locked past ≡ true → NoneUnlocks between
+    → was_locked (onto past between) ≡ true
 stays_locked past [] locked none = locked
 stays_locked past (one ∷ between) locked none =
     stays_locked (one ∷ past) between (ap (locked_by (done_of one.action)) locked ∙ locked-on (done_of one.action) none.0) none.1
 
-pub put-unlocked : (before : List Stamped) (port : ℕ) (signing : Signing) (settings : Settings) (events : List Timed) → HasNumbers (run (first_state settings) events) → IsPutBehind before port signing settings events → was_locked (onto [] before) ≡ false
-put-unlocked before port signing settings events numbers put = (claimed before port signing settings events numbers put).met.unlocked
+pub put-unlocked : (before : List Stamped) (port : ℕ) (signing : Signing) (settings : Settings) (events : List Timed)
+    → HasNumbers (run (first_state settings) events)
+    → IsPutBehind before port signing settings events → was_locked (onto [] before) ≡ false
+put-unlocked before port signing settings events numbers put =
+    (claimed before port signing settings events numbers put).met.unlocked
 
-pub locked-none : (before between : List Stamped) (lock : Stamped) (port : ℕ) (signing : Signing) (settings : Settings) (events : List Timed) → HasNumbers (run (first_state settings) events) → done_of lock.action ≡ DidLock → NoneUnlocks between → IsPutBehind (before ++ lock ∷ between) port signing settings events → ⊥
+pub locked-none : (before between : List Stamped) (lock : Stamped) (port : ℕ) (signing : Signing) (settings : Settings) (events : List Timed)
+    → HasNumbers (run (first_state settings) events) → done_of lock.action ≡ DidLock
+    → NoneUnlocks between → IsPutBehind (before ++ lock ∷ between) port signing settings events → ⊥
 locked-none before between lock port signing settings events numbers did none put =
     let locked : was_locked (onto [] (before ++ lock ∷ between)) ≡ true =
     ap was_locked (onto-append [] before (lock ∷ between)) ∙ stays_locked (lock ∷ onto [] before) between (ap (λ done. locked_by done (was_locked (onto [] before))) did) none in
@@ -130,16 +154,22 @@ locked-none before between lock port signing settings events numbers did none pu
 
 -- ---- additions
 
-pub put-added : (before : List Stamped) (port : ℕ) (signing : Signing) (settings : Settings) (events : List Timed) → HasNumbers (run (first_state settings) events) → IsPutBehind before port signing settings events → (past : PastAddition) × (last_addition signing.blob (onto [] before) ≡ Some past)
+pub put-added : (before : List Stamped) (port : ℕ) (signing : Signing) (settings : Settings) (events : List Timed)
+    → HasNumbers (run (first_state settings) events)
+    → IsPutBehind before port signing settings events
+    → (past : PastAddition) × (last_addition signing.blob (onto [] before) ≡ Some past)
 put-added before port signing settings events numbers put =
     let is = claimed before port signing settings events numbers put in
     (is.met.added, ap (λ (s : Signing). last_addition s.blob (onto [] before)) (sym is.what) ∙ is.met.last)
 
-pub added-none : (done : Done) (blob : List ℕ) (second number : ℕ) → ((addition : Addition) → done ≡ DidAdd addition → addition.key.blob ≢ blob) → added_by done blob second number None ≡ None
+pub added-none : (done : Done) (blob : List ℕ) (second number : ℕ)
+    → ((addition : Addition) → done ≡ DidAdd addition → addition.key.blob ≢ blob)
+    → added_by done blob second number None ≡ None
 added-none DidNothing blob second number other = refl
 added-none (DidAdd addition) blob second number other = by_test (bytes_eq addition.key.blob blob) refl
   where
-    by_test : (same : Bool) → bytes_eq addition.key.blob blob ≡ same → cond same (Some (let past : PastAddition = record { number = number; second = second; addition = addition; uses = 0 } in past)) None ≡ None
+    by_test : (same : Bool) → bytes_eq addition.key.blob blob ≡ same
+        → cond same (Some (let past : PastAddition = record { number = number; second = second; addition = addition; uses = 0 } in past)) None ≡ None
     by_test true is = absurd (other addition refl ((bytes_eq-Decides addition.key.blob blob).0 is))
     by_test false is = refl
 added-none (DidRemove removed) blob second number other = by_test (bytes_eq removed blob)
@@ -156,27 +186,38 @@ added-none (DidUse used) blob second number other = by_test (bytes_eq used blob)
     by_test true = refl
     by_test false = refl
 
-stays_away : (blob : List ℕ) (past between : List Stamped) → last_addition blob past ≡ None → NoneAdds blob between → last_addition blob (onto past between) ≡ None
+stays_away : (blob : List ℕ) (past between : List Stamped) → last_addition blob past ≡ None
+    → NoneAdds blob between → last_addition blob (onto past between) ≡ None
 stays_away blob past [] none adds = none
 stays_away blob past (one ∷ between) none adds =
     stays_away blob (one ∷ past) between (ap (added_by (done_of one.action) blob one.moment.mono _) none ∙ added-none (done_of one.action) blob one.moment.mono _ adds.0) adds.1
 
-away-none : (before : List Stamped) (port : ℕ) (signing : Signing) (settings : Settings) (events : List Timed) → HasNumbers (run (first_state settings) events) → last_addition signing.blob (onto [] before) ≡ None → IsPutBehind before port signing settings events → ⊥
+away-none : (before : List Stamped) (port : ℕ) (signing : Signing) (settings : Settings) (events : List Timed)
+    → HasNumbers (run (first_state settings) events)
+    → last_addition signing.blob (onto [] before) ≡ None
+    → IsPutBehind before port signing settings events → ⊥
 away-none before port signing settings events numbers none put =
     let added = put-added before port signing settings events numbers put in
     let clash : None ≡ Some added.0 = sym none ∙ added.1 in
     absurd (cc)
 
-pub never-none : (before : List Stamped) (port : ℕ) (signing : Signing) (settings : Settings) (events : List Timed) → HasNumbers (run (first_state settings) events) → NoneAdds signing.blob before → IsPutBehind before port signing settings events → ⊥
+pub never-none : (before : List Stamped) (port : ℕ) (signing : Signing) (settings : Settings) (events : List Timed)
+    → HasNumbers (run (first_state settings) events) → NoneAdds signing.blob before
+    → IsPutBehind before port signing settings events → ⊥
 never-none before port signing settings events numbers adds put = away-none before port signing settings events numbers (stays_away signing.blob [] before refl adds) put
 
-removed_then : (blob : List ℕ) (action : Action) (second number : ℕ) (last : Option PastAddition) → Removes blob action → added_by (done_of action) blob second number last ≡ None
+removed_then : (blob : List ℕ) (action : Action) (second number : ℕ) (last : Option PastAddition)
+    → Removes blob action → added_by (done_of action) blob second number last ≡ None
 removed_then blob action second number last (inl is) =
     let same : bytes_eq blob blob ≡ true = (bytes_eq-Decides blob blob).1 refl in
     ap (λ done. added_by done blob second number last) is ∙ ap (λ b. cond b None last) same
-removed_then blob action second number last (inr is) = ap (λ done. added_by done blob second number last) is
+removed_then blob action second number last (inr is) =
+    ap (λ done. added_by done blob second number last) is
 
-pub removed-none : (before between : List Stamped) (removal : Stamped) (port : ℕ) (signing : Signing) (settings : Settings) (events : List Timed) → HasNumbers (run (first_state settings) events) → Removes signing.blob removal.action → NoneAdds signing.blob between → IsPutBehind (before ++ removal ∷ between) port signing settings events → ⊥
+pub removed-none : (before between : List Stamped) (removal : Stamped) (port : ℕ) (signing : Signing) (settings : Settings) (events : List Timed)
+    → HasNumbers (run (first_state settings) events) → Removes signing.blob removal.action
+    → NoneAdds signing.blob between
+    → IsPutBehind (before ++ removal ∷ between) port signing settings events → ⊥
 removed-none before between removal port signing settings events numbers removes adds put =
     away-none (before ++ removal ∷ between) port signing settings events numbers
     (ap (last_addition signing.blob) (onto-append [] before (removal ∷ between))
@@ -185,7 +226,11 @@ removed-none before between removal port signing settings events numbers removes
 
 -- ---- destination constraints, and open asks
 
-pub put-permitted : (before rest : List Stamped) (newest : Stamped) (port : ℕ) (signing : Signing) (settings : Settings) (events : List Timed) (past : PastAddition) → HasNumbers (run (first_state settings) events) → IsPutBehind before port signing settings events → onto [] before ≡ newest ∷ rest → last_addition signing.blob (onto [] before) ≡ Some past → denial_under past.addition.terms.rules signing.blob (proved_of port (onto [] before)) signing.message newest.moment.wall ≡ None
+pub put-permitted : (before rest : List Stamped) (newest : Stamped) (port : ℕ) (signing : Signing) (settings : Settings) (events : List Timed) (past : PastAddition)
+    → HasNumbers (run (first_state settings) events)
+    → IsPutBehind before port signing settings events → onto [] before ≡ newest ∷ rest
+    → last_addition signing.blob (onto [] before) ≡ Some past
+    → denial_under past.addition.terms.rules signing.blob (proved_of port (onto [] before)) signing.message newest.moment.wall ≡ None
 put-permitted before rest newest port signing settings events past numbers put is last =
     let by = claimed before port signing settings events numbers put in
     let same : Some by.met.added ≡ Some past = sym by.met.last ∙ ap (λ (s : Signing). last_addition s.blob (onto [] before)) by.what ∙ last in
@@ -198,5 +243,8 @@ put-permitted before rest newest port signing settings events past numbers put i
     ∙ ap (λ (n : Stamped). denial_under by.met.added.addition.terms.rules by.claim.signing.blob (proved_of by.claim.port (onto [] before)) by.claim.signing.message n.moment.wall) (sym first)
     ∙ by.met.permitted
 
-pub put-few : (before : List Stamped) (port : ℕ) (signing : Signing) (settings : Settings) (events : List Timed) → HasNumbers (run (first_state settings) events) → IsPutBehind before port signing settings events → length (open_asks (onto [] before)) < 256
-put-few before port signing settings events numbers put = (claimed before port signing settings events numbers put).met.few
+pub put-few : (before : List Stamped) (port : ℕ) (signing : Signing) (settings : Settings) (events : List Timed)
+    → HasNumbers (run (first_state settings) events)
+    → IsPutBehind before port signing settings events → length (open_asks (onto [] before)) < 256
+put-few before port signing settings events numbers put =
+    (claimed before port signing settings events numbers put).met.few

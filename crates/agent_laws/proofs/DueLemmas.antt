@@ -26,19 +26,25 @@ use Rattle.agent_laws.proofs.HoldsLemmas.{Facts, Holds, Made, facts_after, key_o
 
 -- what comes of a request behind which this is due: it is put to the helper, or the user is asked, or neither
 pub data Acts (N : Type 0) (due : Option Claim) (asker : Asker) (held : KeyState) (under_way : UnderWay) : Work → Type 0 where
-  silent : (verdict : Verdict) → (N → due ≡ None) → Acts N due asker held under_way (settles verdict under_way)
-  asks : (errand : Errand) → IsDue (purpose_of errand) asker.port due → Acts N due asker held under_way (put_unless None errand asker.port under_way)
-  raises_it : (key : HeldKey) (signing : Signing) → find_identity signing.blob held.table.identities ≡ Some key → (N → due ≡ None) → Acts N due asker held under_way (raise_unless None key signing asker.port under_way)
+  silent : (verdict : Verdict) → (N → due ≡ None)
+      → Acts N due asker held under_way (settles verdict under_way)
+  asks : (errand : Errand) → IsDue (purpose_of errand) asker.port due
+      → Acts N due asker held under_way (put_unless None errand asker.port under_way)
+  raises_it : (key : HeldKey) (signing : Signing)
+      → find_identity signing.blob held.table.identities ≡ Some key → (N → due ≡ None)
+      → Acts N due asker held under_way (raise_unless None key signing asker.port under_way)
 
 -- the claim, where it is met by what the past tells
-abbrev pub met_with : Option Claim → Option ℕ → ℕ → ℕ → Facts → (ℕ → List Binding) → List ℕ → Option Claim
+abbrev pub met_with : Option Claim → Option ℕ → ℕ → ℕ → Facts → (ℕ → List Binding) → List ℕ
+    → Option Claim
 met_with None life second wall facts chains opens = None
 met_with (Some claim) life second wall facts chains opens =
     if is_met (held_by (facts.last claim.signing.blob) life second) claim (chains claim.port) wall opens facts.locked then Some claim else None
 
 -- ---- four tests
 
-pub all_pass : (a b c d : Bool) → a ≡ true → b ≡ true → c ≡ true → d ≡ true → (a && (b && (c && d))) ≡ true
+pub all_pass : (a b c d : Bool) → a ≡ true → b ≡ true → c ≡ true → d ≡ true
+    → (a && (b && (c && d))) ≡ true
 all_pass a b c d a_is b_is c_is d_is = rw (a_is, b_is, c_is, d_is) refl
 
 first_fails : (a b c d : Bool) → a ≡ false → (a && (b && (c && d))) ≡ false
@@ -79,7 +85,8 @@ module _ (life : Option ℕ) (asker : Asker) (facts : Facts) (held : KeyState) (
     told : find_identity signing.blob held.table.identities ≡ option_map (key_of life) held_now
     told = sym (fresh signing.blob) ∙ holds.found signing.blob asker.mono (omega arith)
 
-    made : (key : HeldKey) → find_identity signing.blob held.table.identities ≡ Some key → Made life held_now key
+    made : (key : HeldKey) → find_identity signing.blob held.table.identities ≡ Some key
+        → Made life held_now key
     made key found = made_of life held_now key (sym found ∙ told)
 
     not_due : is_due held_now ≡ false → due ≡ None
@@ -87,13 +94,15 @@ module _ (life : Option ℕ) (asker : Asker) (facts : Facts) (held : KeyState) (
 
     -- the four tests, the first two by the key
     abbrev permits : HeldKey → Bool
-    permits key = is_permitted (denial_under key.rules signing.blob asker.chain signing.message asker.wall)
+    permits key =
+        is_permitted (denial_under key.rules signing.blob asker.chain signing.message asker.wall)
 
     abbrev few : Bool
     few = nat_lt (length opens) 256
 
     -- what is due is by the parts of the key
-    by_made : (key : HeldKey) (made : Made life held_now key) → is_due held_now ≡ (not key.confirm && (permits key && (few && not facts.locked)))
+    by_made : (key : HeldKey) (made : Made life held_now key)
+        → is_due held_now ≡ (not key.confirm && (permits key && (few && not facts.locked)))
     by_made key made = ap is_due made.now ∙ ap (λ (k : HeldKey). not k.confirm && (permits k && (few && not facts.locked))) made.is
 
     open_count : length opens ≡ length under_way.link.asks
@@ -117,11 +126,14 @@ module _ (life : Option ℕ) (asker : Asker) (facts : Facts) (held : KeyState) (
         let key : HeldKey = usable.permitted.key in
         not_due (by_made key (made key usable.permitted.found) ∙ first_fails (not key.confirm) (permits key) few (not facts.locked) (ap not usable.confirm))
 
-    refused-not : {N : Type 0} → (N → under_way.link.last < 2 ^ 64 - 1) → (N → under_way.last_job < 2 ^ 64 - 1) → (cause : Cause) → IsRefusedFor cause signing asker held under_way → N → due ≡ None
+    refused-not : {N : Type 0} → (N → under_way.link.last < 2 ^ 64 - 1)
+        → (N → under_way.last_job < 2 ^ 64 - 1) → (cause : Cause)
+        → IsRefusedFor cause signing asker held under_way → N → due ≡ None
     refused-not left jobs Locked why n = not_due (locked_fails held_now (holds.locked ∙ why))
     refused-not left jobs NotHeld why n = not_due (by_none held_now refl (sym why.1 ∙ told))
       where
-        by_none : (now : Option PastAddition) → held_now ≡ now → None ≡ option_map (key_of life) now → is_due held_now ≡ false
+        by_none : (now : Option PastAddition) → held_now ≡ now → None ≡ option_map (key_of life) now
+            → is_due held_now ≡ false
         by_none None is none = ap is_due is
         by_none (Some past) is none = absurd (cc)
     refused-not left jobs (DestinationDenied denial) why n =
@@ -137,9 +149,13 @@ module _ (life : Option ℕ) (asker : Asker) (facts : Facts) (held : KeyState) (
     refused-not left jobs JobsSpent (inr why) n = absurd (omega (arith, jobs n, why.2))
     refused-not left jobs other why n = absurd why
 
-    acts-sign : {N : Type 0} → (N → under_way.link.last < 2 ^ 64 - 1) → (N → under_way.last_job < 2 ^ 64 - 1) → {work : Work} → Comes signing asker held under_way work → Acts N due asker held under_way work
-    acts-sign left jobs (refused cause why) = silent (Refuses cause) (refused-not left jobs cause why)
-    acts-sign left jobs (raises usable room) = raises_it usable.permitted.key signing usable.permitted.found (λ n. consent_first usable)
+    acts-sign : {N : Type 0} → (N → under_way.link.last < 2 ^ 64 - 1)
+        → (N → under_way.last_job < 2 ^ 64 - 1) → {work : Work}
+        → Comes signing asker held under_way work → Acts N due asker held under_way work
+    acts-sign left jobs (refused cause why) =
+        silent (Refuses cause) (refused-not left jobs cause why)
+    acts-sign left jobs (raises usable room) =
+        raises_it usable.permitted.key signing usable.permitted.found (λ n. consent_first usable)
     acts-sign left jobs (put usable room) =
         asks (Signs usable.permitted.key signing) (subst (λ d. IsSomeAnd d (λ one. (one.port ≡ asker.port) × (one.signing ≡ signing))) (sym (usable-due usable room)) (refl, refl))
 
@@ -152,7 +168,8 @@ module _ (life : Option ℕ) (asker : Asker) (facts : Facts) (held : KeyState) (
       ((signing : Signing) → read ≡ Ok (Sign signing) → ⊥) → {served : Served} →
       Serves read asker held under_way served → Quiet N served.work
   quiet-served read other (denies cause) = silent (Refuses cause) (λ n. refl)
-  quiet-served read other (lists identities is) = silent (Replies (Identities identities)) (λ n. refl)
+  quiet-served read other (lists identities is) =
+      silent (Replies (Identities identities)) (λ n. refl)
   quiet-served read other (adds addition is) = silent (Replies Success) (λ n. refl)
   quiet-served read other (removes blob is) = silent (Replies Success) (λ n. refl)
   quiet-served read other (empties is) = silent (Replies Success) (λ n. refl)
@@ -173,15 +190,21 @@ module _ (life : Option ℕ) (asker : Asker) (facts : Facts) (held : KeyState) (
 
   module _ {N : Type 0} (left : N → under_way.link.last < 2 ^ 64 - 1) (jobs : N → under_way.last_job < 2 ^ 64 - 1) where
     -- whatever is asked, what it puts to the helper is what is due behind it
-    pub acts-served : (read : Result ClientRequest MsgFault) → Acts N (due_read read (serve read asker held under_way).work.verdict) asker held under_way (serve read asker held under_way).work
+    pub acts-served : (read : Result ClientRequest MsgFault)
+        → Acts N (due_read read (serve read asker held under_way).work.verdict) asker held under_way (serve read asker held under_way).work
     acts-served (Err fault) = silent (Refuses (unread fault held.lock)) (λ n. refl)
     acts-served (Ok ListIdentities) = quiet-any (Ok ListIdentities) (λ signing is. absurd (cc))
-    acts-served (Ok (Sign signing)) = acts-sign signing left jobs (comes-of signing asker held under_way)
+    acts-served (Ok (Sign signing)) =
+        acts-sign signing left jobs (comes-of signing asker held under_way)
     acts-served (Ok (Add addition)) = quiet-any (Ok (Add addition)) (λ signing is. absurd (cc))
     acts-served (Ok (Remove blob)) = quiet-any (Ok (Remove blob)) (λ signing is. absurd (cc))
     acts-served (Ok RemoveAll) = quiet-any (Ok RemoveAll) (λ signing is. absurd (cc))
-    acts-served (Ok (Lock passphrase)) = quiet-any (Ok (Lock passphrase)) (λ signing is. absurd (cc))
-    acts-served (Ok (Unlock passphrase)) = quiet-any (Ok (Unlock passphrase)) (λ signing is. absurd (cc))
+    acts-served (Ok (Lock passphrase)) =
+        quiet-any (Ok (Lock passphrase)) (λ signing is. absurd (cc))
+    acts-served (Ok (Unlock passphrase)) =
+        quiet-any (Ok (Unlock passphrase)) (λ signing is. absurd (cc))
     acts-served (Ok (Bind bind)) = quiet-any (Ok (Bind bind)) (λ signing is. absurd (cc))
-    acts-served (Ok (OtherExtension name)) = quiet-any (Ok (OtherExtension name)) (λ signing is. absurd (cc))
-    acts-served (Ok (Unsupported number)) = quiet-any (Ok (Unsupported number)) (λ signing is. absurd (cc))
+    acts-served (Ok (OtherExtension name)) =
+        quiet-any (Ok (OtherExtension name)) (λ signing is. absurd (cc))
+    acts-served (Ok (Unsupported number)) =
+        quiet-any (Ok (Unsupported number)) (λ signing is. absurd (cc))

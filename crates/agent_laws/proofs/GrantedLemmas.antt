@@ -39,7 +39,9 @@ use Rattle.agent_laws.proofs.StepLemmas.{Agrees, Goes, Opened, due_as, numbers-a
 not_over : (over job : ℕ) → over ≢ job → (over == job) ≡ false
 not_over over job other = grind (arith, nat_tests)
 
-pub over-agrees : {N : Type 0} (life : Option ℕ) (past : List Stamped) (confirmation : Confirmation) (state : State) → JobsRise 0 state.under_way.confirmations state.under_way.last_job → Opened N life past state → Agrees N life state.moment.mono (stamp state.moment (Over confirmation.job) ∷ past) state.held state.under_way.link.asks (remove_job confirmation.job state.under_way.confirmations)
+pub over-agrees : {N : Type 0} (life : Option ℕ) (past : List Stamped) (confirmation : Confirmation) (state : State)
+    → JobsRise 0 state.under_way.confirmations state.under_way.last_job → Opened N life past state
+    → Agrees N life state.moment.mono (stamp state.moment (Over confirmation.job) ∷ past) state.held state.under_way.link.asks (remove_job confirmation.job state.under_way.confirmations)
 over-agrees life past confirmation state order opened =
     let holds = opened.agrees.holds in
     record {
@@ -52,7 +54,8 @@ over-agrees life past confirmation state order opened =
 
 -- ---- consent
 
-pub all_parts : (a b c d : Bool) → (a && (b && (c && d))) ≡ true → (a ≡ true) × (b ≡ true) × (c ≡ true) × (d ≡ true)
+pub all_parts : (a b c d : Bool) → (a && (b && (c && d))) ≡ true
+    → (a ≡ true) × (b ≡ true) × (c ≡ true) × (d ≡ true)
 all_parts true true true true is = (refl, refl, refl, refl)
 all_parts true true true false is = absurd (cc)
 all_parts true true false d is = absurd (cc)
@@ -69,7 +72,8 @@ none_if_not (Some passphrase) is = absurd (cc)
 
 module _ (life : Option ℕ) (second wall : ℕ) (facts : Facts) (held : KeyState) (under_way : UnderWay) (opens : List ℕ) (chain : List Binding) (confirmation : Confirmation) (holds : Holds life second facts held) (fresh : (blob : List ℕ) → if_alive second (find_identity blob held.table.identities) ≡ find_identity blob held.table.identities) (same : opens ≡ map (λ (one : Ask). one.number) under_way.link.asks) (raising : Raising) (addition : raising.addition ≡ confirmation.addition) (message : raising.signing.message ≡ confirmation.message) (flags : raising.signing.flags ≡ confirmation.flags) (blob : (key : HeldKey) → find_number confirmation.addition held.table.identities ≡ Some key → key.blob ≡ raising.signing.blob) where
   abbrev claim : Claim
-  claim = record { port = raising.port; addition = Some raising.addition; signing = raising.signing }
+  claim =
+      record { port = raising.port; addition = Some raising.addition; signing = raising.signing }
 
   abbrev held_now : Option PastAddition
   held_now = held_by (facts.last raising.signing.blob) life second
@@ -81,7 +85,8 @@ module _ (life : Option ℕ) (second wall : ℕ) (facts : Facts) (held : KeyStat
   due = if is_due held_now then Some claim else None
 
   abbrev permits : HeldKey → Bool
-  permits key = is_permitted (denial_under key.rules raising.signing.blob chain raising.signing.message wall)
+  permits key =
+      is_permitted (denial_under key.rules raising.signing.blob chain raising.signing.message wall)
 
   abbrev few : Bool
   few = nat_lt (length opens) 256
@@ -90,28 +95,34 @@ module _ (life : Option ℕ) (second wall : ℕ) (facts : Facts) (held : KeyStat
   told = sym (fresh raising.signing.blob) ∙ holds.found raising.signing.blob second (omega arith)
 
   -- what the addition's number finds was so made, and is of that addition
-  made : (key : HeldKey) → find_number confirmation.addition held.table.identities ≡ Some key → Made life held_now key
+  made : (key : HeldKey) → find_number confirmation.addition held.table.identities ≡ Some key
+      → Made life held_now key
   made key found =
       made_of life held_now key
       (sym (ap (λ b. find_identity b held.table.identities) (sym (blob key found)) ∙ blob_of_numbered confirmation.addition held.table.identities key holds.own found) ∙ told)
 
-  numbered : (key : HeldKey) → find_number confirmation.addition held.table.identities ≡ Some key → (made : Made life held_now key) → (made.past.number == raising.addition) ≡ true
+  numbered : (key : HeldKey) → find_number confirmation.addition held.table.identities ≡ Some key
+      → (made : Made life held_now key) → (made.past.number == raising.addition) ≡ true
   numbered key found made =
       let is : made.past.number ≡ key.number = ap (λ (k : HeldKey). k.number) made.is in
       let of_key : key.number ≡ confirmation.addition = found_has_number confirmation.addition held.table.identities key found in
       grind (arith, nat_tests, is, of_key, addition)
 
-  by_made : (key : HeldKey) (made : Made life held_now key) → is_due held_now ≡ ((made.past.number == raising.addition) && (permits key && (few && not facts.locked)))
+  by_made : (key : HeldKey) (made : Made life held_now key)
+      → is_due held_now ≡ ((made.past.number == raising.addition) && (permits key && (few && not facts.locked)))
   by_made key made = ap is_due made.now ∙ ap (λ (k : HeldKey). (made.past.number == raising.addition) && (permits k && (few && not facts.locked))) made.is
 
   open_count : length opens ≡ length under_way.link.asks
   open_count = ap length same ∙ length-map under_way.link.asks (λ (one : Ask). one.number)
 
-  denies_as : (key : HeldKey) → key.blob ≡ raising.signing.blob → denial_under key.rules raising.signing.blob chain raising.signing.message wall ≡ denial_under key.rules key.blob chain confirmation.message wall
+  denies_as : (key : HeldKey) → key.blob ≡ raising.signing.blob
+      → denial_under key.rules raising.signing.blob chain raising.signing.message wall ≡ denial_under key.rules key.blob chain confirmation.message wall
   denies_as key is = ap (λ b. denial_under key.rules b chain raising.signing.message wall) (sym is) ∙ ap (λ m. denial_under key.rules key.blob chain m wall) message
 
   -- what may be granted is due
-  grantable-due : (key : HeldKey) → IsGrantable key chain confirmation.addition confirmation.message wall held → length under_way.link.asks < 256 → due ≡ Some claim
+  grantable-due : (key : HeldKey)
+      → IsGrantable key chain confirmation.addition confirmation.message wall held
+      → length under_way.link.asks < 256 → due ≡ Some claim
   grantable-due key may room =
       let by = made key may.found in
       let unlocked : facts.locked ≡ false = holds.locked ∙ ap is_some may.unlocked in
@@ -121,7 +132,8 @@ module _ (life : Option ℕ) (second wall : ℕ) (facts : Facts) (held : KeyStat
       (ap is_permitted (denies_as key (blob key may.found) ∙ may.permitted)) some (ap not unlocked))
 
   -- what is due may be granted
-  due-grantable : (now : Option PastAddition) → held_now ≡ now → is_due now ≡ true → (key : HeldKey) × IsGrantable key chain confirmation.addition confirmation.message wall held
+  due-grantable : (now : Option PastAddition) → held_now ≡ now → is_due now ≡ true
+      → (key : HeldKey) × IsGrantable key chain confirmation.addition confirmation.message wall held
   due-grantable None is met = absurd (cc)
   due-grantable (Some past) is met =
       let key : HeldKey = key_of life past in
@@ -138,18 +150,23 @@ module _ (life : Option ℕ) (second wall : ℕ) (facts : Facts) (held : KeyStat
         },
       )
 
-  never-due : ((key : HeldKey) → IsGrantable key chain confirmation.addition confirmation.message wall held → ⊥) → due ≡ None
+  never-due : ((key : HeldKey) → IsGrantable key chain confirmation.addition confirmation.message wall held → ⊥)
+      → due ≡ None
   never-due never =
       ap (λ b. if b then Some claim else None) (false_from_ne_true (is_due held_now) (λ met. let may = due-grantable held_now refl met in never may.0 may.1))
 
   -- where an ask can't be put it is for want of room alone
-  full-not : {N : Type 0} → (N → under_way.link.last < 2 ^ 64 - 1) → (N → under_way.last_job < 2 ^ 64 - 1) → (key : HeldKey) → IsGrantable key chain confirmation.addition confirmation.message wall held → {cause : Cause} → RoomFor under_way (Some cause) → N → due ≡ None
+  full-not : {N : Type 0} → (N → under_way.link.last < 2 ^ 64 - 1)
+      → (N → under_way.last_job < 2 ^ 64 - 1) → (key : HeldKey)
+      → IsGrantable key chain confirmation.addition confirmation.message wall held → {cause : Cause}
+      → RoomFor under_way (Some cause) → N → due ≡ None
   full-not left jobs key may (full more) n =
       let by = made key may.found in
       let many : few ≡ false = ap (λ n. nat_lt n 256) open_count ∙ grind (arith, nat_tests, more) in
       ap (λ b. if b then Some claim else None) (by_made key by ∙ third_fails (by.past.number == raising.addition) (permits key) few (not facts.locked) many)
   full-not left jobs key may (no_ask few_asks spent) n = absurd (omega (arith, left n, spent))
-  full-not left jobs key may (no_job few_asks numbers none spent) n = absurd (omega (arith, jobs n, spent))
+  full-not left jobs key may (no_job few_asks numbers none spent) n =
+      absurd (omega (arith, jobs n, spent))
 
 module _ {N : Type 0} (life : Option ℕ) (past : List Stamped) (confirmation : Confirmation) (port : Port) (state : State) (order : JobsRise 0 state.under_way.confirmations state.under_way.last_job) (there : IsIn confirmation state.under_way.confirmations) (found : find_port confirmation.asker state.ports ≡ Some port) (opened : Opened N life past state) where
   abbrev left_over : UnderWay
@@ -183,7 +200,8 @@ module _ {N : Type 0} (life : Option ℕ) (past : List Stamped) (confirmation : 
       (λ job other. ap (λ b. if b then None else raised_at job past) (not_over confirmation.job job other)) opened.agrees.raised
 
   -- nothing is put, as nothing is due
-  goes-refused : (cause : Cause) → (N → due_now ≡ None) → Goes N life past state (grant_concluded (settles (Refuses cause) left_over) confirmation state)
+  goes-refused : (cause : Cause) → (N → due_now ≡ None)
+      → Goes N life past state (grant_concluded (settles (Refuses cause) left_over) confirmation state)
   goes-refused cause none = record {
     lawful = (opened.agrees.idle, λ n. due_behind ∙ none n);
     agrees = record { holds = holds_behind; opens = opened.agrees.opens; raised = raised_behind; idle = λ n. due_behind ∙ none n };
@@ -191,7 +209,8 @@ module _ {N : Type 0} (life : Option ℕ) (past : List Stamped) (confirmation : 
   }
 
   -- what is put is what was raised
-  same_signing : (key : HeldKey) → key.blob ≡ raised.raising.signing.blob → raised.raising.signing ≡ signing_of key confirmation
+  same_signing : (key : HeldKey) → key.blob ≡ raised.raising.signing.blob
+      → raised.raising.signing ≡ signing_of key confirmation
   same_signing key is =
       let s : Signing = raised.raising.signing in
       ap (λ b. let t : Signing = record { blob = b; message = s.message; flags = s.flags } in t) (sym is)
@@ -201,7 +220,10 @@ module _ {N : Type 0} (life : Option ℕ) (past : List Stamped) (confirmation : 
   few_asks : RoomFor left_over None → length state.under_way.link.asks < 256
   few_asks (free room) = room.few
 
-  goes-put : (key : HeldKey) → IsGrantable key port.chain confirmation.addition confirmation.message state.moment.wall state.held → length state.under_way.link.asks < 256 → Goes N life past state (grant_concluded (put_unless None (Signs key (signing_of key confirmation)) confirmation.asker left_over) confirmation state)
+  goes-put : (key : HeldKey)
+      → IsGrantable key port.chain confirmation.addition confirmation.message state.moment.wall state.held
+      → length state.under_way.link.asks < 256
+      → Goes N life past state (grant_concluded (put_unless None (Signs key (signing_of key confirmation)) confirmation.asker left_over) confirmation state)
   goes-put key may room =
       let is = grantable-due life state.moment.mono state.moment.wall (facts_of past) state.held left_over (open_asks past) port.chain confirmation opened.agrees.holds opened.fresh opened.agrees.opens raised.raising raised.addition raised.message raised.flags raised.blob key may room in
       record {
@@ -216,9 +238,12 @@ module _ {N : Type 0} (life : Option ℕ) (past : List Stamped) (confirmation : 
         moment = refl;
       }
 
-  pub goes-granted : {work : Work} → IsGranted port.chain confirmation state.moment.wall state.held left_over work → Goes N life past state (grant_concluded work confirmation state)
+  pub goes-granted : {work : Work}
+      → IsGranted port.chain confirmation state.moment.wall state.held left_over work
+      → Goes N life past state (grant_concluded work confirmation state)
   goes-granted (disallowed never) =
       goes-refused NoLongerAllowed (λ n. never-due life state.moment.mono state.moment.wall (facts_of past) state.held left_over (open_asks past) port.chain confirmation opened.agrees.holds opened.fresh opened.agrees.opens raised.raising raised.addition raised.message raised.flags raised.blob never)
   goes-granted (unasked cause key may fault) =
       goes-refused cause (full-not life state.moment.mono state.moment.wall (facts_of past) state.held left_over (open_asks past) port.chain confirmation opened.agrees.holds opened.fresh opened.agrees.opens raised.raising raised.addition raised.message raised.flags raised.blob opened.left opened.jobs key may (subst (RoomFor left_over) fault (room-of left_over)))
-  goes-granted (allowed key may unspent) = goes-put key may (few_asks (subst (RoomFor left_over) unspent (room-of left_over)))
+  goes-granted (allowed key may unspent) =
+      goes-put key may (few_asks (subst (RoomFor left_over) unspent (room-of left_over)))

@@ -31,18 +31,24 @@ use Rattle.agent_laws.proofs.StepLemmas.{Agrees, Goes, Opened}
 -- the past tells what a state holds, what its connections are bound to, and nothing of ports that haven't joined
 pub record Tells (N : Type 0) (life : Option ℕ) (past : List Stamped) (state : State) : Type 0 where
   pub agrees : Agrees N life state.moment.mono past state.held state.under_way.link.asks state.under_way.confirmations
-  pub chains : (number : ℕ) (port : Port) → find_port number state.ports ≡ Some port → proved_of number past ≡ port.chain
+  pub chains : (number : ℕ) (port : Port) → find_port number state.ports ≡ Some port
+      → proved_of number past ≡ port.chain
   pub unborn : (number : ℕ) → state.last_port < number → proved_of number past ≡ []
 
 -- what is proved behind the past
-proved-onto : (number : ℕ) (moment : Moment) (past : List Stamped) (actions : List Action) → proved_of number (onto past (stamps moment actions)) ≡ bound_after number actions (proved_of number past)
+proved-onto : (number : ℕ) (moment : Moment) (past : List Stamped) (actions : List Action)
+    → proved_of number (onto past (stamps moment actions)) ≡ bound_after number actions (proved_of number past)
 proved-onto number moment past [] = refl
-proved-onto number moment past (action ∷ later) = proved-onto number moment (stamp moment action ∷ past) later
+proved-onto number moment past (action ∷ later) =
+    proved-onto number moment (stamp moment action ∷ past) later
 
 -- ---- a moment, and an event behind it
 
 -- both go, one after the other
-goes-in_turn : {N : Type 0} (life : Option ℕ) (past : List Stamped) (state : State) (some more : Outcome) → Goes N life past state some → Goes N life (onto past (stamps state.moment some.actions)) some.state more → Goes N life past state (behind some more)
+goes-in_turn : {N : Type 0} (life : Option ℕ) (past : List Stamped) (state : State) (some more : Outcome)
+    → Goes N life past state some
+    → Goes N life (onto past (stamps state.moment some.actions)) some.state more
+    → Goes N life past state (behind some more)
 goes-in_turn {N = N} life past state some more one two = record {
   lawful = lawful-more N life state.moment past some.actions more.actions one.lawful
       (subst (λ m. LawfulIf N life (onto past (stamps state.moment some.actions)) (stamps m more.actions)) one.moment two.lawful);
@@ -58,9 +64,12 @@ record Left (N : Type 0) (life : Option ℕ) (past : List Stamped) (old : State)
 
 -- behind any past
 abbrev Leaves : Type 0 → Option ℕ → State → Outcome → Type 0
-Leaves N life old outcome = (past : List Stamped) → Opened N life past old → Left N life past old outcome
+Leaves N life old outcome =
+    (past : List Stamped) → Opened N life past old → Left N life past old outcome
 
-leaves-in_turn : {N : Type 0} (life : Option ℕ) (state : State) (some more : Outcome) → Leaves N life state some → Leaves N life some.state more → Leaves N life state (behind some more)
+leaves-in_turn : {N : Type 0} (life : Option ℕ) (state : State) (some more : Outcome)
+    → Leaves N life state some → Leaves N life some.state more
+    → Leaves N life state (behind some more)
 leaves-in_turn {N = N} life state some more first then past opened =
     let one = first past opened in
     let two = then (onto past (stamps state.moment some.actions)) one.opened in
@@ -72,7 +81,8 @@ leaves-in_turn {N = N} life state some more first then past opened =
           two.opened;
     }
 
-leaves-moment : {N : Type 0} (life : Option ℕ) (moment : Moment) (state : State) → IsTied state → IsJudged state → Leaves N life (taken_in moment state) (time_passes moment state)
+leaves-moment : {N : Type 0} (life : Option ℕ) (moment : Moment) (state : State) → IsTied state
+    → IsJudged state → Leaves N life (taken_in moment state) (time_passes moment state)
 leaves-moment {N = N} life moment state tied judged =
     judged-brings (Leaves N life) moment state tied judged
     (λ s past opened. record { goes = record { lawful = opened.agrees.idle; agrees = opened.agrees; moment = refl }; opened = opened })
@@ -121,7 +131,8 @@ module _ {N : Type 0} (life : Option ℕ) (past : List Stamped) (state : State) 
   is_opened = (passed past is_taken).opened
 
   goes-joined : (door : Door) → Goes N life past_then opened (join door opened)
-  goes-joined door = record { lawful = is_opened.agrees.idle; agrees = is_opened.agrees; moment = refl }
+  goes-joined door =
+      record { lawful = is_opened.agrees.idle; agrees = is_opened.agrees; moment = refl }
 
   goes : Goes N life past taken after
   goes =
@@ -136,18 +147,21 @@ module _ {N : Type 0} (life : Option ℕ) (past : List Stamped) (state : State) 
   adds number = (step-judged state moment event tied judged).adds number
 
   -- a port that is open afterwards was, or is new
-  chain_then : (number : ℕ) (port : Port) → find_port number after.state.ports ≡ Some port → proved_of number told_then ≡ port.chain
+  chain_then : (number : ℕ) (port : Port) → find_port number after.state.ports ≡ Some port
+      → proved_of number told_then ≡ port.chain
   chain_then number port found =
       proved-onto number taken.moment past after.actions ∙ ap (bound_after number after.actions) (by_found (find_port number state.ports) refl) ∙ sym ((adds number).bound port found)
     where
-      by_found : (was : Option Port) → find_port number state.ports ≡ was → proved_of number past ≡ chain_of was
+      by_found : (was : Option Port) → find_port number state.ports ≡ was
+          → proved_of number past ≡ chain_of was
       by_found (Some before) is = tells.chains number before is
       by_found None is = tells.unborn number (above is)
         where
           above : find_port number state.ports ≡ None → state.last_port < number
           above none = by_test (nat_lt state.last_port number) refl
             where
-              by_test : (over : Bool) → nat_lt state.last_port number ≡ over → state.last_port < number
+              by_test : (over : Bool) → nat_lt state.last_port number ≡ over
+                  → state.last_port < number
               by_test true test = grind (arith, nat_tests)
               by_test false test =
                   let under : number ≤ state.last_port = grind (arith, nat_tests) in
@@ -175,7 +189,9 @@ module _ {N : Type 0} (life : Option ℕ) (past : List Stamped) (state : State) 
 
 -- ---- runs
 
-run-lawful : {N : Type 0} (life : Option ℕ) (past : List Stamped) (state : State) (events : List Timed) → IsTied state → IsJudged state → Tells N life past state → (N → HasNumbers (run state events)) → LawfulIf N life past (history state events)
+run-lawful : {N : Type 0} (life : Option ℕ) (past : List Stamped) (state : State) (events : List Timed)
+    → IsTied state → IsJudged state → Tells N life past state → (N → HasNumbers (run state events))
+    → LawfulIf N life past (history state events)
 run-lawful life past state [] tied judged tells numbers = tells.agrees.idle
 run-lawful {N = N} life past state (timed ∷ later) tied judged tells numbers =
     lawful-append N life past (stamped after) (history after.state later) (step-lawful life past state timed.moment timed.event tied judged tells now)
@@ -190,7 +206,9 @@ run-lawful {N = N} life past state (timed ∷ later) tied judged tells numbers =
         let grown = run-grows state (timed ∷ later) in
         record { asks = omega (arith, grown.asks, (numbers n).asks); jobs = omega (arith, grown.jobs, (numbers n).jobs) }
 
-first-if : (N : Type 0) (settings : Settings) (events : List Timed) → (N → HasNumbers (run (first_state settings) events)) → LawfulIf N settings.life [] (history (first_state settings) events)
+first-if : (N : Type 0) (settings : Settings) (events : List Timed)
+    → (N → HasNumbers (run (first_state settings) events))
+    → LawfulIf N settings.life [] (history (first_state settings) events)
 first-if N settings events numbers =
     run-lawful settings.life [] (first_state settings) events (first-tied settings) (first-judged settings)
     record {
@@ -200,11 +218,14 @@ first-if N settings events numbers =
     } numbers
 
 -- where numbers are left, and in any case
-pub first-lawful : (settings : Settings) (events : List Timed) → HasNumbers (run (first_state settings) events) → IsLawful settings.life [] (history (first_state settings) events)
+pub first-lawful : (settings : Settings) (events : List Timed)
+    → HasNumbers (run (first_state settings) events)
+    → IsLawful settings.life [] (history (first_state settings) events)
 first-lawful settings events numbers =
     lawful-if settings.life [] (history (first_state settings) events) numbers
     (first-if (HasNumbers (run (first_state settings) events)) settings events (λ n. n))
 
-pub first-only : (settings : Settings) (events : List Timed) → ArePutWhereDue settings.life [] (history (first_state settings) events)
+pub first-only : (settings : Settings) (events : List Timed)
+    → ArePutWhereDue settings.life [] (history (first_state settings) events)
 first-only settings events =
     only-if ⊥ settings.life [] (history (first_state settings) events) (first-if ⊥ settings events (λ n. absurd n))

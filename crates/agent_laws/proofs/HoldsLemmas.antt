@@ -37,7 +37,8 @@ facts_after done second facts = record {
 -- behind these actions
 abbrev pub facts_then : List Action → ℕ → Facts → Facts
 facts_then [] second facts = facts
-facts_then (action ∷ later) second facts = facts_then later second (facts_after (done_of action) second facts)
+facts_then (action ∷ later) second facts =
+    facts_then later second (facts_after (done_of action) second facts)
 
 -- how many of its uses are left
 abbrev pub uses_left : Option ℕ → ℕ → Option ℕ
@@ -55,7 +56,8 @@ pub record Made (life : Option ℕ) (held : Option PastAddition) (key : HeldKey)
   pub now : held ≡ Some past
   pub is : key_of life past ≡ key
 
-pub made_of : (life : Option ℕ) (held : Option PastAddition) (key : HeldKey) → Some key ≡ option_map (key_of life) held → Made life held key
+pub made_of : (life : Option ℕ) (held : Option PastAddition) (key : HeldKey)
+    → Some key ≡ option_map (key_of life) held → Made life held key
 made_of life None key some = absurd (cc)
 made_of life (Some past) key some =
     let same_key : key ≡ key_of life past = cc in
@@ -68,26 +70,32 @@ pub record Holds (life : Option ℕ) (second : ℕ) (facts : Facts) (held : KeyS
   pub default : held.table.life ≡ life
   pub own : HaveOwnBlobs held.table.identities
   pub numbers : HaveOwnNumbers held.table.last held.table.identities
-  pub found : (blob : List ℕ) (later : ℕ) → second ≤ later → if_alive later (find_identity blob held.table.identities) ≡ option_map (key_of life) (held_by (facts.last blob) life later)
+  pub found : (blob : List ℕ) (later : ℕ) → second ≤ later
+      → if_alive later (find_identity blob held.table.identities) ≡ option_map (key_of life) (held_by (facts.last blob) life later)
 
 -- ---- time passes
 
 -- what is alive later is alive now
-lives_before : (earlier later : ℕ) (death : Option ℕ) → earlier ≤ later → lives_at later death ≡ true → lives_at earlier death ≡ true
+lives_before : (earlier later : ℕ) (death : Option ℕ) → earlier ≤ later
+    → lives_at later death ≡ true → lives_at earlier death ≡ true
 lives_before earlier later None before lives = refl
 lives_before earlier later (Some death) before lives = grind (arith, nat_tests)
 
-alive_twice : (earlier later : ℕ) (found : Option HeldKey) → earlier ≤ later → if_alive later (if_alive earlier found) ≡ if_alive later found
+alive_twice : (earlier later : ℕ) (found : Option HeldKey) → earlier ≤ later
+    → if_alive later (if_alive earlier found) ≡ if_alive later found
 alive_twice earlier later None before = refl
 alive_twice earlier later (Some key) before = by_tests (lives_at earlier key.death) (lives_at later key.death) refl refl
   where
-    by_tests : (now then_on : Bool) → lives_at earlier key.death ≡ now → lives_at later key.death ≡ then_on → if_alive later (cond now (Some key) None) ≡ cond then_on (Some key) None
+    by_tests : (now then_on : Bool) → lives_at earlier key.death ≡ now
+        → lives_at later key.death ≡ then_on
+        → if_alive later (cond now (Some key) None) ≡ cond then_on (Some key) None
     by_tests true then_on is then_is = ap (λ b. cond b (Some key) None) then_is
     by_tests false true is then_is = let lives : lives_at earlier key.death ≡ true = lives_before earlier later key.death before then_is in absurd (cc)
     by_tests false false is then_is = refl
 
 -- identities whose lifetime has run out leave
-pub holds-expired : (life : Option ℕ) (old new : ℕ) (facts : Facts) (held : KeyState) → old ≤ new → Holds life old facts held → Holds life new facts (expired new held)
+pub holds-expired : (life : Option ℕ) (old new : ℕ) (facts : Facts) (held : KeyState) → old ≤ new
+    → Holds life old facts held → Holds life new facts (expired new held)
 holds-expired life old new facts held before holds = record {
   locked = holds.locked;
   count = holds.count;
@@ -101,7 +109,8 @@ holds-expired life old new facts held before holds = record {
 }
 
 -- those that are left are alive
-pub fresh-expired : (new : ℕ) (held : KeyState) (blob : List ℕ) → HaveOwnBlobs held.table.identities → if_alive new (find_identity blob (alive_at new held.table.identities)) ≡ find_identity blob (alive_at new held.table.identities)
+pub fresh-expired : (new : ℕ) (held : KeyState) (blob : List ℕ) → HaveOwnBlobs held.table.identities
+    → if_alive new (find_identity blob (alive_at new held.table.identities)) ≡ find_identity blob (alive_at new held.table.identities)
 fresh-expired new held blob own =
     ap (if_alive new) (find-alive blob new held.table.identities own)
     ∙ alive_twice new new (find_identity blob held.table.identities) (omega arith)
@@ -132,20 +141,24 @@ holds-first life = record { locked = refl; count = refl; default = refl; own = o
 -- a number that was given finds what it found, or nothing
 pub record NumbersKept (old new : KeyState) : Type 0 where
   pub last : old.table.last ≤ new.table.last
-  pub found : (number : ℕ) (key : HeldKey) → number ≤ old.table.last → find_number number new.table.identities ≡ Some key → WasHeld number old.table.identities key
+  pub found : (number : ℕ) (key : HeldKey) → number ≤ old.table.last
+      → find_number number new.table.identities ≡ Some key → WasHeld number old.table.identities key
 
 pub same_numbers : (old new : KeyState) → new.table ≡ old.table → NumbersKept old new
 same_numbers old new same = record { last = rw same (omega arith); found = λ number key within found. was_held number old.table.identities key (sym (ap (λ (t : TableState). find_number number t.identities) same) ∙ found) }
 
-pub of_alive : (second : ℕ) (found : Option HeldKey) (key : HeldKey) → if_alive second found ≡ Some key → found ≡ Some key
+pub of_alive : (second : ℕ) (found : Option HeldKey) (key : HeldKey)
+    → if_alive second found ≡ Some key → found ≡ Some key
 of_alive second None key is = absurd (cc)
 of_alive second (Some first) key is = grind (arith, nat_tests)
 
-pub of_unless : (blob : List ℕ) (found : Option HeldKey) (key : HeldKey) → unless_blob blob found ≡ Some key → found ≡ Some key
+pub of_unless : (blob : List ℕ) (found : Option HeldKey) (key : HeldKey)
+    → unless_blob blob found ≡ Some key → found ≡ Some key
 of_unless blob None key is = absurd (cc)
 of_unless blob (Some first) key is = grind (arith, nat_tests)
 
-pub numbers-expired : (life : Option ℕ) (old new : ℕ) (facts : Facts) (held : KeyState) → Holds life old facts held → NumbersKept held (expired new held)
+pub numbers-expired : (life : Option ℕ) (old new : ℕ) (facts : Facts) (held : KeyState)
+    → Holds life old facts held → NumbersKept held (expired new held)
 numbers-expired life old new facts held holds = record {
   last = omega arith;
   found = λ number key within found.
@@ -153,7 +166,9 @@ numbers-expired life old new facts held holds = record {
 }
 
 -- a use keeps them
-pub numbers-used : (addition : ℕ) (held : KeyState) → HaveOwnNumbers held.table.last held.table.identities → NumbersKept held (after_use (Some addition) held)
+pub numbers-used : (addition : ℕ) (held : KeyState)
+    → HaveOwnNumbers held.table.last held.table.identities
+    → NumbersKept held (after_use (Some addition) held)
 numbers-used addition held own = record {
   last = omega arith;
   found = λ number key within found. was_held-used addition number held.table.last held.table.identities key own found;
@@ -170,7 +185,8 @@ has_new None some = refl
 has_new (Some uses) some = grind (arith, nat_tests, some)
 
 -- after one more use fewer are left
-has_less : (uses : Option ℕ) (used : ℕ) → has_uses uses used ≡ false → has_uses uses (used + 1) ≡ false
+has_less : (uses : Option ℕ) (used : ℕ) → has_uses uses used ≡ false
+    → has_uses uses (used + 1) ≡ false
 has_less None used none = absurd (cc)
 has_less (Some uses) used none = grind (arith, nat_tests, none)
 
@@ -183,11 +199,13 @@ and_false true = refl
 and_false false = refl
 
 -- what is left of an identity that was used so often, and of which some is left
-left-used : (base : HeldKey) (uses : Option ℕ) (times : ℕ) → has_uses uses times ≡ true → used_by (uses_left uses times) (record base { uses = uses_left uses times }) ≡ cond (has_uses uses (times + 1)) (Some (record base { uses = uses_left uses (times + 1) })) None
+left-used : (base : HeldKey) (uses : Option ℕ) (times : ℕ) → has_uses uses times ≡ true
+    → used_by (uses_left uses times) (record base { uses = uses_left uses times }) ≡ cond (has_uses uses (times + 1)) (Some (record base { uses = uses_left uses (times + 1) })) None
 left-used base None times has = refl
 left-used base (Some uses) times has = by_more (nat_lt (times + 1) uses) refl
   where
-    by_more : (more : Bool) → nat_lt (times + 1) uses ≡ more → cond (uses - times - 1 == 0) None (Some (record base { uses = Some (uses - times - 1) })) ≡ cond more (Some (record base { uses = Some (uses - (times + 1)) })) None
+    by_more : (more : Bool) → nat_lt (times + 1) uses ≡ more
+        → cond (uses - times - 1 == 0) None (Some (record base { uses = Some (uses - times - 1) })) ≡ cond more (Some (record base { uses = Some (uses - (times + 1)) })) None
     by_more true is =
         let some : (uses - times - 1 == 0) ≡ false = grind (arith, nat_tests, is) in
         let fewer : uses - times - 1 ≡ uses - (times + 1) = omega arith in
@@ -207,11 +225,14 @@ module _ (life : Option ℕ) (later : ℕ) where
           ap (λ (k : HeldKey). cond (lives_at later k.death) (Some after) None) (only_uses key.uses key after is) ∙ ap (λ b. cond b (Some after) None) dead
 
   -- what isn't held isn't after one more use
-  gone_again : (last : Option PastAddition) → held_by last life later ≡ None → held_by (option_map used_again last) life later ≡ None
+  gone_again : (last : Option PastAddition) → held_by last life later ≡ None
+      → held_by (option_map used_again last) life later ≡ None
   gone_again None gone = refl
   gone_again (Some past) gone = by_tests (is_alive life later past) (has_uses past.addition.terms.uses past.uses) refl gone
     where
-      by_tests : (alive has : Bool) → has_uses past.addition.terms.uses past.uses ≡ has → cond (alive && has) (Some past) None ≡ None → cond (alive && has_uses past.addition.terms.uses (past.uses + 1)) (Some (used_again past)) None ≡ None
+      by_tests : (alive has : Bool) → has_uses past.addition.terms.uses past.uses ≡ has
+          → cond (alive && has) (Some past) None ≡ None
+          → cond (alive && has_uses past.addition.terms.uses (past.uses + 1)) (Some (used_again past)) None ≡ None
       by_tests false has is none = refl
       by_tests true true is none = absurd (cc)
       by_tests true false is none = ap (λ b. cond b (Some (used_again past)) None) (has_less past.addition.terms.uses past.uses is)
@@ -224,11 +245,15 @@ module _ (life : Option ℕ) (later : ℕ) where
     pub has : has_uses past.addition.terms.uses past.uses ≡ true
     pub same : key_of life past ≡ key
 
-  made_by : (last : Option PastAddition) (key : HeldKey) → Some key ≡ option_map (key_of life) (held_by last life later) → MadeBy last key
+  made_by : (last : Option PastAddition) (key : HeldKey)
+      → Some key ≡ option_map (key_of life) (held_by last life later) → MadeBy last key
   made_by None key is = absurd (cc)
   made_by (Some past) key is = by_tests (is_alive life later past) (has_uses past.addition.terms.uses past.uses) refl refl is
     where
-      by_tests : (alive has : Bool) → is_alive life later past ≡ alive → has_uses past.addition.terms.uses past.uses ≡ has → Some key ≡ option_map (key_of life) (cond (alive && has) (Some past) None) → MadeBy (Some past) key
+      by_tests : (alive has : Bool) → is_alive life later past ≡ alive
+          → has_uses past.addition.terms.uses past.uses ≡ has
+          → Some key ≡ option_map (key_of life) (cond (alive && has) (Some past) None)
+          → MadeBy (Some past) key
       by_tests true true alive has some =
           let e : key ≡ key_of life past = cc in
           record { past = past; is = refl; alive = alive; has = has; same = sym e }
@@ -236,7 +261,9 @@ module _ (life : Option ℕ) (later : ℕ) where
       by_tests false has alive is_has some = absurd (cc)
 
   -- what is held after one more use is told by the past
-  told_again : (past : PastAddition) → is_alive life later past ≡ true → has_uses past.addition.terms.uses past.uses ≡ true → if_alive later (used (key_of life past)) ≡ option_map (key_of life) (held_by (Some (used_again past)) life later)
+  told_again : (past : PastAddition) → is_alive life later past ≡ true
+      → has_uses past.addition.terms.uses past.uses ≡ true
+      → if_alive later (used (key_of life past)) ≡ option_map (key_of life) (held_by (Some (used_again past)) life later)
   told_again past alive has =
       let base : HeldKey = identity_of past.number past.addition.key past.addition.comment (death_of past.second past.addition.terms.life life) past.addition.terms in
       ap (if_alive later) (left-used base past.addition.terms.uses past.uses has) ∙ by_more (has_uses past.addition.terms.uses (past.uses + 1))
@@ -244,20 +271,25 @@ module _ (life : Option ℕ) (later : ℕ) where
       next : PastAddition
       next = used_again past
 
-      by_more : (more : Bool) → if_alive later (cond more (Some (key_of life next)) None) ≡ option_map (key_of life) (cond (is_alive life later past && more) (Some next) None)
+      by_more : (more : Bool)
+          → if_alive later (cond more (Some (key_of life next)) None) ≡ option_map (key_of life) (cond (is_alive life later past && more) (Some next) None)
       by_more true =
           ap (λ b. cond b (Some (key_of life next)) None) alive
           ∙ ap (λ b. option_map (key_of life) (cond (b && true) (Some next) None)) (sym alive)
       by_more false = ap (λ b. option_map (key_of life) (cond b (Some next) None)) (sym (and_false (is_alive life later past)))
 
-  used-told : (key : HeldKey) (last : Option PastAddition) → if_alive later (Some key) ≡ option_map (key_of life) (held_by last life later) → if_alive later (used key) ≡ option_map (key_of life) (held_by (option_map used_again last) life later)
+  used-told : (key : HeldKey) (last : Option PastAddition)
+      → if_alive later (Some key) ≡ option_map (key_of life) (held_by last life later)
+      → if_alive later (used key) ≡ option_map (key_of life) (held_by (option_map used_again last) life later)
   used-told key last told = by_life (lives_at later key.death) refl told
     where
       none_held : (now : Option PastAddition) → None ≡ option_map (key_of life) now → now ≡ None
       none_held None is = refl
       none_held (Some past) is = absurd (cc)
 
-      by_life : (lives : Bool) → lives_at later key.death ≡ lives → cond lives (Some key) None ≡ option_map (key_of life) (held_by last life later) → if_alive later (used key) ≡ option_map (key_of life) (held_by (option_map used_again last) life later)
+      by_life : (lives : Bool) → lives_at later key.death ≡ lives
+          → cond lives (Some key) None ≡ option_map (key_of life) (held_by last life later)
+          → if_alive later (used key) ≡ option_map (key_of life) (held_by (option_map used_again last) life later)
       by_life false dead none =
           dead_used key dead ∙ ap (option_map (key_of life)) (sym (gone_again last (none_held (held_by last life later) none)))
       by_life true lives some =
@@ -267,7 +299,9 @@ module _ (life : Option ℕ) (later : ℕ) where
           ∙ ap (λ one. option_map (key_of life) (held_by (option_map used_again one) life later)) (sym made.is)
 
 -- what is used is what was found by its blob
-pub used-holds : (life : Option ℕ) (second : ℕ) (facts : Facts) (held : KeyState) (blob : List ℕ) (key : HeldKey) → find_identity blob held.table.identities ≡ Some key → Holds life second facts held → Holds life second (facts_after (DidUse blob) second facts) (after_use (Some key.number) held)
+pub used-holds : (life : Option ℕ) (second : ℕ) (facts : Facts) (held : KeyState) (blob : List ℕ) (key : HeldKey)
+    → find_identity blob held.table.identities ≡ Some key → Holds life second facts held
+    → Holds life second (facts_after (DidUse blob) second facts) (after_use (Some key.number) held)
 used-holds life second facts held blob key found holds = record {
   locked = holds.locked;
   count = holds.count;
@@ -281,7 +315,9 @@ used-holds life second facts held blob key found holds = record {
       ∙ by_test other later after (bytes_eq blob other) refl;
 }
   where
-    by_test : (other : List ℕ) (later : ℕ) → second ≤ later → (same : Bool) → bytes_eq blob other ≡ same → if_alive later (cond same (used key) (find_identity other held.table.identities)) ≡ option_map (key_of life) (held_by (cond same (option_map used_again (facts.last other)) (facts.last other)) life later)
+    by_test : (other : List ℕ) (later : ℕ) → second ≤ later → (same : Bool)
+        → bytes_eq blob other ≡ same
+        → if_alive later (cond same (used key) (find_identity other held.table.identities)) ≡ option_map (key_of life) (held_by (cond same (option_map used_again (facts.last other)) (facts.last other)) life later)
     by_test other later after true same =
         let equal : blob ≡ other = (bytes_eq-Decides blob other).0 same in
         used-told life later key (facts.last other)

@@ -19,7 +19,8 @@ use Rattle.agent_laws.proofs.ConsequenceLemmas.{put-permitted}
 abbrev grounds_for : Constraint → List ℕ → ℕ → Grounds
 grounds_for rule user wall = record { rules = rule ∷ []; user = Some user; wall = wall }
 
-no_place : (place : Option ℕ) (login : Login) (first : Binding) (later : List Binding) → denial_of_place place login first later ≡ None → place ≡ None
+no_place : (place : Option ℕ) (login : Login) (first : Binding) (later : List Binding)
+    → denial_of_place place login first later ≡ None → place ≡ None
 no_place None login first later is = refl
 no_place (Some place) login first later is = absurd (cc)
 
@@ -29,14 +30,19 @@ pub record IsLogin (rule : Constraint) (blob message : List ℕ) (wall : ℕ) (f
   pub names : auth_of message blob ≡ Ok login
   pub good : bad_place (grounds_for rule login.user wall) first later ≡ None
 
-by_auth : (rule : Constraint) (blob message : List ℕ) (wall : ℕ) (first : Binding) (later : List Binding) (auth : Result Login AuthFault) → auth_of message blob ≡ auth → denial_of_login auth (rule ∷ []) wall first later ≡ None → IsLogin rule blob message wall first later
+by_auth : (rule : Constraint) (blob message : List ℕ) (wall : ℕ) (first : Binding) (later : List Binding) (auth : Result Login AuthFault)
+    → auth_of message blob ≡ auth → denial_of_login auth (rule ∷ []) wall first later ≡ None
+    → IsLogin rule blob message wall first later
 by_auth rule blob message wall first later (Err fault) is none = absurd (cc)
 by_auth rule blob message wall first later (Ok login) is none =
     record { login = login; names = is; good = no_place (bad_place (grounds_for rule login.user wall) first later) login first later none }
 
-is_login : (rule : Constraint) (blob message : List ℕ) (wall : ℕ) (first : Binding) (later : List Binding) → denial (rule ∷ []) blob (first ∷ later) message wall ≡ None → IsLogin rule blob message wall first later
+is_login : (rule : Constraint) (blob message : List ℕ) (wall : ℕ) (first : Binding) (later : List Binding)
+    → denial (rule ∷ []) blob (first ∷ later) message wall ≡ None
+    → IsLogin rule blob message wall first later
 unfolding denial
-is_login rule blob message wall first later none = by_auth rule blob message wall first later (auth_of message blob) refl none
+is_login rule blob message wall first later none =
+    by_auth rule blob message wall first later (auth_of message blob) refl none
 
 -- the one constraint has the host key
 middle_of : (a b c : Bool) → ((a && b && c) || false) ≡ true → b ≡ true
@@ -44,8 +50,11 @@ middle_of true true c is = refl
 middle_of true false c is = absurd (cc)
 middle_of false b c is = absurd (cc)
 
-one_host : (rule : Constraint) (chain : List Binding) (signing : Signing) (wall : ℕ) → rule.from.keys ≡ [] → denial (rule ∷ []) signing.blob chain signing.message wall ≡ None → IsLoginTo rule chain signing wall
-one_host rule [] signing wall keys none = absurd (unbound_is_denied (rule ∷ []) signing.blob signing.message wall none)
+one_host : (rule : Constraint) (chain : List Binding) (signing : Signing) (wall : ℕ)
+    → rule.from.keys ≡ [] → denial (rule ∷ []) signing.blob chain signing.message wall ≡ None
+    → IsLoginTo rule chain signing wall
+one_host rule [] signing wall keys none =
+    absurd (unbound_is_denied (rule ∷ []) signing.blob signing.message wall none)
 one_host rule (first ∷ []) signing wall keys none =
     let is = is_login rule signing.blob signing.message wall first [] none in
     record {
@@ -61,7 +70,12 @@ one_host rule (first ∷ next ∷ later) signing wall keys none =
     let is = is_login rule signing.blob signing.message wall first (next ∷ later) none in
     absurd (origin_alone rule (Some is.login.user) wall first next later keys is.good)
 
-pub put-to_host : (before rest : List Stamped) (newest : Stamped) (port : ℕ) (signing : Signing) (settings : Settings) (events : List Timed) (past : PastAddition) (rule : Constraint) → HasNumbers (run (first_state settings) events) → IsPutBehind before port signing settings events → onto [] before ≡ newest ∷ rest → last_addition signing.blob (onto [] before) ≡ Some past → past.addition.terms.rules ≡ rule ∷ [] → rule.from.keys ≡ [] → IsLoginTo rule (proved_of port (onto [] before)) signing newest.moment.wall
+pub put-to_host : (before rest : List Stamped) (newest : Stamped) (port : ℕ) (signing : Signing) (settings : Settings) (events : List Timed) (past : PastAddition) (rule : Constraint)
+    → HasNumbers (run (first_state settings) events)
+    → IsPutBehind before port signing settings events → onto [] before ≡ newest ∷ rest
+    → last_addition signing.blob (onto [] before) ≡ Some past
+    → past.addition.terms.rules ≡ rule ∷ [] → rule.from.keys ≡ []
+    → IsLoginTo rule (proved_of port (onto [] before)) signing newest.moment.wall
 put-to_host before rest newest port signing settings events past rule numbers put is last rules keys =
     one_host rule (proved_of port (onto [] before)) signing newest.moment.wall keys
     (ap (λ all. denial_under all signing.blob (proved_of port (onto [] before)) signing.message newest.moment.wall) (sym rules)

@@ -33,7 +33,8 @@ use Rattle.agent_model.proofs.ServeLemmas.{Serves, adds, confirms, denies, empti
 pub record KeysKept (old new : TableState) : Type 0 where
   pub own : HaveOwnParts new
   pub last : old.last ≤ new.last
-  pub found : (number : ℕ) (key : HeldKey) → number ≤ old.last → find_number number new.identities ≡ Some key → WasHeld number old.identities key
+  pub found : (number : ℕ) (key : HeldKey) → number ≤ old.last
+      → find_number number new.identities ≡ Some key → WasHeld number old.identities key
 
 kept-same : (table : TableState) → HaveOwnParts table → KeysKept table table
 kept-same table own = record { own = own; last = omega arith; found = λ number key within is. was_held number table.identities key is }
@@ -48,7 +49,8 @@ kept-in_turn one two = record {
       record { was = before.was; found = before.found; used = used_in_turn before.used later.used };
 }
 
-pub kept-alive : (second : ℕ) (table : TableState) → HaveOwnParts table → KeysKept table (record table { identities = alive_at second table.identities; greatest = second })
+pub kept-alive : (second : ℕ) (table : TableState) → HaveOwnParts table
+    → KeysKept table (record table { identities = alive_at second table.identities; greatest = second })
 kept-alive second table own = record {
   own = record { blobs = own_blobs-alive second table.identities own.blobs; numbers = own_numbers-alive table.last second table.identities own.numbers };
   last = omega arith;
@@ -56,7 +58,8 @@ kept-alive second table own = record {
       was_held number table.identities key (of_alive second (find_number number table.identities) key (sym (find_number-alive number table.last second table.identities own.numbers) ∙ is));
 }
 
-pub kept-removed : (blob : List ℕ) (table : TableState) → HaveOwnParts table → KeysKept table (record table { identities = remove_identity blob table.identities })
+pub kept-removed : (blob : List ℕ) (table : TableState) → HaveOwnParts table
+    → KeysKept table (record table { identities = remove_identity blob table.identities })
 kept-removed blob table own = record {
   own = record { blobs = own_blobs-remove blob table.identities own.blobs; numbers = own_numbers-remove table.last blob table.identities own.numbers };
   last = omega arith;
@@ -65,7 +68,8 @@ kept-removed blob table own = record {
 }
 
 -- all leave
-own_none : (last greatest : ℕ) (life : Option ℕ) → HaveOwnParts (record { identities = []; greatest = greatest; last = last; life = life })
+own_none : (last greatest : ℕ) (life : Option ℕ)
+    → HaveOwnParts (record { identities = []; greatest = greatest; last = last; life = life })
 unfolding HaveOwnBlobs HaveOwnNumbers
 own_none last greatest life = record { blobs = tt; numbers = tt }
 
@@ -77,7 +81,8 @@ kept-emptied table = record {
 }
 
 -- one comes, under the next number
-pub kept-added : (addition : Addition) (now : ℕ) (table : TableState) → HaveOwnParts table → KeysKept table (with_addition addition now table)
+pub kept-added : (addition : Addition) (now : ℕ) (table : TableState) → HaveOwnParts table
+    → KeysKept table (with_addition addition now table)
 kept-added addition now table own =
     let new : HeldKey = new_identity table addition.key addition.terms addition.comment now in
     record {
@@ -87,12 +92,18 @@ kept-added addition now table own =
           was_held number table.identities key (by_test new number key within (eqb new.number number) refl refl (sym (find_number-put number table.last new table.identities own.blobs own.numbers refl) ∙ is));
     }
   where
-    by_test : (new : HeldKey) (number : ℕ) (key : HeldKey) → number ≤ table.last → (same : Bool) → new.number ≡ table.last + 1 → eqb new.number number ≡ same → cond same (Some new) (unless_blob new.blob (find_number number table.identities)) ≡ Some key → find_number number table.identities ≡ Some key
-    by_test new number key within true is equal some = absurd (omega (arith, is, eqb-true new.number number equal, within))
-    by_test new number key within false is equal some = of_unless new.blob (find_number number table.identities) key some
+    by_test : (new : HeldKey) (number : ℕ) (key : HeldKey) → number ≤ table.last → (same : Bool)
+        → new.number ≡ table.last + 1 → eqb new.number number ≡ same
+        → cond same (Some new) (unless_blob new.blob (find_number number table.identities)) ≡ Some key
+        → find_number number table.identities ≡ Some key
+    by_test new number key within true is equal some =
+        absurd (omega (arith, is, eqb-true new.number number equal, within))
+    by_test new number key within false is equal some =
+        of_unless new.blob (find_number number table.identities) key some
 
 -- one is used
-pub kept-used : (used : Option ℕ) (held : KeyState) → HaveOwnParts held.table → KeysKept held.table (after_use used held).table
+pub kept-used : (used : Option ℕ) (held : KeyState) → HaveOwnParts held.table
+    → KeysKept held.table (after_use used held).table
 kept-used None held own = kept-same held.table own
 kept-used (Some addition) held own = record {
   own = record { blobs = own_blobs-used addition held.table.identities own.blobs; numbers = own_numbers-used addition held.table.last held.table.identities own.numbers };
@@ -102,21 +113,26 @@ kept-used (Some addition) held own = record {
 
 -- ---- requests
 
-kept-served : {read : Result ClientRequest MsgFault} {asker : Asker} {held : KeyState} {under_way : UnderWay} {served : Served} → HaveOwnParts held.table → Serves read asker held under_way served → KeysKept held.table served.held.table
+kept-served : {read : Result ClientRequest MsgFault} {asker : Asker} {held : KeyState} {under_way : UnderWay} {served : Served}
+    → HaveOwnParts held.table → Serves read asker held under_way served
+    → KeysKept held.table served.held.table
 kept-served {held = held} own (denies cause) = kept-same held.table own
 kept-served {held = held} own (lists identities is) = kept-same held.table own
-kept-served {asker = asker} {held = held} own (adds addition is) = kept-added addition asker.mono held.table own
+kept-served {asker = asker} {held = held} own (adds addition is) =
+    kept-added addition asker.mono held.table own
 kept-served {held = held} own (removes blob is) = kept-removed blob held.table own
 kept-served {held = held} own (empties is) = kept-emptied held.table
 kept-served {held = held} own (locks passphrase is) = kept-same held.table own
 kept-served {held = held} own (unlocks passphrase is) = kept-same held.table own
-kept-served {held = held} own (signs signing key is found asks free) = kept-used (Some key.number) held own
+kept-served {held = held} own (signs signing key is found asks free) =
+    kept-used (Some key.number) held own
 kept-served {held = held} own (confirms signing key is found free) = kept-same held.table own
 kept-served {held = held} own (verifies bind is_new is stands free) = kept-same held.table own
 
 -- ---- events
 
-kept-makes : {event : Happening} {old : State} {outcome : Outcome} → Makes event old outcome → HaveOwnParts old.held.table → KeysKept old.held.table outcome.state.held.table
+kept-makes : {event : Happening} {old : State} {outcome : Outcome} → Makes event old outcome
+    → HaveOwnParts old.held.table → KeysKept old.held.table outcome.state.held.table
 kept-makes (stays state) own = kept-same state.held.table own
 kept-makes (first (alters number f change) rest) own = kept-makes rest own
 kept-makes (first (closes number may) rest) own = kept-makes rest own
@@ -127,28 +143,35 @@ kept-makes (serves body_len port state found door waits owed its) own =
     kept-served own (serves-any (agent_request_of (front_body body_len port.heard)) (asker_at state.moment port) state.held state.under_way)
 kept-makes (tells piece state) own = kept-fault (telling piece state.under_way.link).fault _ own
   where
-    kept-fault : (fault : Option LinkFault) (mid : State) → HaveOwnParts mid.held.table → KeysKept mid.held.table (lose_if fault mid).state.held.table
+    kept-fault : (fault : Option LinkFault) (mid : State) → HaveOwnParts mid.held.table
+        → KeysKept mid.held.table (lose_if fault mid).state.held.table
     kept-fault None mid own_mid = kept-same mid.held.table own_mid
     kept-fault (Some fault) mid own_mid = kept-same mid.held.table own_mid
 kept-makes (loses state) own = kept-same state.held.table own
 kept-makes (overs confirmation state there) own = kept-same state.held.table own
-kept-makes (grants confirmation port state there opened) own = kept-used (grant_work port.chain confirmation state).used state.held own
+kept-makes (grants confirmation port state there opened) own =
+    kept-used (grant_work port.chain confirmation state).used state.held own
 
 -- as the moment is taken in
-pub kept-taken : (moment : Moment) (state : State) → HaveOwnParts state.held.table → KeysKept state.held.table (taken_in moment state).held.table
+pub kept-taken : (moment : Moment) (state : State) → HaveOwnParts state.held.table
+    → KeysKept state.held.table (taken_in moment state).held.table
 kept-taken moment state own = kept-alive (max state.moment.mono moment.mono) state.held.table own
 
-pub kept-opened : (moment : Moment) (state : State) → HaveOwnParts state.held.table → KeysKept state.held.table (at_moment moment state).held.table
+pub kept-opened : (moment : Moment) (state : State) → HaveOwnParts state.held.table
+    → KeysKept state.held.table (at_moment moment state).held.table
 kept-opened moment state own =
     at_moment-keeps (λ s. KeysKept state.held.table s.held.table) moment state (λ s kept. kept) (λ one s there kept. kept)
     (kept-taken moment state own)
 
 -- by what the event makes
-pub kept-event : (event : Happening) (state : State) → HaveOwnParts state.held.table → KeysKept state.held.table (handle event state).state.held.table
+pub kept-event : (event : Happening) (state : State) → HaveOwnParts state.held.table
+    → KeysKept state.held.table (handle event state).state.held.table
 kept-event event state own =
     by_event (λ outcome. KeysKept state.held.table outcome.state.held.table) event state (λ door. kept-same state.held.table own) (λ outcome makes. kept-makes makes own)
 
-pub step-kept : (state : State) (moment : Moment) (event : Happening) → HaveOwnParts state.held.table → KeysKept state.held.table (step state moment event).state.held.table
+pub step-kept : (state : State) (moment : Moment) (event : Happening)
+    → HaveOwnParts state.held.table
+    → KeysKept state.held.table (step state moment event).state.held.table
 step-kept state moment event own =
     let opened = kept-opened moment state own in
     let left = kept-event event (at_moment moment state) opened.own in
@@ -156,7 +179,8 @@ step-kept state moment event own =
 
 -- ---- runs
 
-pub run-kept : (state : State) (events : List Timed) → HaveOwnParts state.held.table → KeysKept state.held.table (run state events).held.table
+pub run-kept : (state : State) (events : List Timed) → HaveOwnParts state.held.table
+    → KeysKept state.held.table (run state events).held.table
 run-kept state [] own = kept-same state.held.table own
 run-kept state (timed ∷ later) own =
     let now = step-kept state timed.moment timed.event own in
@@ -166,10 +190,12 @@ pub first-own : (settings : Settings) → HaveOwnParts (first_state settings).he
 first-own settings = own_none 0 0 settings.life
 
 -- a number that finds nothing never will
-pub never_again : (number : ℕ) (old new : TableState) → KeysKept old new → number ≤ old.last → find_number number old.identities ≡ None → find_number number new.identities ≡ None
+pub never_again : (number : ℕ) (old new : TableState) → KeysKept old new → number ≤ old.last
+    → find_number number old.identities ≡ None → find_number number new.identities ≡ None
 never_again number old new kept within none = by_found (find_number number new.identities) refl
   where
-    by_found : (found : Option HeldKey) → find_number number new.identities ≡ found → find_number number new.identities ≡ None
+    by_found : (found : Option HeldKey) → find_number number new.identities ≡ found
+        → find_number number new.identities ≡ None
     by_found None is = is
     by_found (Some key) is =
         let was = kept.found number key within is in

@@ -32,7 +32,8 @@ use Rattle.agent_laws.proofs.PastLemmas.{LawfulIf, lawful-append, onto-append, s
 use Rattle.agent_laws.proofs.StepLemmas.{Agrees, Goes, Opened, calm-quiet, numbers_of, opened-quiet, served-agrees, served-lawful}
 
 -- the numbers of the asks that are left
-numbers-removed : (number : ℕ) (pending : List Ask) → without_number number (numbers_of pending) ≡ numbers_of (remove_ask number pending)
+numbers-removed : (number : ℕ) (pending : List Ask)
+    → without_number number (numbers_of pending) ≡ numbers_of (remove_ask number pending)
 numbers-removed number [] = refl
 numbers-removed number (one ∷ pending) =
     let rest = numbers-removed number pending in
@@ -44,7 +45,10 @@ agrees-more {N = N} life moment past some more held pending confirmations agrees
     subst (λ whole. Agrees N life moment.mono whole held pending confirmations)
     (sym (ap (onto past) (stamps-append moment some more) ∙ onto-append past (stamps moment some) (stamps moment more))) agrees
 
-pub lawful-more : (N : Type 0) (life : Option ℕ) (moment : Moment) (past : List Stamped) (some more : List Action) → LawfulIf N life past (stamps moment some) → LawfulIf N life (onto past (stamps moment some)) (stamps moment more) → LawfulIf N life past (stamps moment (some ++ more))
+pub lawful-more : (N : Type 0) (life : Option ℕ) (moment : Moment) (past : List Stamped) (some more : List Action)
+    → LawfulIf N life past (stamps moment some)
+    → LawfulIf N life (onto past (stamps moment some)) (stamps moment more)
+    → LawfulIf N life past (stamps moment (some ++ more))
 lawful-more N life moment past some more first_is later_is =
     subst (LawfulIf N life past) (sym (stamps-append moment some more)) (lawful-append N life past (stamps moment some) (stamps moment more) first_is later_is)
 
@@ -61,7 +65,8 @@ module _ {N : Type 0} (life : Option ℕ) (moment : Moment) (held : KeyState) (o
     idle = λ n. refl;
   }
 
-  proved-agrees : (found : Option Port) (verification : Verification) → Agrees N life moment.mono (onto past (stamps moment (Answered one ∷ proved_where_open found verification))) held (remove_ask one.ask pending) confirmations
+  proved-agrees : (found : Option Port) (verification : Verification)
+      → Agrees N life moment.mono (onto past (stamps moment (Answered one ∷ proved_where_open found verification))) held (remove_ask one.ask pending) confirmations
   proved-agrees None verification = answered-agrees
   proved-agrees (Some port) verification = record {
     holds = record { locked = holds.locked; count = holds.count; default = holds.default; own = holds.own; numbers = holds.numbers; found = holds.found };
@@ -70,7 +75,8 @@ module _ {N : Type 0} (life : Option ℕ) (moment : Moment) (held : KeyState) (o
     idle = λ n. refl;
   }
 
-  proved-lawful : (found : Option Port) (verification : Verification) → LawfulIf N life past (stamps moment (Answered one ∷ proved_where_open found verification))
+  proved-lawful : (found : Option Port) (verification : Verification)
+      → LawfulIf N life past (stamps moment (Answered one ∷ proved_where_open found verification))
   proved-lawful None verification = (agrees.idle, λ n. refl)
   proved-lawful (Some port) verification = (agrees.idle, (λ n. refl, λ n. refl))
 
@@ -89,7 +95,9 @@ pub record Told (N : Type 0) (life : Option ℕ) (moment : Moment) (held : KeySt
   pub agrees : Agrees N life moment.mono (onto past (stamps moment answering.actions)) held pending confirmations
 
 module _ {N : Type 0} (life : Option ℕ) (moment : Moment) (held : KeyState) (past : List Stamped) (confirmations : List Confirmation) where
-  told-is : (one : Settled) (before : Answering) (pending : List Ask) {after : Answering} → AnswerIs one before after → Told N life moment held past before pending confirmations → Told N life moment held past after (remove_ask one.ask pending) confirmations
+  told-is : (one : Settled) (before : Answering) (pending : List Ask) {after : Answering}
+      → AnswerIs one before after → Told N life moment held past before pending confirmations
+      → Told N life moment held past after (remove_ask one.ask pending) confirmations
   told-is one before pending (told_so verdict) told = record {
     lawful = lawful-more N life moment past before.actions (Answered one ∷ []) told.lawful (told.agrees.idle, λ n. refl);
     agrees = agrees-more life moment past before.actions (Answered one ∷ []) held (remove_ask one.ask pending) confirmations (answered-agrees life moment held one (onto past (stamps moment before.actions)) pending confirmations told.agrees);
@@ -101,8 +109,11 @@ module _ {N : Type 0} (life : Option ℕ) (moment : Moment) (held : KeyState) (p
         agrees = agrees-more life moment past before.actions (Answered one ∷ proved_where_open found verification) held (remove_ask one.ask pending) confirmations (proved-agrees life moment held one (onto past (stamps moment before.actions)) pending confirmations told.agrees found verification);
       }
 
-  told-all : (settled : List Settled) (before : Answering) (pending left : List Ask) → LeadTo settled pending left → Told N life moment held past before pending confirmations → Told N life moment held past (answer_all settled before) left confirmations
-  told-all [] before pending left leads told = subst (λ all. Told N life moment held past before all confirmations) (sym leads) told
+  told-all : (settled : List Settled) (before : Answering) (pending left : List Ask)
+      → LeadTo settled pending left → Told N life moment held past before pending confirmations
+      → Told N life moment held past (answer_all settled before) left confirmations
+  told-all [] before pending left leads told =
+      subst (λ all. Told N life moment held past before all confirmations) (sym leads) told
   told-all (one ∷ later) before pending left leads told =
       told-all later (answer_by one.answer one before) (remove_ask one.ask pending) left leads.1 (told-is one before pending (answer_is one.answer one before) told)
 
@@ -112,7 +123,8 @@ module _ {N : Type 0} (life : Option ℕ) (past : List Stamped) (piece : List �
   read = telling piece state.under_way.link
 
   abbrev before : Answering
-  before = record { ports = state.ports; verifications = state.under_way.verifications; actions = [] }
+  before =
+      record { ports = state.ports; verifications = state.under_way.verifications; actions = [] }
 
   abbrev after : Answering
   after = answer_all read.settled before
@@ -124,7 +136,8 @@ module _ {N : Type 0} (life : Option ℕ) (past : List Stamped) (piece : List �
   nobody : Settled
   nobody = record { ask = 0; asker = 0; answer = answer.Refused }
 
-  goes-fault : (fault : Option LinkFault) → Goes N life past state (and_then (acted after.actions (with_answers read.link after state)) (lose_if fault))
+  goes-fault : (fault : Option LinkFault)
+      → Goes N life past state (and_then (acted after.actions (with_answers read.link after state)) (lose_if fault))
   goes-fault None = record {
     lawful = lawful-more N life state.moment past after.actions [] told.lawful told.agrees.idle;
     agrees = agrees-more life state.moment past after.actions [] state.held read.link.asks state.under_way.confirmations told.agrees;
@@ -145,13 +158,16 @@ module _ {N : Type 0} (life : Option ℕ) (past : List Stamped) (piece : List �
 
 -- ---- events
 
-pub goes-makes : {N : Type 0} {event : Happening} {old : State} {outcome : Outcome} (life : Option ℕ) (past : List Stamped) → Makes event old outcome → IsTied old → Opened N life past old → Goes N life past old outcome
-goes-makes life past (stays state) tied opened = record { lawful = opened.agrees.idle; agrees = opened.agrees; moment = refl }
+pub goes-makes : {N : Type 0} {event : Happening} {old : State} {outcome : Outcome} (life : Option ℕ) (past : List Stamped)
+    → Makes event old outcome → IsTied old → Opened N life past old → Goes N life past old outcome
+goes-makes life past (stays state) tied opened =
+    record { lawful = opened.agrees.idle; agrees = opened.agrees; moment = refl }
 goes-makes {N = N} {old = old} life past (first {mid = mid} {outcome = outcome} quiet rest) tied opened =
     let calm = calm-quiet quiet in
     let later = goes-makes life past rest (tied-quiet quiet tied) (opened-quiet life past old mid calm (keeps-quiet quiet tied.rising) opened) in
     record {
-      lawful = subst (λ m. LawfulIf N life past (stamps m outcome.actions)) calm.moment later.lawful;
+      lawful =
+          subst (λ m. LawfulIf N life past (stamps m outcome.actions)) calm.moment later.lawful;
       agrees = subst (λ m. Agrees N life m.mono (onto past (stamps m outcome.actions)) outcome.state.held outcome.state.under_way.link.asks outcome.state.under_way.confirmations) calm.moment later.agrees;
       moment = later.moment ∙ calm.moment;
     }
@@ -160,7 +176,8 @@ goes-makes life past (serves body_len port state found door nothing owed own) ti
   agrees = served-agrees life past body_len port state found tied.raised.order opened;
   moment = refl;
 }
-goes-makes life past (tells piece state) tied opened = goes-fault life past piece state opened (telling piece state.under_way.link).fault
+goes-makes life past (tells piece state) tied opened =
+    goes-fault life past piece state opened (telling piece state.under_way.link).fault
 goes-makes life past (loses state) tied opened = nobody_lost life past [] state opened
 goes-makes life past (overs confirmation state there) tied opened = record {
   lawful = (opened.agrees.idle, λ n. refl);

@@ -13,13 +13,16 @@ stamp moment action = record { moment = moment; action = action }
 abbrev pub stamps : Moment → List Action → List Stamped
 stamps moment actions = map (stamp moment) actions
 
-pub onto-append : (past some more : List Stamped) → onto past (some ++ more) ≡ onto (onto past some) more
+pub onto-append : (past some more : List Stamped)
+    → onto past (some ++ more) ≡ onto (onto past some) more
 onto-append past [] more = refl
 onto-append past (one ∷ some) more = onto-append (one ∷ past) some more
 
-pub stamps-append : (moment : Moment) (some more : List Action) → stamps moment (some ++ more) ≡ stamps moment some ++ stamps moment more
+pub stamps-append : (moment : Moment) (some more : List Action)
+    → stamps moment (some ++ more) ≡ stamps moment some ++ stamps moment more
 stamps-append moment [] more = refl
-stamps-append moment (action ∷ some) more = ap (λ later. stamp moment action ∷ later) (stamps-append moment some more)
+stamps-append moment (action ∷ some) more =
+    ap (λ later. stamp moment action ∷ later) (stamps-append moment some more)
 
 -- ---- what is lawful where this holds, and what is put where it is due in any case
 
@@ -81,11 +84,15 @@ only-if N life past (one ∷ some) lawful =
 
 -- ---- more of it
 
-pub lawful-append : (N : Type 0) (life : Option ℕ) (past some more : List Stamped) → LawfulIf N life past some → LawfulIf N life (onto past some) more → LawfulIf N life past (some ++ more)
+pub lawful-append : (N : Type 0) (life : Option ℕ) (past some more : List Stamped)
+    → LawfulIf N life past some → LawfulIf N life (onto past some) more
+    → LawfulIf N life past (some ++ more)
 lawful-append N life past [] more first later = later
-lawful-append N life past (one ∷ some) more first later = (first.0, lawful-append N life (one ∷ past) some more first.1 later)
+lawful-append N life past (one ∷ some) more first later =
+    (first.0, lawful-append N life (one ∷ past) some more first.1 later)
 
 -- nothing is due behind lawful actions
-pub nothing_due : {N : Type 0} (life : Option ℕ) (past some : List Stamped) → LawfulIf N life past some → N → due_signing life (onto past some) ≡ None
+pub nothing_due : {N : Type 0} (life : Option ℕ) (past some : List Stamped)
+    → LawfulIf N life past some → N → due_signing life (onto past some) ≡ None
 nothing_due life past [] lawful = lawful
 nothing_due life past (one ∷ some) lawful = nothing_due life (one ∷ past) some lawful.1

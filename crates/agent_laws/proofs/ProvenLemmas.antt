@@ -51,14 +51,17 @@ use Rattle.agent_laws.specs.Proven.{AnswerTheirAsks, AnswersItsAsk, IsRightAnswe
 
 -- ---- actions behind actions
 
-answer-append : (past some more : List Action) → AnswerTheirAsks past some → AnswerTheirAsks (past ++ some) more → AnswerTheirAsks past (some ++ more)
+answer-append : (past some more : List Action) → AnswerTheirAsks past some
+    → AnswerTheirAsks (past ++ some) more → AnswerTheirAsks past (some ++ more)
 answer-append past [] more none later = subst (λ p. AnswerTheirAsks p more) (append-nil past) later
 answer-append past (one ∷ some) more both later =
     (both.0, answer-append (past ++ one ∷ []) some more both.1 (subst (λ p. AnswerTheirAsks p more) (sym (append_assoc past (one ∷ []) some)) later))
 
 -- the action behind others
-pub answer-at : (past some : List Action) (action : Action) (more : List Action) → AnswerTheirAsks past (some ++ action ∷ more) → AnswersItsAsk (past ++ some) action
-answer-at past [] action more all = subst (λ p. AnswersItsAsk p action) (sym (append-nil past)) all.0
+pub answer-at : (past some : List Action) (action : Action) (more : List Action)
+    → AnswerTheirAsks past (some ++ action ∷ more) → AnswersItsAsk (past ++ some) action
+answer-at past [] action more all =
+    subst (λ p. AnswersItsAsk p action) (sym (append-nil past)) all.0
 answer-at past (one ∷ some) action more all =
     subst (λ p. AnswersItsAsk p action) (append_assoc past (one ∷ []) some) (answer-at (past ++ one ∷ []) some action more all.1)
 
@@ -66,27 +69,33 @@ answer-at past (one ∷ some) action more all =
 
 -- the ask of this number was put by this client for this binding
 abbrev WasAsked : List Action → ℕ → ℕ → Binding → Type 0
-WasAsked past ask asker binding = IsAmong (Asked (record { ask = ask; port = asker; purpose = ForBinding binding })) past
+WasAsked past ask asker binding =
+    IsAmong (Asked (record { ask = ask; port = asker; purpose = ForBinding binding })) past
 
 -- each verification that is unanswered was asked for
 abbrev pub WereAsked : List Action → List Verification → List Ask → Type 0
 WereAsked past verifications asks = (ask : ℕ) (what : Ask) (one : Verification) → find_verification ask verifications ≡ Some one
     → find_ask ask asks ≡ Some what → WasAsked past ask what.asker one.binding
 
-asked-more : (past more : List Action) (verifications : List Verification) (asks : List Ask) → WereAsked past verifications asks → WereAsked (past ++ more) verifications asks
-asked-more past more verifications asks were ask what one noted there = among-front _ past more (were ask what one noted there)
+asked-more : (past more : List Action) (verifications : List Verification) (asks : List Ask)
+    → WereAsked past verifications asks → WereAsked (past ++ more) verifications asks
+asked-more past more verifications asks were ask what one noted there =
+    among-front _ past more (were ask what one noted there)
 
 -- one more ask is put, with an action that tells it
 module _ (errand : Errand) (asker last : ℕ) where
   -- what is noted of it has its number and its binding
-  of_new : (errand : Errand) (ask : ℕ) (one : Verification) → find_verification ask (noted_verification errand (last + 1)) ≡ Some one → (ask ≡ last + 1) × (purpose_of errand ≡ ForBinding one.binding)
+  of_new : (errand : Errand) (ask : ℕ) (one : Verification)
+      → find_verification ask (noted_verification errand (last + 1)) ≡ Some one
+      → (ask ≡ last + 1) × (purpose_of errand ≡ ForBinding one.binding)
   of_new (Signs key signing) ask one is = absurd (cc)
   of_new (Verifies bind is_new) ask one is = by_test (last + 1 == ask) refl is
     where
       new_one : Verification
       new_one = record { ask = last + 1; binding = binding_of bind; is_new = is_new }
 
-      by_test : (same : Bool) → (last + 1 == ask) ≡ same → cond same (Some new_one) None ≡ Some one → (ask ≡ last + 1) × (ForBinding (binding_of bind) ≡ ForBinding one.binding)
+      by_test : (same : Bool) → (last + 1 == ask) ≡ same → cond same (Some new_one) None ≡ Some one
+          → (ask ≡ last + 1) × (ForBinding (binding_of bind) ≡ ForBinding one.binding)
       by_test true test some =
           let numbered : ask ≡ last + 1 = grind (arith, nat_tests) in
           let this : new_one ≡ one = cc in
@@ -100,20 +109,29 @@ module _ (errand : Errand) (asker last : ℕ) where
     abbrev noted : List Verification
     noted = noted_verification errand (last + 1)
 
-    pushed : (ask : ℕ) → find_ask ask (asks ++ new ∷ []) ≡ cond (last + 1 == ask) (Some new) (find_ask ask asks)
+    pushed : (ask : ℕ)
+        → find_ask ask (asks ++ new ∷ []) ≡ cond (last + 1 == ask) (Some new) (find_ask ask asks)
     pushed ask = find-push ask 0 new asks last rise (omega arith)
 
-    split : (ask : ℕ) (one : Verification) → find_verification ask (verifications ++ noted) ≡ Some one → (find_verification ask verifications ≡ Some one) ⊎ ((ask ≡ last + 1) × (purpose_of errand ≡ ForBinding one.binding))
+    split : (ask : ℕ) (one : Verification)
+        → find_verification ask (verifications ++ noted) ≡ Some one
+        → (find_verification ask verifications ≡ Some one) ⊎ ((ask ≡ last + 1) × (purpose_of errand ≡ ForBinding one.binding))
     split ask one is = by_found (find_verification ask verifications) refl (sym (find_verification-append ask verifications noted) ∙ is)
       where
-        by_found : (was : Option Verification) → find_verification ask verifications ≡ was → option_or was (find_verification ask noted) ≡ Some one → (find_verification ask verifications ≡ Some one) ⊎ ((ask ≡ last + 1) × (purpose_of errand ≡ ForBinding one.binding))
+        by_found : (was : Option Verification) → find_verification ask verifications ≡ was
+            → option_or was (find_verification ask noted) ≡ Some one
+            → (find_verification ask verifications ≡ Some one) ⊎ ((ask ≡ last + 1) × (purpose_of errand ≡ ForBinding one.binding))
         by_found None was some = inr (of_new errand ask one some)
         by_found (Some first_one) was some = inl (was ∙ some)
 
-    pub asked-put : (more : List Action) → IsAmong (Asked (asking_of errand asker (last + 1))) more → WereAsked (past ++ more) (verifications ++ noted) (asks ++ new ∷ [])
+    pub asked-put : (more : List Action) → IsAmong (Asked (asking_of errand asker (last + 1))) more
+        → WereAsked (past ++ more) (verifications ++ noted) (asks ++ new ∷ [])
     asked-put more told ask what one noted_one there = by_test (last + 1 == ask) refl (sym (pushed ask) ∙ there) (split ask one noted_one)
       where
-        by_test : (same : Bool) → (last + 1 == ask) ≡ same → cond same (Some new) (find_ask ask asks) ≡ Some what → (find_verification ask verifications ≡ Some one) ⊎ ((ask ≡ last + 1) × (purpose_of errand ≡ ForBinding one.binding)) → WasAsked (past ++ more) ask what.asker one.binding
+        by_test : (same : Bool) → (last + 1 == ask) ≡ same
+            → cond same (Some new) (find_ask ask asks) ≡ Some what
+            → (find_verification ask verifications ≡ Some one) ⊎ ((ask ≡ last + 1) × (purpose_of errand ≡ ForBinding one.binding))
+            → WasAsked (past ++ more) ask what.asker one.binding
         by_test true test is (inl noted_before) =
             let numbered : last + 1 ≡ ask = grind (arith, nat_tests) in
             absurd (omega (arith, numbered, given ask one noted_before))
@@ -125,7 +143,8 @@ module _ (errand : Errand) (asker last : ℕ) where
             ∙ ap (λ n. Asked (record { ask = ask; port = n; purpose = purpose_of errand })) who
             ∙ ap (λ (p : Purpose). Asked (record { ask = ask; port = what.asker; purpose = p })) by.1 in
             among-back _ past more (subst (λ (a : Action). IsAmong a more) action told)
-        by_test false test is (inl noted_before) = among-front _ past more (were ask what one noted_before is)
+        by_test false test is (inl noted_before) =
+            among-front _ past more (were ask what one noted_before is)
         by_test false test is (inr by) =
             let equal : (last + 1 == ask) ≡ true = grind (arith, nat_tests, by.0) in
             absurd (cc)
@@ -140,14 +159,16 @@ record HoldsSo (past : List Action) (last : ℕ) (answering : Answering) (asks :
 
 module _ (past : List Action) (last : ℕ) (one : Settled) (before : Answering) (asks : List Ask) (kind : AskKind) (put_at : ℕ) (found : find_ask one.ask asks ≡ Some (ask_of one.ask one.asker kind put_at)) (holds : HoldsSo past last before asks) where
   -- the others were asked for
-  others : (more : List Action) → WereAsked (past ++ (before.actions ++ more)) (remove_verification one.ask before.verifications) (remove_ask one.ask asks)
+  others : (more : List Action)
+      → WereAsked (past ++ (before.actions ++ more)) (remove_verification one.ask before.verifications) (remove_ask one.ask asks)
   others more ask what verification noted there =
       let left = left_asks 0 last asks holds.rise one.ask ask what there in
       let was = holds.were ask what verification (sym (find_verification-apart ask one.ask before.verifications left.0) ∙ noted) left.1 in
       subst (λ (all : List Action). WasAsked all ask what.asker verification.binding) (append_assoc past before.actions more)
       (among-front _ (past ++ before.actions) more was)
 
-  holds-told : (verdict : Verdict) → HoldsSo past last (answer_asker verdict one before) (remove_ask one.ask asks)
+  holds-told : (verdict : Verdict)
+      → HoldsSo past last (answer_asker verdict one before) (remove_ask one.ask asks)
   holds-told verdict = record {
     rise = remove_rises one.ask 0 asks last holds.rise;
     right = answer-append past before.actions (Answered one ∷ []) holds.right (tt, tt);
@@ -155,7 +176,8 @@ module _ (past : List Action) (last : ℕ) (one : Settled) (before : Answering) 
   }
 
   module _ (right : one.answer ≡ answer.True) (verification : Verification) (noted : find_verification one.ask before.verifications ≡ Some verification) where
-    proves-right : (opened : Option Port) → find_port one.asker before.ports ≡ opened → AnswerTheirAsks (past ++ before.actions) (Answered one ∷ proved_where_open opened verification)
+    proves-right : (opened : Option Port) → find_port one.asker before.ports ≡ opened
+        → AnswerTheirAsks (past ++ before.actions) (Answered one ∷ proved_where_open opened verification)
     proves-right None is = (tt, tt)
     proves-right (Some port) is =
         let was = holds.were one.ask (ask_of one.ask one.asker kind put_at) verification noted found in
@@ -182,18 +204,24 @@ module _ (past : List Action) (last : ℕ) (one : Settled) (before : Answering) 
           were = others (Answered one ∷ proved_where_open opened verification);
         }
 
-  holds-true : one.answer ≡ answer.True → (noted : Option Verification) → find_verification one.ask before.verifications ≡ noted → HoldsSo past last (answer_true noted one before) (remove_ask one.ask asks)
+  holds-true : one.answer ≡ answer.True → (noted : Option Verification)
+      → find_verification one.ask before.verifications ≡ noted
+      → HoldsSo past last (answer_true noted one before) (remove_ask one.ask asks)
   holds-true right None is = holds-told (Replies Success)
   holds-true right (Some verification) is = holds-proved right verification is
 
-  holds-answer : (what : Answer) → one.answer ≡ what → HoldsSo past last (answer_by what one before) (remove_ask one.ask asks)
+  holds-answer : (what : Answer) → one.answer ≡ what
+      → HoldsSo past last (answer_by what one before) (remove_ask one.ask asks)
   holds-answer (answer.Signed signature) is = holds-told (Replies (Signature signature))
   holds-answer answer.Refused is = holds-told (Refuses HelperRefused)
   holds-answer answer.True is = holds-true is (find_verification one.ask before.verifications) refl
   holds-answer answer.False is = holds-told (Refuses SignatureWrong)
 
-holds-answers : (past : List Action) (last : ℕ) (settled : List Settled) (before : Answering) (asks left : List Ask) → LeadTo settled asks left → HoldsSo past last before asks → HoldsSo past last (answer_all settled before) left
-holds-answers past last [] before asks left leads holds = subst (HoldsSo past last before) (sym leads) holds
+holds-answers : (past : List Action) (last : ℕ) (settled : List Settled) (before : Answering) (asks left : List Ask)
+    → LeadTo settled asks left → HoldsSo past last before asks
+    → HoldsSo past last (answer_all settled before) left
+holds-answers past last [] before asks left leads holds =
+    subst (HoldsSo past last before) (sym leads) holds
 holds-answers past last (one ∷ later) before asks left leads holds =
     holds-answers past last later (answer_by one.answer one before) (remove_ask one.ask asks) left leads.1
     (holds-answer past last one before asks (kind_answered one.answer) leads.0.put_at leads.0.found holds one.answer refl)
@@ -210,7 +238,8 @@ module _ (past : List Action) (piece : List ℕ) (state : State) (tied : IsTied 
   read = telling piece state.under_way.link
 
   abbrev start : Answering
-  start = record { ports = state.ports; verifications = state.under_way.verifications; actions = [] }
+  start =
+      record { ports = state.ports; verifications = state.under_way.verifications; actions = [] }
 
   abbrev after : Answering
   after = answer_all read.settled start
@@ -224,7 +253,8 @@ module _ (past : List Action) (piece : List ℕ) (state : State) (tied : IsTied 
         were = subst (λ p. WereAsked p state.under_way.verifications state.under_way.link.asks) (sym (append-nil past)) were;
       }
 
-  proves-fault : (fault : Option LinkFault) → Proves past (and_then (acted after.actions (with_answers read.link after state)) (lose_if fault))
+  proves-fault : (fault : Option LinkFault)
+      → Proves past (and_then (acted after.actions (with_answers read.link after state)) (lose_if fault))
   proves-fault None = record {
     right = subst (AnswerTheirAsks past) (sym (append-nil after.actions)) held.right;
     were = subst (λ all. WereAsked (past ++ all) after.verifications read.link.asks) (sym (append-nil after.actions)) held.were;
@@ -236,7 +266,9 @@ module _ (past : List Action) (piece : List ℕ) (state : State) (tied : IsTied 
 
 -- a request proves nothing, and tells the ask that it puts
 module _ (past : List Action) (body : List ℕ) (port : Port) (state changed_state : State) (tied : IsTied state) (given : AreGiven state.under_way.verifications state.under_way.link.last) (were : WereAsked past state.under_way.verifications state.under_way.link.asks) where
-  proves-served : {served : Served} → IsServed (asker_at state.moment port) state.held state.under_way served → Proves past (concluded port.number body served changed_state)
+  proves-served : {served : Served}
+      → IsServed (asker_at state.moment port) state.held state.under_way served
+      → Proves past (concluded port.number body served changed_state)
   proves-served (answered reply kept going) = record { right = (tt, tt); were = asked-more past _ state.under_way.verifications state.under_way.link.asks were }
   proves-served (refused cause) = record { right = (tt, tt); were = asked-more past _ state.under_way.verifications state.under_way.link.asks were }
   proves-served (asked errand free right) = record {
@@ -246,7 +278,9 @@ module _ (past : List Action) (body : List ℕ) (port : Port) (state changed_sta
   proves-served (raised key signing free) = record { right = (tt, (tt, tt)); were = asked-more past _ state.under_way.verifications state.under_way.link.asks were }
 
 module _ (past : List Action) (confirmation : Confirmation) (state : State) (tied : IsTied state) (given : AreGiven state.under_way.verifications state.under_way.link.last) (were : WereAsked past state.under_way.verifications state.under_way.link.asks) (port : Port) where
-  proves-granted : {work : Work} → IsGranted port.chain confirmation state.moment.wall state.held (without_confirmation confirmation.job state.under_way) work → Proves past (grant_concluded work confirmation state)
+  proves-granted : {work : Work}
+      → IsGranted port.chain confirmation state.moment.wall state.held (without_confirmation confirmation.job state.under_way) work
+      → Proves past (grant_concluded work confirmation state)
   proves-granted (disallowed never) = record { right = (tt, tt); were = asked-more past _ state.under_way.verifications state.under_way.link.asks were }
   proves-granted (unasked cause key may fault) = record { right = (tt, tt); were = asked-more past _ state.under_way.verifications state.under_way.link.asks were }
   proves-granted (allowed key may free) = record {
@@ -254,7 +288,10 @@ module _ (past : List Action) (confirmation : Confirmation) (state : State) (tie
     were = asked-put (Signs key (signing_of key confirmation)) confirmation.asker state.under_way.link.last past state.under_way.second state.under_way.link.asks state.under_way.verifications tied.order given were _ (inr (inl refl));
   }
 
-proves-makes : {event : Happening} {old : State} {outcome : Outcome} (past : List Action) → Makes event old outcome → IsTied old → AreGiven old.under_way.verifications old.under_way.link.last → WereAsked past old.under_way.verifications old.under_way.link.asks → Proves past outcome
+proves-makes : {event : Happening} {old : State} {outcome : Outcome} (past : List Action)
+    → Makes event old outcome → IsTied old
+    → AreGiven old.under_way.verifications old.under_way.link.last
+    → WereAsked past old.under_way.verifications old.under_way.link.asks → Proves past outcome
 proves-makes past (stays state) tied given were = record { right = tt; were = asked-more past [] state.under_way.verifications state.under_way.link.asks were }
 proves-makes {old = old} past (first {mid = mid} {outcome = outcome} quiet rest) tied given were =
     let keeps = keeps-quiet quiet tied.rising in
@@ -263,8 +300,10 @@ proves-makes {old = old} past (first {mid = mid} {outcome = outcome} quiet rest)
 proves-makes past (serves body_len port state found door nothing owed own) tied given were =
     let body : List ℕ = front_body body_len port.heard in
     proves-served past body port state (changed port.number (take_frame body_len (attempts state.held.lock body)) state) tied given were (serve-ends (asker_at state.moment port) state.held state.under_way body)
-proves-makes past (tells piece state) tied given were = proves-fault past piece state tied were (telling piece state.under_way.link).fault
-proves-makes past (loses state) tied given were = record { right = (tt, tt); were = λ ask what one noted there. absurd (cc) }
+proves-makes past (tells piece state) tied given were =
+    proves-fault past piece state tied were (telling piece state.under_way.link).fault
+proves-makes past (loses state) tied given were =
+    record { right = (tt, tt); were = λ ask what one noted there. absurd (cc) }
 proves-makes past (overs confirmation state there) tied given were = record { right = (tt, tt); were = asked-more past _ state.under_way.verifications state.under_way.link.asks were }
 proves-makes past (grants confirmation port state there found) tied given were =
     proves-granted past confirmation state tied given were port (grant-ends port.chain confirmation state)
@@ -272,14 +311,17 @@ proves-makes past (grants confirmation port state there found) tied given were =
 -- ---- runs
 
 -- one thing, and then another
-proves-in_turn : (past : List Action) (some more : Outcome) → Proves past some → Proves (past ++ some.actions) more → Proves past (behind some more)
+proves-in_turn : (past : List Action) (some more : Outcome) → Proves past some
+    → Proves (past ++ some.actions) more → Proves past (behind some more)
 proves-in_turn past some more one two = record {
   right = answer-append past some.actions more.actions one.right two.right;
   were = subst (λ all. WereAsked all more.state.under_way.verifications more.state.under_way.link.asks) (append_assoc past some.actions more.actions) two.were;
 }
 
 -- a moment proves nothing
-proves-moment : (moment : Moment) (state : State) → IsTied state → IsJudged state → (past : List Action) → WereAsked past state.under_way.verifications state.under_way.link.asks → Proves past (time_passes moment state)
+proves-moment : (moment : Moment) (state : State) → IsTied state → IsJudged state
+    → (past : List Action) → WereAsked past state.under_way.verifications state.under_way.link.asks
+    → Proves past (time_passes moment state)
 proves-moment moment state tied judged =
     judged-brings (λ s outcome. (past : List Action) → WereAsked past s.under_way.verifications s.under_way.link.asks → Proves past outcome) moment state tied judged
     (λ s past were. record { right = tt; were = asked-more past [] s.under_way.verifications s.under_way.link.asks were })
@@ -287,7 +329,10 @@ proves-moment moment state tied judged =
     (λ one s there at so past were. proves-makes {event = Tick} past (overs one s there) at so.given were)
     (λ s first later one two past were. proves-in_turn past first later (one past were) (two (past ++ first.actions) (one past were).were))
 
-proves-step : (past : List Action) (state : State) (moment : Moment) (event : Happening) → IsTied state → IsJudged state → WereAsked past state.under_way.verifications state.under_way.link.asks → Proves past (step state moment event)
+proves-step : (past : List Action) (state : State) (moment : Moment) (event : Happening)
+    → IsTied state → IsJudged state
+    → WereAsked past state.under_way.verifications state.under_way.link.asks
+    → Proves past (step state moment event)
 proves-step past state moment event tied judged were =
     let opened : State = at_moment moment state in
     let before = proves-moment moment state tied judged past were in
@@ -297,7 +342,9 @@ proves-step past state moment event tied judged were =
     let both = proves-in_turn past (time_passes moment state) (handle event opened) before made in
     record { right = both.right; were = both.were }
 
-run-answers : (past : List Action) (state : State) (events : List Timed) → IsTied state → IsJudged state → WereAsked past state.under_way.verifications state.under_way.link.asks → AnswerTheirAsks past (actions_of state events)
+run-answers : (past : List Action) (state : State) (events : List Timed) → IsTied state
+    → IsJudged state → WereAsked past state.under_way.verifications state.under_way.link.asks
+    → AnswerTheirAsks past (actions_of state events)
 run-answers past state [] tied judged were = tt
 run-answers past state (timed ∷ later) tied judged were =
     let now = proves-step past state timed.moment timed.event tied judged were in
@@ -306,7 +353,9 @@ run-answers past state (timed ∷ later) tied judged were =
     (run-answers (past ++ after_it.actions) after_it.state later (step-fated state timed.moment timed.event tied).tied
     (step-judged state timed.moment timed.event tied judged).judged now.were)
 
-pub first-answers : (settings : Settings) (events : List Timed) (before later : List Action) (proving : Proving) → actions_of (first_state settings) events ≡ before ++ Proved proving ∷ later → IsRightAnswer before proving
+pub first-answers : (settings : Settings) (events : List Timed) (before later : List Action) (proving : Proving)
+    → actions_of (first_state settings) events ≡ before ++ Proved proving ∷ later
+    → IsRightAnswer before proving
 first-answers settings events before later proving is =
     answer-at [] before (Proved proving) later
     (subst (AnswerTheirAsks []) is (run-answers [] (first_state settings) events (first-tied settings) (first-judged settings) (λ ask what one noted there. absurd (cc))))

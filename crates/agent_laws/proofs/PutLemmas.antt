@@ -75,7 +75,8 @@ module _ (read : Result ClientRequest MsgFault) (asker : Asker) (held : KeyState
       absurd (cc)
 
   -- a confirmation is of the key that is held
-  raises-served : (raising : Raising) → {served : Served} → Serves read asker held under_way served →
+  raises-served : (raising : Raising) → {served : Served}
+      → Serves read asker held under_way served →
       IsAmong (Raised raising) served.work.actions →
       (key : HeldKey) × (find_identity raising.signing.blob held.table.identities ≡ Some key)
       × (raising.addition ≡ key.number)
@@ -114,10 +115,12 @@ idle-tells told state = each-tells IsIdle (λ one. tt) (λ proving. tt) tt told 
 -- what an addition that is waited for was, and that no later one takes its number
 pub record IsNamed (waiting : ℕ → Option Raising) (state : State) : Type 0 where
   pub own : HaveOwnParts state.held.table
-  pub named : (job : ℕ) (raising : Raising) → waiting job ≡ Some raising → (raising.addition ≤ state.held.table.last) × ((key : HeldKey) → find_number raising.addition state.held.table.identities ≡ Some key → key.blob ≡ raising.signing.blob)
+  pub named : (job : ℕ) (raising : Raising) → waiting job ≡ Some raising
+      → (raising.addition ≤ state.held.table.last) × ((key : HeldKey) → find_number raising.addition state.held.table.identities ≡ Some key → key.blob ≡ raising.signing.blob)
 
 -- as identities come and go
-named-kept : (waiting : ℕ → Option Raising) (old new : State) → KeysKept old.held.table new.held.table → IsNamed waiting old → IsNamed waiting new
+named-kept : (waiting : ℕ → Option Raising) (old new : State)
+    → KeysKept old.held.table new.held.table → IsNamed waiting old → IsNamed waiting new
 named-kept waiting old new kept named = record {
   own = kept.own;
   named = λ job raising is.
@@ -130,11 +133,14 @@ named-kept waiting old new kept named = record {
 }
 
 -- what is waited for after actions was before, or was raised by them
-pending-cases : (job : ℕ) (actions : List Action) (before : Option Raising) (raising : Raising) → pending_after job actions before ≡ Some raising → (before ≡ Some raising) ⊎ IsAmong (Raised raising) actions
+pending-cases : (job : ℕ) (actions : List Action) (before : Option Raising) (raising : Raising)
+    → pending_after job actions before ≡ Some raising
+    → (before ≡ Some raising) ⊎ IsAmong (Raised raising) actions
 pending-cases job [] before raising is = inl is
 pending-cases job (action ∷ later) before raising is = by_later (pending-cases job later (pending_by job action before) raising is)
   where
-    by_raised : (same : Bool) (one : Raising) → cond same (Some one) before ≡ Some raising → (before ≡ Some raising) ⊎ ((Raised one ≡ Raised raising) ⊎ IsAmong (Raised raising) later)
+    by_raised : (same : Bool) (one : Raising) → cond same (Some one) before ≡ Some raising
+        → (before ≡ Some raising) ⊎ ((Raised one ≡ Raised raising) ⊎ IsAmong (Raised raising) later)
     by_raised true one some = let equal : one ≡ raising = cc in inr (inl (ap Raised equal))
     by_raised false one some = inl some
 
@@ -142,7 +148,8 @@ pending-cases job (action ∷ later) before raising is = by_later (pending-cases
     by_end true some = absurd (cc)
     by_end false some = some
 
-    by_action : (action : Action) → pending_by job action before ≡ Some raising → (before ≡ Some raising) ⊎ ((action ≡ Raised raising) ⊎ IsAmong (Raised raising) later)
+    by_action : (action : Action) → pending_by job action before ≡ Some raising
+        → (before ≡ Some raising) ⊎ ((action ≡ Raised raising) ⊎ IsAmong (Raised raising) later)
     by_action (Requested requesting) some = inl some
     by_action (Asked asking) some = inl some
     by_action (Answered one) some = inl some
@@ -152,12 +159,15 @@ pending-cases job (action ∷ later) before raising is = by_later (pending-cases
     by_action (Over other) some = inl (by_end (other == job) some)
     by_action Lost some = inl some
 
-    by_later : (pending_by job action before ≡ Some raising) ⊎ IsAmong (Raised raising) later → (before ≡ Some raising) ⊎ ((action ≡ Raised raising) ⊎ IsAmong (Raised raising) later)
+    by_later : (pending_by job action before ≡ Some raising) ⊎ IsAmong (Raised raising) later
+        → (before ≡ Some raising) ⊎ ((action ≡ Raised raising) ⊎ IsAmong (Raised raising) later)
     by_later (inl now) = by_action action now
     by_later (inr there) = inr (inr there)
 
 -- what an event raises is of a key that was held
-raised-makes : {event : Happening} {old : State} {outcome : Outcome} (raising : Raising) → Makes event old outcome → IsAmong (Raised raising) outcome.actions → (key : HeldKey) × (find_identity raising.signing.blob old.held.table.identities ≡ Some key) × (raising.addition ≡ key.number)
+raised-makes : {event : Happening} {old : State} {outcome : Outcome} (raising : Raising)
+    → Makes event old outcome → IsAmong (Raised raising) outcome.actions
+    → (key : HeldKey) × (find_identity raising.signing.blob old.held.table.identities ≡ Some key) × (raising.addition ≡ key.number)
 raised-makes raising (stays state) among = absurd among
 raised-makes raising (first (alters number f change) rest) among = raised-makes raising rest among
 raised-makes raising (first (closes number may) rest) among = raised-makes raising rest among
@@ -177,14 +187,18 @@ raised-makes raising (overs confirmation state there) (inr none) = absurd none
 raised-makes raising (grants confirmation port state there opened) (inl same) = absurd (cc)
 raised-makes raising (grants confirmation port state there opened) (inr later) = absurd (by_work (grant-ends port.chain confirmation state) later)
   where
-    by_work : {chain : List Binding} {wall : ℕ} {held : KeyState} {under_way : UnderWay} {work : Work} → IsGranted chain confirmation wall held under_way work → IsAmong (Raised raising) work.actions → ⊥
+    by_work : {chain : List Binding} {wall : ℕ} {held : KeyState} {under_way : UnderWay} {work : Work}
+        → IsGranted chain confirmation wall held under_way work
+        → IsAmong (Raised raising) work.actions → ⊥
     by_work (disallowed never) among = among
     by_work (unasked cause key may fault) among = among
     by_work (allowed key may free) (inl same) = absurd (cc)
     by_work (allowed key may free) (inr none) = none
 
 -- an event keeps it
-named-event : (event : Happening) (waiting : ℕ → Option Raising) (state : State) → IsNamed waiting state → IsNamed (λ job. pending_after job (handle event state).actions (waiting job)) (handle event state).state
+named-event : (event : Happening) (waiting : ℕ → Option Raising) (state : State)
+    → IsNamed waiting state
+    → IsNamed (λ job. pending_after job (handle event state).actions (waiting job)) (handle event state).state
 named-event event waiting state named = by_event (λ outcome. KeysKept state.held.table outcome.state.held.table → IsNamed (λ job. pending_after job outcome.actions (waiting job)) outcome.state) event state
     (λ door kept. named-kept waiting state _ kept named)
     (λ outcome makes kept. record {
@@ -193,8 +207,12 @@ named-event event waiting state named = by_event (λ outcome. KeysKept state.hel
     })
     (kept-event event state named.own)
   where
-    by_case : (outcome : Outcome) → Makes event state outcome → KeysKept state.held.table outcome.state.held.table → (job : ℕ) (raising : Raising) → (waiting job ≡ Some raising) ⊎ IsAmong (Raised raising) outcome.actions → (raising.addition ≤ outcome.state.held.table.last) × ((key : HeldKey) → find_number raising.addition outcome.state.held.table.identities ≡ Some key → key.blob ≡ raising.signing.blob)
-    by_case outcome makes kept job raising (inl was) = (named-kept waiting state outcome.state kept named).named job raising was
+    by_case : (outcome : Outcome) → Makes event state outcome
+        → KeysKept state.held.table outcome.state.held.table → (job : ℕ) (raising : Raising)
+        → (waiting job ≡ Some raising) ⊎ IsAmong (Raised raising) outcome.actions
+        → (raising.addition ≤ outcome.state.held.table.last) × ((key : HeldKey) → find_number raising.addition outcome.state.held.table.identities ≡ Some key → key.blob ≡ raising.signing.blob)
+    by_case outcome makes kept job raising (inl was) =
+        (named-kept waiting state outcome.state kept named).named job raising was
     by_case outcome makes kept job raising (inr there) =
         let key = raised-makes raising makes there in
         let own = number_of_found raising.signing.blob state.held.table.last state.held.table.identities key.0 named.own.numbers key.1 in (
@@ -214,22 +232,28 @@ idle-moment moment state =
 
 -- what is waited for at a moment
 abbrev waits_at : Moment → State → (ℕ → Option Raising) → ℕ → Option Raising
-waits_at moment state waiting job = pending_after job (time_passes moment state).actions (waiting job)
+waits_at moment state waiting job =
+    pending_after job (time_passes moment state).actions (waiting job)
 
 -- it was before
-waited : (moment : Moment) (state : State) (waiting : ℕ → Option Raising) (job : ℕ) (raising : Raising) → waits_at moment state waiting job ≡ Some raising → waiting job ≡ Some raising
+waited : (moment : Moment) (state : State) (waiting : ℕ → Option Raising) (job : ℕ) (raising : Raising)
+    → waits_at moment state waiting job ≡ Some raising → waiting job ≡ Some raising
 waited moment state waiting job raising is = by_case (pending-cases job (time_passes moment state).actions (waiting job) raising is)
   where
-    by_case : (waiting job ≡ Some raising) ⊎ IsAmong (Raised raising) (time_passes moment state).actions → waiting job ≡ Some raising
+    by_case : (waiting job ≡ Some raising) ⊎ IsAmong (Raised raising) (time_passes moment state).actions
+        → waiting job ≡ Some raising
     by_case (inl was) = was
     by_case (inr there) = absurd (among-each IsIdle (Raised raising) (time_passes moment state).actions (λ is. is) (idle-moment moment state) there)
 
-named-moment : (moment : Moment) (state : State) (waiting : ℕ → Option Raising) → IsNamed waiting state → IsNamed (waits_at moment state waiting) (at_moment moment state)
+named-moment : (moment : Moment) (state : State) (waiting : ℕ → Option Raising)
+    → IsNamed waiting state → IsNamed (waits_at moment state waiting) (at_moment moment state)
 named-moment moment state waiting named =
     let kept = named-kept waiting state (at_moment moment state) (kept-opened moment state named.own) named in
     record { own = kept.own; named = λ job raising is. kept.named job raising (waited moment state waiting job raising is) }
 
-pub step-named : (waiting : ℕ → Option Raising) (state : State) (moment : Moment) (event : Happening) → IsNamed waiting state → IsNamed (λ job. pending_after job (step state moment event).actions (waiting job)) (step state moment event).state
+pub step-named : (waiting : ℕ → Option Raising) (state : State) (moment : Moment) (event : Happening)
+    → IsNamed waiting state
+    → IsNamed (λ job. pending_after job (step state moment event).actions (waiting job)) (step state moment event).state
 step-named waiting state moment event named =
     let left = named-event event (waits_at moment state waiting) (at_moment moment state) (named-moment moment state waiting named) in
     record {
@@ -237,7 +261,10 @@ step-named waiting state moment event named =
       named = λ job raising is. left.named job raising (sym (pending-append job (time_passes moment state).actions (handle event (at_moment moment state)).actions (waiting job)) ∙ is);
     }
 
-pub run-named : (waiting : ℕ → Option Raising) (state : State) (events : List Timed) → IsNamed waiting state → (job : ℕ) (raising : Raising) → pending_after job (actions_of state events) (waiting job) ≡ Some raising → (raising.addition ≤ (run state events).held.table.last) × ((key : HeldKey) → find_number raising.addition (run state events).held.table.identities ≡ Some key → key.blob ≡ raising.signing.blob)
+pub run-named : (waiting : ℕ → Option Raising) (state : State) (events : List Timed)
+    → IsNamed waiting state → (job : ℕ) (raising : Raising)
+    → pending_after job (actions_of state events) (waiting job) ≡ Some raising
+    → (raising.addition ≤ (run state events).held.table.last) × ((key : HeldKey) → find_number raising.addition (run state events).held.table.identities ≡ Some key → key.blob ≡ raising.signing.blob)
 run-named waiting state [] named job raising is = named.named job raising is
 run-named waiting state (timed ∷ later) named job raising is =
     let actions = (step state timed.moment timed.event).actions in
@@ -248,8 +275,10 @@ run-named waiting state (timed ∷ later) named job raising is =
 -- ---- why a signature is put
 
 module _ (asking : Asking) (signing : Signing) (waiting : ℕ → Option Raising) where
-  -- the same keys at the same moment, and whoever is open was, with its chain
-  put-back : (old mid : State) (actions : List Action) → mid.held ≡ old.held → mid.moment ≡ old.moment → KeepsChains old.ports mid.ports → IsPut asking signing waiting mid actions → IsPut asking signing waiting old actions
+  -- what is put after a change was put before it, where keys and moment stay and each open port keeps its chain
+  put-back : (old mid : State) (actions : List Action) → mid.held ≡ old.held
+      → mid.moment ≡ old.moment → KeepsChains old.ports mid.ports
+      → IsPut asking signing waiting mid actions → IsPut asking signing waiting old actions
   put-back old mid actions held moment keeps (at_once requesting key among port read found confirm) =
       at_once requesting key among port read (ap (λ (h : KeyState). find_identity signing.blob h.table.identities) (sym held) ∙ found) confirm
   put-back old mid actions held moment keeps (by_consent job raising key port among is whose what found may) =
@@ -259,7 +288,9 @@ module _ (asking : Asking) (signing : Signing) (waiting : ℕ → Option Raising
       (subst (λ (m : Moment). IsGrantable key port.chain raising.addition signing.message m.wall old.held) moment
       (subst (λ h. IsGrantable key port.chain raising.addition signing.message mid.moment.wall h) held may)))
 
-  put-quiet : {event : Happening} {old mid : State} (actions : List Action) → Quiet event old mid → KeepsChains old.ports mid.ports → IsPut asking signing waiting mid actions → IsPut asking signing waiting old actions
+  put-quiet : {event : Happening} {old mid : State} (actions : List Action) → Quiet event old mid
+      → KeepsChains old.ports mid.ports → IsPut asking signing waiting mid actions
+      → IsPut asking signing waiting old actions
   put-quiet actions (alters number f change) keeps why = put-back _ _ actions refl refl keeps why
   put-quiet actions (closes number may) keeps why = put-back _ _ actions refl refl keeps why
   put-quiet actions (goes_on new goes) keeps why = put-back _ _ actions refl refl keeps why
@@ -268,7 +299,8 @@ module _ (asking : Asking) (signing : Signing) (waiting : ℕ → Option Raising
 
   -- as it comes of consent
   module _ (confirmation : Confirmation) (port : Port) (state : State) (found : find_port confirmation.asker state.ports ≡ Some port) (named : IsNamed waiting state) (tie : noted confirmation.job state.under_way.confirmations ≡ option_map wanted (waiting confirmation.job)) (there : find_job confirmation.job state.under_way.confirmations ≡ Some confirmation) where
-    waits : (was : Option Raising) → waiting confirmation.job ≡ was → (raising : Raising) × (waiting confirmation.job ≡ Some raising) × (wanted_of confirmation ≡ wanted raising)
+    waits : (was : Option Raising) → waiting confirmation.job ≡ was
+        → (raising : Raising) × (waiting confirmation.job ≡ Some raising) × (wanted_of confirmation ≡ wanted raising)
     waits None is =
         let none : Some (wanted_of confirmation) ≡ None = sym (ap (option_map wanted_of) there) ∙ tie ∙ ap (option_map wanted) is in
         absurd (cc)
@@ -276,7 +308,10 @@ module _ (asking : Asking) (signing : Signing) (waiting : ℕ → Option Raising
         let some : Some (wanted_of confirmation) ≡ Some (wanted raising) = sym (ap (option_map wanted_of) there) ∙ tie ∙ ap (option_map wanted) is in
         (raising, is, cc)
 
-    put-granted : {work : Work} → IsGranted port.chain confirmation state.moment.wall state.held (without_confirmation confirmation.job state.under_way) work → asking.purpose ≡ ForSignature signing → IsAmong (Asked asking) work.actions → IsPut asking signing waiting state (Granted confirmation.job ∷ work.actions)
+    put-granted : {work : Work}
+        → IsGranted port.chain confirmation state.moment.wall state.held (without_confirmation confirmation.job state.under_way) work
+        → asking.purpose ≡ ForSignature signing → IsAmong (Asked asking) work.actions
+        → IsPut asking signing waiting state (Granted confirmation.job ∷ work.actions)
     put-granted (disallowed never) purpose among = absurd among
     put-granted (unasked cause key may fault) purpose among = absurd among
     put-granted (allowed key may free) purpose (inr none) = absurd none
@@ -298,13 +333,18 @@ module _ (asking : Asking) (signing : Signing) (waiting : ℕ → Option Raising
         (subst (λ n. IsGrantable key port.chain n signing.message state.moment.wall state.held) addition
         (subst (λ (w : Signing). IsGrantable key port.chain confirmation.addition w.message state.moment.wall state.held) equal may))
 
-  put-makes : {event : Happening} {old : State} {outcome : Outcome} → Makes event old outcome → IsTied old → IsNamed waiting old → ((job : ℕ) → noted job old.under_way.confirmations ≡ option_map wanted (waiting job)) → asking.purpose ≡ ForSignature signing → IsAmong (Asked asking) outcome.actions → IsPut asking signing waiting old outcome.actions
+  put-makes : {event : Happening} {old : State} {outcome : Outcome} → Makes event old outcome
+      → IsTied old → IsNamed waiting old
+      → ((job : ℕ) → noted job old.under_way.confirmations ≡ option_map wanted (waiting job))
+      → asking.purpose ≡ ForSignature signing → IsAmong (Asked asking) outcome.actions
+      → IsPut asking signing waiting old outcome.actions
   put-makes (stays state) tied named tie purpose among = absurd among
   put-makes {outcome = outcome} (first {mid = mid} quiet rest) tied named tie purpose among =
       put-quiet outcome.actions quiet (keeps-quiet quiet tied.rising).ports
       (put-makes rest (tied-quiet quiet tied) (named-quiet quiet named) (λ job. (quiet-noted job quiet).1 ∙ tie job) purpose among)
     where
-      named-quiet : {event : Happening} {old mid : State} → Quiet event old mid → IsNamed waiting old → IsNamed waiting mid
+      named-quiet : {event : Happening} {old mid : State} → Quiet event old mid
+          → IsNamed waiting old → IsNamed waiting mid
       named-quiet (alters number f change) was = record { own = was.own; named = was.named }
       named-quiet (closes number may) was = record { own = was.own; named = was.named }
       named-quiet (goes_on new goes) was = record { own = was.own; named = was.named }
@@ -324,11 +364,17 @@ module _ (asking : Asking) (signing : Signing) (waiting : ℕ → Option Raising
   put-makes (loses state) tied named tie purpose (inr none) = absurd none
   put-makes (overs confirmation state there) tied named tie purpose (inl same) = absurd (cc)
   put-makes (overs confirmation state there) tied named tie purpose (inr none) = absurd none
-  put-makes (grants confirmation port state there opened) tied named tie purpose (inl same) = absurd (cc)
+  put-makes (grants confirmation port state there opened) tied named tie purpose (inl same) =
+      absurd (cc)
   put-makes (grants confirmation port state there opened) tied named tie purpose (inr later) =
       put-granted confirmation port state opened named (tie confirmation.job) (in-found confirmation 0 state.under_way.last_job tied.raised.order there) (grant-ends port.chain confirmation state) purpose later
 
-pub step-put : (asking : Asking) (signing : Signing) (waiting : ℕ → Option Raising) (state : State) (moment : Moment) (event : Happening) → IsTied state → IsNamed waiting state → ((job : ℕ) → noted job state.under_way.confirmations ≡ option_map wanted (waiting job)) → asking.purpose ≡ ForSignature signing → IsAmong (Asked asking) (step state moment event).actions → IsPut asking signing waiting (at_moment moment state) (step state moment event).actions
+pub step-put : (asking : Asking) (signing : Signing) (waiting : ℕ → Option Raising) (state : State) (moment : Moment) (event : Happening)
+    → IsTied state → IsNamed waiting state
+    → ((job : ℕ) → noted job state.under_way.confirmations ≡ option_map wanted (waiting job))
+    → asking.purpose ≡ ForSignature signing
+    → IsAmong (Asked asking) (step state moment event).actions
+    → IsPut asking signing waiting (at_moment moment state) (step state moment event).actions
 step-put asking signing waiting state moment event tied named tie purpose among = by_either (among-either (Asked asking) before now.actions among)
   where
     opened : State
@@ -354,13 +400,16 @@ step-put asking signing waiting state moment event tied named tie purpose among 
         (λ outcome makes. put-makes asking signing at makes (tied-opened moment state tied) (named-moment moment state waiting named) tie_at purpose)
         there
 
-    behind : IsPut asking signing at opened now.actions → IsPut asking signing waiting opened (before ++ now.actions)
+    behind : IsPut asking signing at opened now.actions
+        → IsPut asking signing waiting opened (before ++ now.actions)
     behind (at_once requesting key there port read found confirm) = at_once requesting key (among-back (Requested requesting) before now.actions there) port read found confirm
     behind (by_consent job raising key port there is whose what found may) =
         by_consent job raising key port (among-back (Granted job) before now.actions there) (waited moment state waiting job raising is) whose what found may
 
-    by_either : IsAmong (Asked asking) before ⊎ IsAmong (Asked asking) now.actions → IsPut asking signing waiting opened (before ++ now.actions)
-    by_either (inl there) = absurd (among-each IsIdle (Asked asking) before (λ is. is) (idle-moment moment state) there)
+    by_either : IsAmong (Asked asking) before ⊎ IsAmong (Asked asking) now.actions
+        → IsPut asking signing waiting opened (before ++ now.actions)
+    by_either (inl there) =
+        absurd (among-each IsIdle (Asked asking) before (λ is. is) (idle-moment moment state) there)
     by_either (inr there) = behind (put there)
 
 -- ---- runs
@@ -368,21 +417,28 @@ step-put asking signing waiting state moment event tied named tie purpose among 
 pub first-named : (settings : Settings) → IsNamed (λ job. None) (first_state settings)
 first-named settings = record { own = first-own settings; named = λ job raising is. absurd (cc) }
 
-pub run-all_named : (settings : Settings) (events : List Timed) → IsNamed (pending (actions_of (first_state settings) events)) (run (first_state settings) events)
+pub run-all_named : (settings : Settings) (events : List Timed)
+    → IsNamed (pending (actions_of (first_state settings) events)) (run (first_state settings) events)
 run-all_named settings events = record {
   own = (run-kept (first_state settings) events (first-own settings)).own;
   named = λ job raising is. run-named (λ n. None) (first_state settings) events (first-named settings) job raising is;
 }
 
-pub run-tie : (settings : Settings) (events : List Timed) (job : ℕ) → noted job (run (first_state settings) events).under_way.confirmations ≡ option_map wanted (pending (actions_of (first_state settings) events) job)
-run-tie settings events job = run-pending job (first_state settings) events None (first-tied settings) refl
+pub run-tie : (settings : Settings) (events : List Timed) (job : ℕ)
+    → noted job (run (first_state settings) events).under_way.confirmations ≡ option_map wanted (pending (actions_of (first_state settings) events) job)
+run-tie settings events job =
+    run-pending job (first_state settings) events None (first-tied settings) refl
 
-pub run-put : (settings : Settings) (events : List Timed) (moment : Moment) (event : Happening) (asking : Asking) (signing : Signing) → asking.purpose ≡ ForSignature signing → IsAmong (Asked asking) (step (run (first_state settings) events) moment event).actions → IsPut asking signing (pending (actions_of (first_state settings) events)) (at_moment moment (run (first_state settings) events)) (step (run (first_state settings) events) moment event).actions
+pub run-put : (settings : Settings) (events : List Timed) (moment : Moment) (event : Happening) (asking : Asking) (signing : Signing)
+    → asking.purpose ≡ ForSignature signing
+    → IsAmong (Asked asking) (step (run (first_state settings) events) moment event).actions
+    → IsPut asking signing (pending (actions_of (first_state settings) events)) (at_moment moment (run (first_state settings) events)) (step (run (first_state settings) events) moment event).actions
 run-put settings events moment event asking signing =
     step-put asking signing (pending (actions_of (first_state settings) events)) (run (first_state settings) events) moment event
     (run-tied (first_state settings) events (first-tied settings)) (run-all_named settings events) (run-tie settings events)
 
 -- what is noted was raised
-pub noted_some : (one : Option Wanted) (was : Option Raising) → one ≡ option_map wanted was → IsSome one → IsSome was
+pub noted_some : (one : Option Wanted) (was : Option Raising) → one ≡ option_map wanted was
+    → IsSome one → IsSome was
 noted_some one None is some = absurd (let none : IsSome {T = Wanted} None = subst (λ (o : Option Wanted). IsSome o) is some in cc)
 noted_some one (Some raising) is some = refl

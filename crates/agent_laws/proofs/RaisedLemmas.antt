@@ -26,14 +26,18 @@ pub record IsRaised (past : List Stamped) (held : KeyState) (one : Confirmation)
   pub message : raising.signing.message ≡ one.message
   pub flags : raising.signing.flags ≡ one.flags
   pub within : one.addition ≤ held.table.last
-  pub blob : (key : HeldKey) → find_number one.addition held.table.identities ≡ Some key → key.blob ≡ raising.signing.blob
+  pub blob : (key : HeldKey) → find_number one.addition held.table.identities ≡ Some key
+      → key.blob ≡ raising.signing.blob
 
 -- each one that is waited for
 abbrev pub AllRaised : List Stamped → KeyState → List Confirmation → Type 0
-AllRaised past held confirmations = (job : ℕ) (one : Confirmation) → find_job job confirmations ≡ Some one → IsRaised past held one
+AllRaised past held confirmations =
+    (job : ℕ) (one : Confirmation) → find_job job confirmations ≡ Some one → IsRaised past held one
 
 -- more is done that raises nothing and ends nothing
-pub raised-more : (past more : List Stamped) (held : KeyState) (one : Confirmation) → raised_at one.job more ≡ raised_at one.job past → IsRaised past held one → IsRaised more held one
+pub raised-more : (past more : List Stamped) (held : KeyState) (one : Confirmation)
+    → raised_at one.job more ≡ raised_at one.job past → IsRaised past held one
+    → IsRaised more held one
 raised-more past more held one same raised = record {
   raising = raised.raising;
   is = same ∙ raised.is;
@@ -45,11 +49,15 @@ raised-more past more held one same raised = record {
   blob = raised.blob;
 }
 
-pub all_raised-more : (past more : List Stamped) (held : KeyState) (confirmations : List Confirmation) → ((job : ℕ) → raised_at job more ≡ raised_at job past) → AllRaised past held confirmations → AllRaised more held confirmations
-all_raised-more past more held confirmations same all job one found = raised-more past more held one (same one.job) (all job one found)
+pub all_raised-more : (past more : List Stamped) (held : KeyState) (confirmations : List Confirmation)
+    → ((job : ℕ) → raised_at job more ≡ raised_at job past) → AllRaised past held confirmations
+    → AllRaised more held confirmations
+all_raised-more past more held confirmations same all job one found =
+    raised-more past more held one (same one.job) (all job one found)
 
 -- keys come and go
-pub all_raised-kept : (past : List Stamped) (old new : KeyState) (confirmations : List Confirmation) → NumbersKept old new → AllRaised past old confirmations → AllRaised past new confirmations
+pub all_raised-kept : (past : List Stamped) (old new : KeyState) (confirmations : List Confirmation)
+    → NumbersKept old new → AllRaised past old confirmations → AllRaised past new confirmations
 all_raised-kept past old new confirmations kept all job one found =
     let raised = all job one found in
     record {
@@ -76,7 +84,8 @@ pub record IsLight (f : Confirmation → Confirmation) : Type 0 where
 -- at most one confirmation is changed so
 pub data Stays (old : List Confirmation) : List Confirmation → Type 0 where
   as_it_is : Stays old old
-  lightly : (job : ℕ) (f : Confirmation → Confirmation) → IsLight f → Stays old (change_job job f old)
+  lightly : (job : ℕ) (f : Confirmation → Confirmation) → IsLight f
+      → Stays old (change_job job f old)
 
 pub stays-kept : {old new : List Confirmation} → Kept old new → Stays old new
 stays-kept unchanged = as_it_is
@@ -84,7 +93,8 @@ stays-kept (altered job f same) =
     lightly job f record { job = same.job; asker = same.asker; addition = same.addition; message = same.message; flags = same.flags }
 
 -- such a confirmation was raised as it was
-faint : (past : List Stamped) (held : KeyState) (f : Confirmation → Confirmation) (one : Confirmation) → IsLight f → IsRaised past held one → IsRaised past held (f one)
+faint : (past : List Stamped) (held : KeyState) (f : Confirmation → Confirmation) (one : Confirmation)
+    → IsLight f → IsRaised past held one → IsRaised past held (f one)
 faint past held f one same raised = record {
   raising = raised.raising;
   is = ap (λ job. raised_at job past) (same.job one) ∙ raised.is;
@@ -96,7 +106,9 @@ faint past held f one same raised = record {
   blob = λ key there. raised.blob key (ap (λ n. find_number n held.table.identities) (sym (same.addition one)) ∙ there);
 }
 
-pub all_raised-altered : (past : List Stamped) (held : KeyState) (at : ℕ) (f : Confirmation → Confirmation) (confirmations : List Confirmation) → IsLight f → AllRaised past held confirmations → AllRaised past held (change_job at f confirmations)
+pub all_raised-altered : (past : List Stamped) (held : KeyState) (at : ℕ) (f : Confirmation → Confirmation) (confirmations : List Confirmation)
+    → IsLight f → AllRaised past held confirmations
+    → AllRaised past held (change_job at f confirmations)
 all_raised-altered past held at f confirmations same all job one found =
     let was = changed_back job at f confirmations one same.job found in
     elim was.2 [
@@ -104,16 +116,22 @@ all_raised-altered past held at f confirmations same all job one found =
       | inr is ↦ subst (IsRaised past held) (sym is) (faint past held f was.0 same (all job was.0 was.1))
     ]
 
-pub all_raised-same : (past : List Stamped) (held : KeyState) {old new : List Confirmation} → Stays old new → AllRaised past held old → AllRaised past held new
+pub all_raised-same : (past : List Stamped) (held : KeyState) {old new : List Confirmation}
+    → Stays old new → AllRaised past held old → AllRaised past held new
 all_raised-same past held as_it_is all = all
-all_raised-same past held {old = old} (lightly job f same) all = all_raised-altered past held job f old same all
+all_raised-same past held {old = old} (lightly job f same) all =
+    all_raised-altered past held job f old same all
 
 -- one that is over: the others are not
-pub all_raised-over : (past more : List Stamped) (held : KeyState) (over low last : ℕ) (confirmations : List Confirmation) → JobsRise low confirmations last → ((job : ℕ) → over ≢ job → raised_at job more ≡ raised_at job past) → AllRaised past held confirmations → AllRaised more held (remove_job over confirmations)
+pub all_raised-over : (past more : List Stamped) (held : KeyState) (over low last : ℕ) (confirmations : List Confirmation)
+    → JobsRise low confirmations last
+    → ((job : ℕ) → over ≢ job → raised_at job more ≡ raised_at job past)
+    → AllRaised past held confirmations → AllRaised more held (remove_job over confirmations)
 all_raised-over past more held over low last confirmations order same all job one found =
     by_test (over == job) refl (sym (find_job-remove job over low confirmations last order) ∙ found)
   where
-    by_test : (equal : Bool) → (over == job) ≡ equal → cond equal None (find_job job confirmations) ≡ Some one → IsRaised more held one
+    by_test : (equal : Bool) → (over == job) ≡ equal
+        → cond equal None (find_job job confirmations) ≡ Some one → IsRaised more held one
     by_test true is there = absurd (cc)
     by_test false is there =
         let within = job_within job low confirmations last one order there in
@@ -149,11 +167,14 @@ module _ (moment : Moment) (past : List Stamped) (held : KeyState) (asker : ℕ)
             ap (λ (k : HeldKey). k.blob) (sym equal) ∙ found_has signing.blob held.table.identities key found;
       }
 
-  pub all_raised-push : AllRaised past held confirmations → AllRaised more held (confirmations ++ new ∷ [])
+  pub all_raised-push : AllRaised past held confirmations
+      → AllRaised more held (confirmations ++ new ∷ [])
   all_raised-push all job one there = by_test (last + 1 == job) refl (sym (find_job-push job 0 new confirmations last order (omega arith)) ∙ there)
     where
-      by_test : (equal : Bool) → (last + 1 == job) ≡ equal → cond equal (Some new) (find_job job confirmations) ≡ Some one → IsRaised more held one
-      by_test true is some = let same : new ≡ one = cc in subst (IsRaised more held) same is_raised_new
+      by_test : (equal : Bool) → (last + 1 == job) ≡ equal
+          → cond equal (Some new) (find_job job confirmations) ≡ Some one → IsRaised more held one
+      by_test true is some =
+          let same : new ≡ one = cc in subst (IsRaised more held) same is_raised_new
       by_test false is some =
           let within = job_within job 0 confirmations last one order some in
           let other : (last + 1 == one.job) ≡ false = grind (arith, nat_tests, within.1, within.2) in

@@ -44,7 +44,8 @@ module _ (life : Option ℕ) (asker : Asker) (facts : Facts) (held : KeyState) (
 
   -- ---- additions
 
-  added_holds : (addition : Addition) → IfSome addition.terms.uses (λ uses. 1 ≤ uses) → Told (DidAdd addition) (record held { table = with_addition addition asker.mono held.table })
+  added_holds : (addition : Addition) → IfSome addition.terms.uses (λ uses. 1 ≤ uses)
+      → Told (DidAdd addition) (record held { table = with_addition addition asker.mono held.table })
   added_holds addition usable = record {
     locked = holds.locked;
     count = ap (λ n. n + 1) holds.count;
@@ -67,14 +68,17 @@ module _ (life : Option ℕ) (asker : Asker) (facts : Facts) (held : KeyState) (
           ∙ ap (λ n. identity_of (n + 1) addition.key addition.comment (death_of asker.mono addition.terms.life life) addition.terms) holds.count
           ∙ ap (λ l. identity_of (held.table.last + 1) addition.key addition.comment (death_of asker.mono addition.terms.life l) addition.terms) (sym holds.default)
 
-      by_life : (later : ℕ) (lives : Bool) → cond lives (Some new) None ≡ option_map (key_of life) (cond lives (Some past) None)
+      by_life : (later : ℕ) (lives : Bool)
+          → cond lives (Some new) None ≡ option_map (key_of life) (cond lives (Some past) None)
       by_life later true = ap Some (sym is_new)
       by_life later false = refl
 
       same_life : (later : ℕ) → lives_at later new.death ≡ is_alive life later past
-      same_life later = ap (λ l. lives_at later (death_of asker.mono addition.terms.life l)) holds.default
+      same_life later =
+          ap (λ l. lives_at later (death_of asker.mono addition.terms.life l)) holds.default
 
-      by_test : (blob : List ℕ) (later : ℕ) → asker.mono ≤ later → (same : Bool) → if_alive later (cond same (Some new) (find_identity blob held.table.identities)) ≡ option_map (key_of life) (held_by (cond same (Some past) (facts.last blob)) life later)
+      by_test : (blob : List ℕ) (later : ℕ) → asker.mono ≤ later → (same : Bool)
+          → if_alive later (cond same (Some new) (find_identity blob held.table.identities)) ≡ option_map (key_of life) (held_by (cond same (Some past) (facts.last blob)) life later)
       by_test blob later after true =
           let has : (is_alive life later past && has_uses addition.terms.uses 0) ≡ is_alive life later past =
           ap (λ b. is_alive life later past && b) (has_new addition.terms.uses usable) ∙ and_true (is_alive life later past) in
@@ -84,7 +88,8 @@ module _ (life : Option ℕ) (asker : Asker) (facts : Facts) (held : KeyState) (
 
   -- ---- removals
 
-  removed_holds : (removed : List ℕ) → Told (DidRemove removed) (with_identities (remove_identity removed held.table.identities) held)
+  removed_holds : (removed : List ℕ)
+      → Told (DidRemove removed) (with_identities (remove_identity removed held.table.identities) held)
   removed_holds removed = record {
     locked = holds.locked;
     count = holds.count;
@@ -95,7 +100,8 @@ module _ (life : Option ℕ) (asker : Asker) (facts : Facts) (held : KeyState) (
         ap (if_alive later) (find-remove blob removed held.table.identities holds.own) ∙ by_test blob later after (bytes_eq removed blob);
   }
     where
-      by_test : (blob : List ℕ) (later : ℕ) → asker.mono ≤ later → (same : Bool) → if_alive later (cond same None (find_identity blob held.table.identities)) ≡ option_map (key_of life) (held_by (cond same None (facts.last blob)) life later)
+      by_test : (blob : List ℕ) (later : ℕ) → asker.mono ≤ later → (same : Bool)
+          → if_alive later (cond same None (find_identity blob held.table.identities)) ≡ option_map (key_of life) (held_by (cond same None (facts.last blob)) life later)
       by_test blob later after true = refl
       by_test blob later after false = holds.found blob later after
 
@@ -103,7 +109,8 @@ module _ (life : Option ℕ) (asker : Asker) (facts : Facts) (held : KeyState) (
   all_holds = record { locked = holds.locked; count = holds.count; default = holds.default; own = own_none; numbers = no_numbers held.table.last; found = λ blob later after. found_none blob later }
 
   -- numbers are kept by an addition and by removals
-  added_done : (addition : Addition) → IfSome addition.terms.uses (λ uses. 1 ≤ uses) → After (DidAdd addition) (record held { table = with_addition addition asker.mono held.table })
+  added_done : (addition : Addition) → IfSome addition.terms.uses (λ uses. 1 ≤ uses)
+      → After (DidAdd addition) (record held { table = with_addition addition asker.mono held.table })
   added_done addition usable = record {
     holds = added_holds addition usable;
     kept = record {
@@ -117,7 +124,8 @@ module _ (life : Option ℕ) (asker : Asker) (facts : Facts) (held : KeyState) (
     };
   }
 
-  removed_done : (removed : List ℕ) → After (DidRemove removed) (with_identities (remove_identity removed held.table.identities) held)
+  removed_done : (removed : List ℕ)
+      → After (DidRemove removed) (with_identities (remove_identity removed held.table.identities) held)
   removed_done removed = record {
     holds = removed_holds removed;
     kept = record {
@@ -132,7 +140,8 @@ module _ (life : Option ℕ) (asker : Asker) (facts : Facts) (held : KeyState) (
 
   -- ---- the table of requests
 
-  nothing_by : (read : Result ClientRequest MsgFault) (cause : Cause) → done_of_request read (Refuses cause) ≡ DidNothing
+  nothing_by : (read : Result ClientRequest MsgFault) (cause : Cause)
+      → done_of_request read (Refuses cause) ≡ DidNothing
   nothing_by (Err fault) cause = refl
   nothing_by (Ok ListIdentities) cause = refl
   nothing_by (Ok (Sign signing)) cause = refl
@@ -145,7 +154,9 @@ module _ (life : Option ℕ) (asker : Asker) (facts : Facts) (held : KeyState) (
   nothing_by (Ok (OtherExtension name)) cause = refl
   nothing_by (Ok (Unsupported number)) cause = refl
 
-  lock_changed : (lock : Option (List ℕ)) (done : Done) → locked_by done facts.locked ≡ is_some lock → facts_after done asker.mono facts ≡ record facts { locked = locked_by done facts.locked } → After done (record held { lock = lock })
+  lock_changed : (lock : Option (List ℕ)) (done : Done) → locked_by done facts.locked ≡ is_some lock
+      → facts_after done asker.mono facts ≡ record facts { locked = locked_by done facts.locked }
+      → After done (record held { lock = lock })
   lock_changed lock done locked same = record {
     holds = subst (λ f. Holds life asker.mono f (record held { lock = lock })) (sym same)
         record { locked = locked; count = holds.count; default = holds.default; own = holds.own; numbers = holds.numbers; found = holds.found };
@@ -153,21 +164,26 @@ module _ (life : Option ℕ) (asker : Asker) (facts : Facts) (held : KeyState) (
   }
 
   -- what is used is of the key that was found
-  used_done : (signing : Signing) (key : HeldKey) (actions : List Action) → find_identity signing.blob held.table.identities ≡ Some key → facts_then actions asker.mono (facts_after DidNothing asker.mono facts) ≡ facts_after (DidUse signing.blob) asker.mono facts → AfterAll DidNothing actions (after_use (Some key.number) held)
+  used_done : (signing : Signing) (key : HeldKey) (actions : List Action)
+      → find_identity signing.blob held.table.identities ≡ Some key
+      → facts_then actions asker.mono (facts_after DidNothing asker.mono facts) ≡ facts_after (DidUse signing.blob) asker.mono facts
+      → AfterAll DidNothing actions (after_use (Some key.number) held)
   used_done signing key actions found same = record {
     holds = subst (λ f. Holds life asker.mono f (after_use (Some key.number) held)) (sym same) (used-holds life asker.mono facts held signing.blob key found holds);
     kept = numbers-used key.number held holds.numbers;
   }
 
   module _ (read : Result ClientRequest MsgFault) (usable : IfOk read IsUsable) where
-    as_read : (request : ClientRequest) (verdict : Verdict) (actions : List Action) (after : KeyState) → read ≡ Ok request →
+    as_read : (request : ClientRequest) (verdict : Verdict) (actions : List Action) (after : KeyState)
+        → read ≡ Ok request →
         AfterAll (done_of_request (Ok request) verdict) actions after → AfterAll (done_of_request read verdict) actions after
     as_read request verdict actions after is =
         subst (λ r. AfterAll (done_of_request r verdict) actions after) (sym is)
 
     done-served : {served : Served} → Serves read asker held under_way served →
         AfterAll (done_of_request read served.work.verdict) served.work.actions served.held
-    done-served (denies cause) = subst (λ done. After done held) (sym (nothing_by read cause)) nothing_done
+    done-served (denies cause) =
+        subst (λ done. After done held) (sym (nothing_by read cause)) nothing_done
     done-served (lists identities is) = as_read ListIdentities _ _ held is nothing_done
     done-served (adds addition is) = as_read (Add addition) _ _ _ is (added_done addition (subst (λ r. IfOk r IsUsable) is usable))
     done-served (removes blob is) = as_read (Remove blob) _ _ _ is (removed_done blob)
@@ -176,7 +192,8 @@ module _ (life : Option ℕ) (asker : Asker) (facts : Facts) (held : KeyState) (
         as_read (Lock passphrase) _ _ _ is (lock_changed (Some passphrase) DidLock refl refl)
     done-served (unlocks passphrase is) =
         as_read (Unlock passphrase) _ _ _ is (lock_changed None DidUnlock refl refl)
-    done-served (signs signing key is found asks free) = as_read (Sign signing) _ _ _ is (used_done signing key _ found refl)
+    done-served (signs signing key is found asks free) =
+        as_read (Sign signing) _ _ _ is (used_done signing key _ found refl)
     done-served (confirms signing key is found free) = as_read (Sign signing) _ _ held is record { holds = nothing_done.holds; kept = nothing_done.kept }
     done-served (verifies bind is_new is stands free) = as_read (Bind bind) _ _ held is record { holds = nothing_done.holds; kept = nothing_done.kept }
 

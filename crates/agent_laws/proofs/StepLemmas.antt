@@ -44,11 +44,13 @@ pub record Agrees (N : Type 0) (life : Option ℕ) (second : ℕ) (past : List S
   pub raised : AllRaised past held confirmations
   pub idle : N → due_signing life past ≡ None
 
--- the same of a state as an event begins: those that are held are alive, and numbers are left
+-- the past agrees with a state as an event begins: those that are held are alive, and numbers are left
 pub record Opened (N : Type 0) (life : Option ℕ) (past : List Stamped) (state : State) : Type 0 where
   pub agrees : Agrees N life state.moment.mono past state.held state.under_way.link.asks state.under_way.confirmations
-  pub fresh : (blob : List ℕ) → if_alive state.moment.mono (find_identity blob state.held.table.identities) ≡ find_identity blob state.held.table.identities
-  pub chains : (number : ℕ) (port : Port) → find_port number state.ports ≡ Some port → proved_of number past ≡ port.chain
+  pub fresh : (blob : List ℕ)
+      → if_alive state.moment.mono (find_identity blob state.held.table.identities) ≡ find_identity blob state.held.table.identities
+  pub chains : (number : ℕ) (port : Port) → find_port number state.ports ≡ Some port
+      → proved_of number past ≡ port.chain
   pub left : N → state.under_way.link.last < 2 ^ 64 - 1
   pub jobs : N → state.under_way.last_job < 2 ^ 64 - 1
 
@@ -68,10 +70,13 @@ pub record Calm (old new : State) : Type 0 where
   pub kept : Stays old.under_way.confirmations new.under_way.confirmations
 
 pub calm-quiet : {event : Happening} {old new : State} → Quiet event old new → Calm old new
-calm-quiet (alters number f change) = record { held = refl; moment = refl; last = refl; jobs = refl; kept = as_it_is }
-calm-quiet (closes number may) = record { held = refl; moment = refl; last = refl; jobs = refl; kept = as_it_is }
+calm-quiet (alters number f change) =
+    record { held = refl; moment = refl; last = refl; jobs = refl; kept = as_it_is }
+calm-quiet (closes number may) =
+    record { held = refl; moment = refl; last = refl; jobs = refl; kept = as_it_is }
 calm-quiet (goes_on new goes) = record { held = refl; moment = refl; last = (same_asks goes).last; jobs = (same_asks goes).jobs; kept = stays-kept (same_asks goes).kept }
-calm-quiet (names job number new) = record { held = refl; moment = refl; last = refl; jobs = refl; kept = as_it_is }
+calm-quiet (names job number new) =
+    record { held = refl; moment = refl; last = refl; jobs = refl; kept = as_it_is }
 calm-quiet (links job number new) = record {
   held = refl;
   moment = refl;
@@ -80,7 +85,8 @@ calm-quiet (links job number new) = record {
   kept = lightly job (linked_at number) record { job = λ c. refl; asker = λ c. refl; addition = λ c. refl; message = λ c. refl; flags = λ c. refl };
 }
 
-pub opened-quiet : {N : Type 0} (life : Option ℕ) (past : List Stamped) (old new : State) → Calm old new → Keeps old new → Opened N life past old → Opened N life past new
+pub opened-quiet : {N : Type 0} (life : Option ℕ) (past : List Stamped) (old new : State)
+    → Calm old new → Keeps old new → Opened N life past old → Opened N life past new
 opened-quiet life past old new calm keeps opened = record {
   agrees = record {
     holds = rw (calm.held, calm.moment) opened.agrees.holds;
@@ -97,12 +103,15 @@ opened-quiet life past old new calm keeps opened = record {
 -- ---- a request
 
 -- what is due is what the past tells
-pub due_as : (claim : Option Claim) (life : Option ℕ) (moment : Moment) (past : List Stamped) → met_by claim life moment past ≡ met_with claim life moment.mono moment.wall (facts_of past) (λ port. proved_of port past) (open_asks past)
+pub due_as : (claim : Option Claim) (life : Option ℕ) (moment : Moment) (past : List Stamped)
+    → met_by claim life moment past ≡ met_with claim life moment.mono moment.wall (facts_of past) (λ port. proved_of port past) (open_asks past)
 due_as None life moment past = refl
 due_as (Some claim) life moment past = refl
 
 -- what is due behind it, by the chain of its port
-due_of_read : (life : Option ℕ) (number second wall : ℕ) (facts : Facts) (past : List Stamped) (chain : List Binding) (opens : List ℕ) (read : Result ClientRequest MsgFault) → proved_of number past ≡ chain → met_with (claim_of_request read number) life second wall facts (λ port. proved_of port past) opens ≡ met_with (claim_of_request read number) life second wall facts (λ port. chain) opens
+due_of_read : (life : Option ℕ) (number second wall : ℕ) (facts : Facts) (past : List Stamped) (chain : List Binding) (opens : List ℕ) (read : Result ClientRequest MsgFault)
+    → proved_of number past ≡ chain
+    → met_with (claim_of_request read number) life second wall facts (λ port. proved_of port past) opens ≡ met_with (claim_of_request read number) life second wall facts (λ port. chain) opens
 due_of_read life number second wall facts past chain opens (Err fault) is = refl
 due_of_read life number second wall facts past chain opens (Ok ListIdentities) is = refl
 due_of_read life number second wall facts past chain opens (Ok (Sign signing)) is =
@@ -117,29 +126,40 @@ due_of_read life number second wall facts past chain opens (Ok (Bind bind)) is =
 due_of_read life number second wall facts past chain opens (Ok (OtherExtension name)) is = refl
 due_of_read life number second wall facts past chain opens (Ok (Unsupported other)) is = refl
 
-pub numbers-append : (some more : List Ask) → numbers_of (some ++ more) ≡ numbers_of some ++ numbers_of more
+pub numbers-append : (some more : List Ask)
+    → numbers_of (some ++ more) ≡ numbers_of some ++ numbers_of more
 numbers-append [] more = refl
 numbers-append (one ∷ some) more = ap (λ rest. one.number ∷ rest) (numbers-append some more)
 
 -- what the past tells behind actions
-pub facts-onto : (moment : Moment) (past : List Stamped) (actions : List Action) → facts_of (onto past (stamps moment actions)) ≡ facts_then actions moment.mono (facts_of past)
+pub facts-onto : (moment : Moment) (past : List Stamped) (actions : List Action)
+    → facts_of (onto past (stamps moment actions)) ≡ facts_then actions moment.mono (facts_of past)
 facts-onto moment past [] = refl
 facts-onto moment past (action ∷ later) = facts-onto moment (stamp moment action ∷ past) later
 
 -- what is done behind it stands there, and agrees
 module _ (life : Option ℕ) (moment : Moment) (asker : Asker) (held after : KeyState) (under_way : UnderWay) (past : List Stamped) (due : Option Claim) (is : due_signing life past ≡ due) where
-  lawful-acts : {N : Type 0} {work : Work} → Acts N due asker held under_way work → LawfulIf N life past (stamps moment work.actions)
+  lawful-acts : {N : Type 0} {work : Work} → Acts N due asker held under_way work
+      → LawfulIf N life past (stamps moment work.actions)
   lawful-acts (silent verdict none) = λ n. is ∙ none n
-  lawful-acts (asks errand may) = (subst (IsDue (purpose_of errand) asker.port) (sym is) may, λ n. refl)
+  lawful-acts (asks errand may) =
+      (subst (IsDue (purpose_of errand) asker.port) (sym is) may, λ n. refl)
   lawful-acts (raises_it key signing found none) = (λ n. is ∙ none n, λ n. refl)
 
-  opens-acts : {N : Type 0} {work : Work} → Acts N due asker held under_way work → open_asks past ≡ numbers_of under_way.link.asks → open_asks (onto past (stamps moment work.actions)) ≡ numbers_of work.under_way.link.asks
+  opens-acts : {N : Type 0} {work : Work} → Acts N due asker held under_way work
+      → open_asks past ≡ numbers_of under_way.link.asks
+      → open_asks (onto past (stamps moment work.actions)) ≡ numbers_of work.under_way.link.asks
   opens-acts (silent verdict none) same = same
   opens-acts (asks errand may) same = ap (λ all. all ++ (under_way.link.last + 1) ∷ []) same ∙ sym (numbers-append under_way.link.asks _)
   opens-acts (raises_it key signing found none) same = same
 
-  raised-acts : {N : Type 0} {work : Work} → Acts N due asker held under_way work → JobsRise 0 under_way.confirmations under_way.last_job → HaveOwnNumbers held.table.last held.table.identities → NumbersKept held after → AllRaised past held under_way.confirmations → AllRaised (onto past (stamps moment work.actions)) after work.under_way.confirmations
-  raised-acts (silent verdict none) order numbers kept all = all_raised-kept past held after under_way.confirmations kept all
+  raised-acts : {N : Type 0} {work : Work} → Acts N due asker held under_way work
+      → JobsRise 0 under_way.confirmations under_way.last_job
+      → HaveOwnNumbers held.table.last held.table.identities → NumbersKept held after
+      → AllRaised past held under_way.confirmations
+      → AllRaised (onto past (stamps moment work.actions)) after work.under_way.confirmations
+  raised-acts (silent verdict none) order numbers kept all =
+      all_raised-kept past held after under_way.confirmations kept all
   raised-acts (asks errand may) order numbers kept all =
       all_raised-more past _ after under_way.confirmations (λ job. refl) (all_raised-kept past held after under_way.confirmations kept all)
   raised-acts (raises_it key signing found none) order numbers kept all =

@@ -40,22 +40,28 @@ use Rattle.agent_model.proofs.ServeLemmas.{IsServed, answered, asked, raised, re
 
 -- ---- what is noted of a confirmation
 
-wanted-is : (f : Confirmation → Confirmation) → IsFaint f → (c : Confirmation) → wanted_of (f c) ≡ wanted_of c
+wanted-is : (f : Confirmation → Confirmation) → IsFaint f → (c : Confirmation)
+    → wanted_of (f c) ≡ wanted_of c
 wanted-is f faint c = rw (faint.asker c, faint.addition c, faint.message c, faint.flags c) refl
 
-noted-changed : (job at : ℕ) (f : Confirmation → Confirmation) → ((c : Confirmation) → (f c).job ≡ c.job) → ((c : Confirmation) → wanted_of (f c) ≡ wanted_of c) → (confirmations : List Confirmation) → noted job (change_job at f confirmations) ≡ noted job confirmations
+noted-changed : (job at : ℕ) (f : Confirmation → Confirmation)
+    → ((c : Confirmation) → (f c).job ≡ c.job)
+    → ((c : Confirmation) → wanted_of (f c) ≡ wanted_of c) → (confirmations : List Confirmation)
+    → noted job (change_job at f confirmations) ≡ noted job confirmations
 noted-changed job at f jobs same all = elim (job-change job at f all jobs) [
   | inl is ↦ ap (option_map wanted_of) is
   | inr is ↦ ap (option_map wanted_of) is ∙ by_found (find_job job all)
 ]
   where
-    by_found : (found : Option Confirmation) → option_map wanted_of (option_map f found) ≡ option_map wanted_of found
+    by_found : (found : Option Confirmation)
+        → option_map wanted_of (option_map f found) ≡ option_map wanted_of found
     by_found None = refl
     by_found (Some one) = ap Some (same one)
 
 noted-kept : (job : ℕ) {old new : List Confirmation} → Kept old new → noted job new ≡ noted job old
 noted-kept job unchanged = refl
-noted-kept job {old = old} (altered at f faint) = noted-changed job at f faint.job (wanted-is f faint) old
+noted-kept job {old = old} (altered at f faint) =
+    noted-changed job at f faint.job (wanted-is f faint) old
 
 -- ---- what an event does to one
 
@@ -70,7 +76,8 @@ noted_most (Some one) = omega arith
 
 -- how often it can still end: once where it is waited for, or may yet be raised
 abbrev pub endable : ℕ → UnderWay → ℕ
-endable job under_way = if nat_lt under_way.last_job job then 1 else noted_by (noted job under_way.confirmations)
+endable job under_way =
+    if nat_lt under_way.last_job job then 1 else noted_by (noted job under_way.confirmations)
 
 pub endable_most : (job : ℕ) (under_way : UnderWay) → endable job under_way ≤ 1
 endable_most job under_way =
@@ -81,21 +88,25 @@ endable_most job under_way =
 unused_falls : (job old new : ℕ) → old ≤ new → unused job new ≤ unused job old
 unused_falls job old new rises = grind (arith, nat_tests)
 
-endable_falls : (job : ℕ) (old new : UnderWay) → old.last_job ≤ new.last_job → noted job new.confirmations ≡ noted job old.confirmations → endable job new ≤ endable job old
+endable_falls : (job : ℕ) (old new : UnderWay) → old.last_job ≤ new.last_job
+    → noted job new.confirmations ≡ noted job old.confirmations → endable job new ≤ endable job old
 endable_falls job old new rises same =
     let most = noted_most (noted job new.confirmations) in
     let alike = ap noted_by same in
     grind (arith, nat_tests)
 
 pub record Traces (job : ℕ) (old : UnderWay) (actions : List Action) (new : UnderWay) : Type 0 where
-  pub pending : (before : Option Raising) → noted job old.confirmations ≡ option_map wanted before → noted job new.confirmations ≡ option_map wanted (pending_after job actions before)
+  pub pending : (before : Option Raising) → noted job old.confirmations ≡ option_map wanted before
+      → noted job new.confirmations ≡ option_map wanted (pending_after job actions before)
   pub ended : times_ended job actions + endable job new ≤ endable job old
   pub raised : times_raised job actions + unused job new.last_job ≤ unused job old.last_job
   pub granted : IsAmong (Granted job) actions → IsSome (noted job old.confirmations)
   pub over : IsAmong (Over job) actions → IsSome (noted job old.confirmations)
 
 -- nothing comes of it but that jobs are given
-traces-plain : (job : ℕ) (old new : UnderWay) (actions : List Action) → ArePlain actions → old.last_job ≤ new.last_job → noted job new.confirmations ≡ noted job old.confirmations → Traces job old actions new
+traces-plain : (job : ℕ) (old new : UnderWay) (actions : List Action) → ArePlain actions
+    → old.last_job ≤ new.last_job → noted job new.confirmations ≡ noted job old.confirmations
+    → Traces job old actions new
 traces-plain job old new actions plain rises same = record {
   pending = λ before is. same ∙ is ∙ ap (option_map wanted) (sym (pending-plain job actions before plain));
   ended = omega (arith, (ended-plain job actions plain).0, endable_falls job old new rises same);
@@ -105,7 +116,11 @@ traces-plain job old new actions plain rises same = record {
 }
 
 -- one is raised
-traces-raised : (job : ℕ) (old new : UnderWay) (requesting : Requesting) (raising : Raising) (one : Confirmation) → JobsRise 0 old.confirmations old.last_job → new.last_job ≡ old.last_job + 1 → new.confirmations ≡ old.confirmations ++ one ∷ [] → one.job ≡ old.last_job + 1 → raising.job ≡ old.last_job + 1 → wanted_of one ≡ wanted raising → Traces job old (Requested requesting ∷ Raised raising ∷ []) new
+traces-raised : (job : ℕ) (old new : UnderWay) (requesting : Requesting) (raising : Raising) (one : Confirmation)
+    → JobsRise 0 old.confirmations old.last_job → new.last_job ≡ old.last_job + 1
+    → new.confirmations ≡ old.confirmations ++ one ∷ [] → one.job ≡ old.last_job + 1
+    → raising.job ≡ old.last_job + 1 → wanted_of one ≡ wanted raising
+    → Traces job old (Requested requesting ∷ Raised raising ∷ []) new
 traces-raised job old new requesting raising one rise last more number numbered alike = record {
   pending = λ before is. found ∙ by_test (one.job == job) (raising.job == job) (ap (λ n. n == job) (numbered ∙ sym number)) before is;
   ended = by_ends (nat_lt old.last_job job) refl;
@@ -114,7 +129,8 @@ traces-raised job old new requesting raising one rise last more number numbered 
   over = λ among. absurd (by_two _ among (λ is. absurd (cc)) (λ is. absurd (cc)));
 }
   where
-    by_two : (action : Action) → IsAmong action (Requested requesting ∷ Raised raising ∷ []) → (Requested requesting ≡ action → ⊥) → (Raised raising ≡ action → ⊥) → ⊥
+    by_two : (action : Action) → IsAmong action (Requested requesting ∷ Raised raising ∷ [])
+        → (Requested requesting ≡ action → ⊥) → (Raised raising ≡ action → ⊥) → ⊥
     by_two action (inl is) one_is two_is = one_is is
     by_two action (inr (inl is)) one_is two_is = two_is is
     by_two action (inr (inr none)) one_is two_is = none
@@ -122,20 +138,25 @@ traces-raised job old new requesting raising one rise last more number numbered 
     found : noted job new.confirmations ≡ option_map wanted_of (cond (one.job == job) (Some one) (find_job job old.confirmations))
     found = ap (noted job) more ∙ ap (option_map wanted_of) (find_job-push job 0 one old.confirmations old.last_job rise (omega (arith, number)))
 
-    by_test : (is same : Bool) → same ≡ is → (before : Option Raising) → noted job old.confirmations ≡ option_map wanted before → option_map wanted_of (cond is (Some one) (find_job job old.confirmations)) ≡ option_map wanted (if same then Some raising else before)
+    by_test : (is same : Bool) → same ≡ is → (before : Option Raising)
+        → noted job old.confirmations ≡ option_map wanted before
+        → option_map wanted_of (cond is (Some one) (find_job job old.confirmations)) ≡ option_map wanted (if same then Some raising else before)
     by_test true true equal before is = ap Some alike
     by_test true false equal before is = absurd (cc)
     by_test false true equal before is = absurd (cc)
     by_test false false equal before is = is
 
-    by_ends : (above : Bool) → nat_lt old.last_job job ≡ above → 0 + endable job new ≤ (if above then 1 else noted_by (noted job old.confirmations))
+    by_ends : (above : Bool) → nat_lt old.last_job job ≡ above
+        → 0 + endable job new ≤ (if above then 1 else noted_by (noted job old.confirmations))
     by_ends true is = omega (arith, endable_most job new)
     by_ends false is =
         let low : nat_lt new.last_job job ≡ false = grind (arith, nat_tests) in
         let other : (one.job == job) ≡ false = grind (arith, nat_tests) in
         omega (arith, ap {B = ℕ} (λ b. if b then 1 else noted_by (noted job new.confirmations)) low, ap noted_by found, ap (λ b. noted_by (option_map wanted_of (cond b (Some one) (find_job job old.confirmations)))) other)
 
-    by_raises : (same above later : Bool) → (raising.job == job) ≡ same → nat_lt old.last_job job ≡ above → nat_lt new.last_job job ≡ later → (if same then 1 else 0) + (if later then 1 else 0) ≤ (if above then 1 else 0)
+    by_raises : (same above later : Bool) → (raising.job == job) ≡ same
+        → nat_lt old.last_job job ≡ above → nat_lt new.last_job job ≡ later
+        → (if same then 1 else 0) + (if later then 1 else 0) ≤ (if above then 1 else 0)
     by_raises true true true s a l = absurd (grind (arith, nat_tests, numbered, last))
     by_raises true true false s a l = omega arith
     by_raises true false later s a l = absurd (grind (arith, nat_tests, numbered, last))
@@ -145,7 +166,13 @@ traces-raised job old new requesting raising one rise last more number numbered 
     by_raises false false false s a l = omega arith
 
 -- one ends
-traces-ended : (job : ℕ) (old new : UnderWay) (end : Action) (actions : List Action) (one : Confirmation) → ((n : ℕ) (before : Option Raising) → pending_by n end before ≡ (if one.job == n then None else before)) → ((n : ℕ) → ends_by n end ≡ (if one.job == n then 1 else 0)) → ((n : ℕ) → raises_by n end ≡ 0) → ((n : ℕ) → (end ≡ Granted n) ⊎ (end ≡ Over n) → n ≡ one.job) → JobsRise 0 old.confirmations old.last_job → find_job one.job old.confirmations ≡ Some one → old.last_job ≤ new.last_job → new.confirmations ≡ remove_job one.job old.confirmations → ArePlain actions → Traces job old (end ∷ actions) new
+traces-ended : (job : ℕ) (old new : UnderWay) (end : Action) (actions : List Action) (one : Confirmation)
+    → ((n : ℕ) (before : Option Raising) → pending_by n end before ≡ (if one.job == n then None else before))
+    → ((n : ℕ) → ends_by n end ≡ (if one.job == n then 1 else 0)) → ((n : ℕ) → raises_by n end ≡ 0)
+    → ((n : ℕ) → (end ≡ Granted n) ⊎ (end ≡ Over n) → n ≡ one.job)
+    → JobsRise 0 old.confirmations old.last_job → find_job one.job old.confirmations ≡ Some one
+    → old.last_job ≤ new.last_job → new.confirmations ≡ remove_job one.job old.confirmations
+    → ArePlain actions → Traces job old (end ∷ actions) new
 traces-ended job old new end actions one leaves ends raises whose rise there rises less plain = record {
   pending = λ before is.
       found ∙ by_pending (one.job == job) before is ∙ ap (option_map wanted) (sym (leaves job before))
@@ -159,18 +186,23 @@ traces-ended job old new end actions one leaves ends raises whose rise there ris
     found : noted job new.confirmations ≡ option_map wanted_of (cond (one.job == job) None (find_job job old.confirmations))
     found = ap (noted job) less ∙ ap (option_map wanted_of) (find_job-remove job one.job 0 old.confirmations old.last_job rise)
 
-    by_pending : (is : Bool) (before : Option Raising) → noted job old.confirmations ≡ option_map wanted before → option_map wanted_of (cond is None (find_job job old.confirmations)) ≡ option_map wanted (if is then None else before)
+    by_pending : (is : Bool) (before : Option Raising)
+        → noted job old.confirmations ≡ option_map wanted before
+        → option_map wanted_of (cond is None (find_job job old.confirmations)) ≡ option_map wanted (if is then None else before)
     by_pending true before is = refl
     by_pending false before is = is
 
     is_noted : job ≡ one.job → noted job old.confirmations ≡ Some (wanted_of one)
     is_noted same = ap (λ n. noted n old.confirmations) same ∙ ap (option_map wanted_of) there
 
-    by_among : (action : Action) → IsAmong action (end ∷ actions) → (end ≡ action → job ≡ one.job) → (IsPlain action → ⊥) → IsSome (noted job old.confirmations)
+    by_among : (action : Action) → IsAmong action (end ∷ actions) → (end ≡ action → job ≡ one.job)
+        → (IsPlain action → ⊥) → IsSome (noted job old.confirmations)
     by_among action (inl is) own other = subst IsSome (sym (is_noted (own is))) refl
-    by_among action (inr later) own other = absurd (among-each IsPlain action actions other plain later)
+    by_among action (inr later) own other =
+        absurd (among-each IsPlain action actions other plain later)
 
-    by_ends : (is : Bool) → (one.job == job) ≡ is → (if is then 1 else 0) + endable job new ≤ endable job old
+    by_ends : (is : Bool) → (one.job == job) ≡ is
+        → (if is then 1 else 0) + endable job new ≤ endable job old
     by_ends true is =
         let same : job ≡ one.job = grind (arith, nat_tests) in
         let within = job_within one.job 0 old.confirmations old.last_job one rise there in
@@ -189,7 +221,9 @@ traces-ended job old new end actions one leaves ends raises whose rise there ris
 
 -- ---- events
 
-traces-in_turn : {job : ℕ} {old mid new : UnderWay} {more : List Action} → old.last_job ≤ mid.last_job → noted job mid.confirmations ≡ noted job old.confirmations → Traces job mid more new → Traces job old more new
+traces-in_turn : {job : ℕ} {old mid new : UnderWay} {more : List Action}
+    → old.last_job ≤ mid.last_job → noted job mid.confirmations ≡ noted job old.confirmations
+    → Traces job mid more new → Traces job old more new
 traces-in_turn {job} {old} {mid} rises same later =
     let before = traces-plain job old mid [] tt rises same in
     record {
@@ -201,18 +235,24 @@ traces-in_turn {job} {old} {mid} rises same later =
     }
 
 -- a quiet change leaves it
-pub quiet-noted : (job : ℕ) {event : Happening} {old new : State} → Quiet event old new → (old.under_way.last_job ≤ new.under_way.last_job) × (noted job new.under_way.confirmations ≡ noted job old.under_way.confirmations)
+pub quiet-noted : (job : ℕ) {event : Happening} {old new : State} → Quiet event old new
+    → (old.under_way.last_job ≤ new.under_way.last_job) × (noted job new.under_way.confirmations ≡ noted job old.under_way.confirmations)
 quiet-noted job (alters number f change) = (omega arith, refl)
 quiet-noted job (closes number may) = (omega arith, refl)
-quiet-noted job (goes_on new goes) = (omega (arith, (same_asks goes).jobs), noted-kept job (same_asks goes).kept)
+quiet-noted job (goes_on new goes) =
+    (omega (arith, (same_asks goes).jobs), noted-kept job (same_asks goes).kept)
 quiet-noted job (names at number new) = (omega arith, refl)
 quiet-noted job {old = old} (links at number new) =
     (omega arith, noted-changed job at (linked_at number) (λ c. refl) (λ c. refl) old.under_way.confirmations)
 
 module _ (job : ℕ) where
-  traces-served : {asker : Asker} {held : KeyState} {under_way : UnderWay} {served : Served} (requesting : Requesting) → JobsRise 0 under_way.confirmations under_way.last_job → IsServed asker held under_way served → Traces job under_way (Requested requesting ∷ served.work.actions) served.work.under_way
-  traces-served {under_way = under_way} requesting rise (answered reply kept same) = traces-plain job under_way under_way _ (tt, tt) (omega arith) refl
-  traces-served {under_way = under_way} requesting rise (refused cause) = traces-plain job under_way under_way _ (tt, tt) (omega arith) refl
+  traces-served : {asker : Asker} {held : KeyState} {under_way : UnderWay} {served : Served} (requesting : Requesting)
+      → JobsRise 0 under_way.confirmations under_way.last_job → IsServed asker held under_way served
+      → Traces job under_way (Requested requesting ∷ served.work.actions) served.work.under_way
+  traces-served {under_way = under_way} requesting rise (answered reply kept same) =
+      traces-plain job under_way under_way _ (tt, tt) (omega arith) refl
+  traces-served {under_way = under_way} requesting rise (refused cause) =
+      traces-plain job under_way under_way _ (tt, tt) (omega arith) refl
   traces-served {under_way = under_way} requesting rise (asked errand free right) =
       traces-plain job under_way _ _ (tt, (tt, tt)) (jobs-for under_way.link.state under_way.last_job) refl
   traces-served {asker = asker} {under_way = under_way} requesting rise (raised key signing free) =
@@ -224,15 +264,20 @@ module _ (job : ℕ) where
     traces-over =
         traces-ended job under_way _ (Over confirmation.job) [] confirmation (λ n before. refl) (λ n. refl) (λ n. refl) (λ n is. by_end n is) rise there (omega arith) refl tt
       where
-        by_end : (n : ℕ) → (Over confirmation.job ≡ Granted n) ⊎ (Over confirmation.job ≡ Over n) → n ≡ confirmation.job
+        by_end : (n : ℕ) → (Over confirmation.job ≡ Granted n) ⊎ (Over confirmation.job ≡ Over n)
+            → n ≡ confirmation.job
         by_end n (inl other) = absurd (cc)
         by_end n (inr is) = let same : confirmation.job ≡ n = cc in sym same
 
-    by_grant : (n : ℕ) → (Granted confirmation.job ≡ Granted n) ⊎ (Granted confirmation.job ≡ Over n) → n ≡ confirmation.job
+    by_grant : (n : ℕ)
+        → (Granted confirmation.job ≡ Granted n) ⊎ (Granted confirmation.job ≡ Over n)
+        → n ≡ confirmation.job
     by_grant n (inl is) = let same : confirmation.job ≡ n = cc in sym same
     by_grant n (inr other) = absurd (cc)
 
-    traces-granted : {chain : List Binding} {wall : ℕ} {held : KeyState} {work : Work} → IsGranted chain confirmation wall held (without_confirmation confirmation.job under_way) work → Traces job under_way (Granted confirmation.job ∷ work.actions) work.under_way
+    traces-granted : {chain : List Binding} {wall : ℕ} {held : KeyState} {work : Work}
+        → IsGranted chain confirmation wall held (without_confirmation confirmation.job under_way) work
+        → Traces job under_way (Granted confirmation.job ∷ work.actions) work.under_way
     traces-granted (disallowed never) =
         traces-ended job under_way _ (Granted confirmation.job) [] confirmation (λ n before. refl) (λ n. refl) (λ n. refl) by_grant rise there (omega arith) refl tt
     traces-granted (unasked cause key may fault) =
@@ -240,12 +285,19 @@ module _ (job : ℕ) where
     traces-granted (allowed key may free) =
         traces-ended job under_way _ (Granted confirmation.job) _ confirmation (λ n before. refl) (λ n. refl) (λ n. refl) by_grant rise there (jobs-for under_way.link.state under_way.last_job) refl (tt, tt)
 
-  traces-loss : (fault : Option LinkFault) (old : UnderWay) (mid : State) (actions : List Action) → ArePlain actions → old.last_job ≤ mid.under_way.last_job → noted job mid.under_way.confirmations ≡ noted job old.confirmations → Traces job old actions (lose_if fault mid).state.under_way
-  traces-loss None old mid actions plain rises same = traces-plain job old mid.under_way actions plain rises same
-  traces-loss (Some fault) old mid actions plain rises same = traces-plain job old _ actions plain rises same
+  traces-loss : (fault : Option LinkFault) (old : UnderWay) (mid : State) (actions : List Action)
+      → ArePlain actions → old.last_job ≤ mid.under_way.last_job
+      → noted job mid.under_way.confirmations ≡ noted job old.confirmations
+      → Traces job old actions (lose_if fault mid).state.under_way
+  traces-loss None old mid actions plain rises same =
+      traces-plain job old mid.under_way actions plain rises same
+  traces-loss (Some fault) old mid actions plain rises same =
+      traces-plain job old _ actions plain rises same
 
-  traces-makes : {event : Happening} {old : State} {outcome : Outcome} → Makes event old outcome → IsTied old → Traces job old.under_way outcome.actions outcome.state.under_way
-  traces-makes (stays state) tied = traces-plain job state.under_way state.under_way [] tt (omega arith) refl
+  traces-makes : {event : Happening} {old : State} {outcome : Outcome} → Makes event old outcome
+      → IsTied old → Traces job old.under_way outcome.actions outcome.state.under_way
+  traces-makes (stays state) tied =
+      traces-plain job state.under_way state.under_way [] tt (omega arith) refl
   traces-makes (first quiet rest) tied =
       let change = quiet-noted job quiet in
       traces-in_turn change.0 change.1 (traces-makes rest (tied-quiet quiet tied))
@@ -263,16 +315,24 @@ module _ (job : ℕ) where
   -- what a moment ends, it ends alone: nothing is raised
   record Ends (old : State) (outcome : Outcome) : Type 0 where
     traces : Traces job old.under_way outcome.actions outcome.state.under_way
-    fewer : IsSome (noted job outcome.state.under_way.confirmations) → IsSome (noted job old.under_way.confirmations)
+    fewer : IsSome (noted job outcome.state.under_way.confirmations)
+        → IsSome (noted job old.under_way.confirmations)
 
-  left_noted : (other : ℕ) (under_way : UnderWay) → JobsRise 0 under_way.confirmations under_way.last_job → IsSome (noted job (remove_job other under_way.confirmations)) → IsSome (noted job under_way.confirmations)
+  left_noted : (other : ℕ) (under_way : UnderWay)
+      → JobsRise 0 under_way.confirmations under_way.last_job
+      → IsSome (noted job (remove_job other under_way.confirmations))
+      → IsSome (noted job under_way.confirmations)
   left_noted other under_way rise some = by_test (other == job) (subst (λ found. IsSome (option_map wanted_of found)) (find_job-remove job other 0 under_way.confirmations under_way.last_job rise) some)
     where
-      by_test : (is : Bool) → IsSome (option_map wanted_of (cond is None (find_job job under_way.confirmations))) → IsSome (noted job under_way.confirmations)
+      by_test : (is : Bool)
+          → IsSome (option_map wanted_of (cond is None (find_job job under_way.confirmations)))
+          → IsSome (noted job under_way.confirmations)
       by_test true none = absurd (let no : IsSome {T = Wanted} None = none in cc)
       by_test false is = is
 
-  ends-in_turn : {old mid new : UnderWay} (some more : List Action) → (IsSome (noted job mid.confirmations) → IsSome (noted job old.confirmations)) → Traces job old some mid → Traces job mid more new → Traces job old (some ++ more) new
+  ends-in_turn : {old mid new : UnderWay} (some more : List Action)
+      → (IsSome (noted job mid.confirmations) → IsSome (noted job old.confirmations))
+      → Traces job old some mid → Traces job mid more new → Traces job old (some ++ more) new
   ends-in_turn some more fewer one two = record {
     pending = λ before is. two.pending (pending_after job some before) (one.pending before is) ∙ ap (option_map wanted) (sym (pending-append job some more before));
     ended = omega (arith, one.ended, two.ended, sum_by-append (ends_by job) some more);
@@ -285,7 +345,8 @@ module _ (job : ℕ) where
       by_either left right (inl a) = left a
       by_either left right (inr b) = right b
 
-  moment-ends : (moment : Moment) (state : State) → IsTied state → Ends (taken_in moment state) (time_passes moment state)
+  moment-ends : (moment : Moment) (state : State) → IsTied state
+      → Ends (taken_in moment state) (time_passes moment state)
   moment-ends moment state tied =
       tied-brings Ends moment state tied
       (λ s. record { traces = traces-plain job s.under_way s.under_way [] tt (omega arith) refl; fewer = λ is. is })
@@ -294,10 +355,14 @@ module _ (job : ℕ) where
       (λ s first later one two. record { traces = ends-in_turn first.actions later.actions one.fewer one.traces two.traces; fewer = λ is. one.fewer (two.fewer is) })
 
   -- what is waited for at a moment is what its actions leave
-  pub moment-pending : (moment : Moment) (state : State) → IsTied state → (before : Option Raising) → noted job state.under_way.confirmations ≡ option_map wanted before → noted job (at_moment moment state).under_way.confirmations ≡ option_map wanted (pending_after job (time_passes moment state).actions before)
-  moment-pending moment state tied before is = (moment-ends moment state tied).traces.pending before is
+  pub moment-pending : (moment : Moment) (state : State) → IsTied state → (before : Option Raising)
+      → noted job state.under_way.confirmations ≡ option_map wanted before
+      → noted job (at_moment moment state).under_way.confirmations ≡ option_map wanted (pending_after job (time_passes moment state).actions before)
+  moment-pending moment state tied before is =
+      (moment-ends moment state tied).traces.pending before is
 
-  pub step-traces : (state : State) (moment : Moment) (event : Happening) → IsTied state → Traces job state.under_way (step state moment event).actions (step state moment event).state.under_way
+  pub step-traces : (state : State) (moment : Moment) (event : Happening) → IsTied state
+      → Traces job state.under_way (step state moment event).actions (step state moment event).state.under_way
   step-traces state moment event tied =
       let opened : State = at_moment moment state in
       let before = moment-ends moment state tied in
@@ -310,7 +375,9 @@ module _ (job : ℕ) where
   -- ---- runs
 
   -- what is waited for is what the actions tell
-  pub run-pending : (state : State) (events : List Timed) (before : Option Raising) → IsTied state → noted job state.under_way.confirmations ≡ option_map wanted before → noted job (run state events).under_way.confirmations ≡ option_map wanted (pending_after job (actions_of state events) before)
+  pub run-pending : (state : State) (events : List Timed) (before : Option Raising) → IsTied state
+      → noted job state.under_way.confirmations ≡ option_map wanted before
+      → noted job (run state events).under_way.confirmations ≡ option_map wanted (pending_after job (actions_of state events) before)
   run-pending state [] before tied is = is
   run-pending state (timed ∷ later) before tied is =
       let now = step-traces state timed.moment timed.event tied in
@@ -319,14 +386,16 @@ module _ (job : ℕ) where
       ∙ ap (option_map wanted) (sym (pending-append job (step state timed.moment timed.event).actions (actions_of mid later) before))
 
   -- each ends once, and is raised once
-  pub run-ended : (state : State) (events : List Timed) → IsTied state → times_ended job (actions_of state events) + endable job (run state events).under_way ≤ endable job state.under_way
+  pub run-ended : (state : State) (events : List Timed) → IsTied state
+      → times_ended job (actions_of state events) + endable job (run state events).under_way ≤ endable job state.under_way
   run-ended state [] tied = omega arith
   run-ended state (timed ∷ later) tied =
       let now = step-traces state timed.moment timed.event tied in
       let mid : State = (step state timed.moment timed.event).state in
       omega (arith, now.ended, run-ended mid later (step-fated state timed.moment timed.event tied).tied, sum_by-append (ends_by job) (step state timed.moment timed.event).actions (actions_of mid later))
 
-  pub run-raised : (state : State) (events : List Timed) → IsTied state → times_raised job (actions_of state events) + unused job (run state events).under_way.last_job ≤ unused job state.under_way.last_job
+  pub run-raised : (state : State) (events : List Timed) → IsTied state
+      → times_raised job (actions_of state events) + unused job (run state events).under_way.last_job ≤ unused job state.under_way.last_job
   run-raised state [] tied = omega arith
   run-raised state (timed ∷ later) tied =
       let now = step-traces state timed.moment timed.event tied in

@@ -36,11 +36,13 @@ module _ (terms : Terms) (usable : AreUsable terms) where
   life_read None = tt
   life_read (Some number) = usable
 
-  uses_read : (number : Option (ℕ × List ℕ)) → Reads ((ok_or number Short >>= some_uses) >>= with_uses terms)
+  uses_read : (number : Option (ℕ × List ℕ))
+      → Reads ((ok_or number Short >>= some_uses) >>= with_uses terms)
   uses_read None = tt
   uses_read (Some number) = by_zero (number.0 == 0) refl
     where
-      by_zero : (none : Bool) → (number.0 == 0) ≡ none → Reads (cond none (Err NoUses) (Ok number) >>= with_uses terms)
+      by_zero : (none : Bool) → (number.0 == 0) ≡ none
+          → Reads (cond none (Err NoUses) (Ok number) >>= with_uses terms)
       by_zero true is = tt
       by_zero false is = grind (arith, nat_tests, is)
 
@@ -48,7 +50,8 @@ module _ (terms : Terms) (usable : AreUsable terms) where
   rules_read (Err fault) = tt
   rules_read (Ok text) = by_rules (rules_in text.0)
     where
-      by_rules : (rules : Result (List Constraint) TermFault) → Reads (rules >>= λ all. Ok (record terms { rules = all }, text.1))
+      by_rules : (rules : Result (List Constraint) TermFault)
+          → Reads (rules >>= λ all. Ok (record terms { rules = all }, text.1))
       by_rules (Err fault) = tt
       by_rules (Ok rules) = usable
 
@@ -68,11 +71,15 @@ module _ (terms : Terms) (usable : AreUsable terms) where
       by_test false = contents_read kind.0 kind.1
 
 -- what one more reads to, if the rest reads well behind it
-behind_next : (next : Result (Terms × List ℕ) TermFault) (rest : Terms → List ℕ → Result Terms TermFault) → Reads next → ((terms : Terms) (bytes : List ℕ) → AreUsable terms → IfOk (rest terms bytes) AreUsable) → IfOk (next >>= λ x. rest x.0 x.1) AreUsable
+behind_next : (next : Result (Terms × List ℕ) TermFault) (rest : Terms → List ℕ → Result Terms TermFault)
+    → Reads next
+    → ((terms : Terms) (bytes : List ℕ) → AreUsable terms → IfOk (rest terms bytes) AreUsable)
+    → IfOk (next >>= λ x. rest x.0 x.1) AreUsable
 behind_next (Err fault) rest reads all = tt
 behind_next (Ok next) rest reads all = all next.0 next.1 reads
 
-terms_read : (count : ℕ) (terms : Terms) (bytes : List ℕ) → AreUsable terms → IfOk (terms_up_to count terms bytes) AreUsable
+terms_read : (count : ℕ) (terms : Terms) (bytes : List ℕ) → AreUsable terms
+    → IfOk (terms_up_to count terms bytes) AreUsable
 unfolding terms_up_to next_at
 terms_read zero terms bytes usable = usable
 terms_read (suc count) terms [] usable = usable
@@ -93,11 +100,13 @@ IsUsable _ = Unit {0}
 abbrev Is : Result ClientRequest MsgFault → Type 0
 Is read = IfOk read IsUsable
 
-field_read : {A : Type 0} (at : Option (A × List ℕ)) (later : A → List ℕ → Result ClientRequest MsgFault) → ((value : A) (rest : List ℕ) → Is (later value rest)) → Is (field_then at later)
+field_read : {A : Type 0} (at : Option (A × List ℕ)) (later : A → List ℕ → Result ClientRequest MsgFault)
+    → ((value : A) (rest : List ℕ) → Is (later value rest)) → Is (field_then at later)
 field_read None later all = tt
 field_read (Some field) later all = all field.0 field.1
 
-key_read : (at : Result (AddedKey × List ℕ) KeyFault) (later : AddedKey → List ℕ → Result ClientRequest MsgFault) → ((key : AddedKey) (rest : List ℕ) → Is (later key rest)) → Is (key_then at later)
+key_read : (at : Result (AddedKey × List ℕ) KeyFault) (later : AddedKey → List ℕ → Result ClientRequest MsgFault)
+    → ((key : AddedKey) (rest : List ℕ) → Is (later key rest)) → Is (key_then at later)
 key_read (Err fault) later all = tt
 key_read (Ok key) later all = all key.0 key.1
 
@@ -105,11 +114,13 @@ ended_read : (request : ClientRequest) (rest : List ℕ) → IsUsable request �
 ended_read request [] usable = usable
 ended_read request (byte ∷ rest) usable = tt
 
-text_read : (request : List ℕ → ClientRequest) (text : Result (List ℕ) MsgFault) → ((bytes : List ℕ) → IsUsable (request bytes)) → Is (text_then request text)
+text_read : (request : List ℕ → ClientRequest) (text : Result (List ℕ) MsgFault)
+    → ((bytes : List ℕ) → IsUsable (request bytes)) → Is (text_then request text)
 text_read request (Err fault) all = tt
 text_read request (Ok text) all = all text
 
-constrained_read : (key : AddedKey) (comment : List ℕ) (terms : Result Terms TermFault) → IfOk terms AreUsable → Is (constrained key comment terms)
+constrained_read : (key : AddedKey) (comment : List ℕ) (terms : Result Terms TermFault)
+    → IfOk terms AreUsable → Is (constrained key comment terms)
 constrained_read key comment (Err fault) usable = tt
 constrained_read key comment (Ok terms) usable = usable
 
@@ -124,7 +135,8 @@ extension_read true name contents = bind_read contents
 extension_read false name contents = tt
 
 -- one row after another
-row : (test : Bool) (first later : Result ClientRequest MsgFault) → Is first → Is later → Is (cond test first later)
+row : (test : Bool) (first later : Result ClientRequest MsgFault) → Is first → Is later
+    → Is (cond test first later)
 row true first later is rest = is
 row false first later is rest = rest
 
@@ -146,7 +158,7 @@ unfolding request_of
 body_read [] = tt
 body_read (number ∷ bytes) = number_read number bytes
 
--- the same of what the agent is asked
+-- a bind request is usable, whether its host key was read or not
 host_key_read : (bind : BindRequest) (read : Result KeyParts KeyFault) → Is (bind_with bind read)
 host_key_read bind (Ok key) = tt
 host_key_read bind (Err fault) = tt

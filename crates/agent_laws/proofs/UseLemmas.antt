@@ -39,13 +39,16 @@ used_then key after is = record {
   left = by_uses key.uses refl is;
 }
   where
-    by_uses : (uses : Option ℕ) → key.uses ≡ uses → used_by uses key ≡ Some after → AreNoMore after.uses uses
+    by_uses : (uses : Option ℕ) → key.uses ≡ uses → used_by uses key ≡ Some after
+        → AreNoMore after.uses uses
     by_uses None none same =
         let e : key ≡ after = cc in
         subst (λ (u : Option ℕ). AreNoMore u None) (sym none ∙ ap (λ (k : HeldKey). k.uses) e) tt
     by_uses (Some uses) some same = by_zero (uses - 1 == 0) same
       where
-        by_zero : (gone : Bool) → cond gone None (Some (record key { uses = Some (uses - 1) })) ≡ Some after → AreNoMore after.uses (Some uses)
+        by_zero : (gone : Bool)
+            → cond gone None (Some (record key { uses = Some (uses - 1) })) ≡ Some after
+            → AreNoMore after.uses (Some uses)
         by_zero true there = absurd cc
         by_zero false there =
             let e : record key { uses = Some (uses - 1) } ≡ after = cc in
@@ -54,14 +57,18 @@ used_then key after is = record {
 
 -- ---- by number
 
-pub was_held : (number : ℕ) (keys : List HeldKey) (key : HeldKey) → find_number number keys ≡ Some key → WasHeld number keys key
+pub was_held : (number : ℕ) (keys : List HeldKey) (key : HeldKey)
+    → find_number number keys ≡ Some key → WasHeld number keys key
 was_held number keys key found = record { was = key; found = found; used = used_itself key }
 
 -- what a number finds after a use it found before
-pub was_held-used : (used_one number last : ℕ) (keys : List HeldKey) (key : HeldKey) → HaveOwnNumbers last keys → find_number number (spend_identity used_one keys) ≡ Some key → WasHeld number keys key
+pub was_held-used : (used_one number last : ℕ) (keys : List HeldKey) (key : HeldKey)
+    → HaveOwnNumbers last keys → find_number number (spend_identity used_one keys) ≡ Some key
+    → WasHeld number keys key
 was_held-used used_one number last keys key own found = by_test (eqb used_one number) refl
   where
-    by_found : (before : Option HeldKey) → find_number number keys ≡ before → used_one ≡ number → WasHeld number keys key
+    by_found : (before : Option HeldKey) → find_number number keys ≡ before → used_one ≡ number
+        → WasHeld number keys key
     by_found None is same =
         let nothing : spend_identity number keys ≡ keys = spend_nowhere number keys is in
         let none : None ≡ Some key = sym is ∙ ap (find_number number) (sym nothing) ∙ ap (λ n. find_number number (spend_identity n keys)) (sym same) ∙ found in
@@ -75,20 +82,25 @@ was_held-used used_one number last keys key own found = by_test (eqb used_one nu
 
     by_test : (same : Bool) → eqb used_one number ≡ same → WasHeld number keys key
     by_test true is = by_found (find_number number keys) refl (eqb-true used_one number is)
-    by_test false is = was_held number keys key (sym (find_number-spend_other used_one number keys is) ∙ found)
+    by_test false is =
+        was_held number keys key (sym (find_number-spend_other used_one number keys is) ∙ found)
 
-pub own_numbers-used : (number last : ℕ) (keys : List HeldKey) → HaveOwnNumbers last keys → HaveOwnNumbers last (spend_identity number keys)
+pub own_numbers-used : (number last : ℕ) (keys : List HeldKey) → HaveOwnNumbers last keys
+    → HaveOwnNumbers last (spend_identity number keys)
 unfolding spend_identity HaveOwnNumbers
 own_numbers-used number last [] own = tt
 own_numbers-used number last (key ∷ keys) own = by_test (eqb key.number number) refl (own_numbers-used number last keys own.2)
   where
-    fronted : (after : Option HeldKey) → used key ≡ after → HaveOwnNumbers last (in_front after keys)
+    fronted : (after : Option HeldKey) → used key ≡ after
+        → HaveOwnNumbers last (in_front after keys)
     fronted None is = own.2
     fronted (Some after) is =
         let same : key.number ≡ after.number = sym (ap (λ (k : HeldKey). k.number) (only_uses key.uses key after is)) in
         (subst (λ n. n ≤ last) same own.0, subst (λ n. find_number n keys ≡ None) same own.1, own.2)
 
-    by_test : (is : Bool) → eqb key.number number ≡ is → HaveOwnNumbers last (spend_identity number keys) → HaveOwnNumbers last (cond is (in_front (used key) keys) (key ∷ spend_identity number keys))
+    by_test : (is : Bool) → eqb key.number number ≡ is
+        → HaveOwnNumbers last (spend_identity number keys)
+        → HaveOwnNumbers last (cond is (in_front (used key) keys) (key ∷ spend_identity number keys))
     by_test true test later = fronted (used key) refl
     by_test false test later =
         let differ : eqb number key.number ≡ false = grind (arith, nat_tests, test) in
@@ -97,26 +109,34 @@ own_numbers-used number last (key ∷ keys) own = by_test (eqb key.number number
 -- ---- by blob
 
 -- a blob that isn't there doesn't come
-none-used : (number : ℕ) (blob : List ℕ) (keys : List HeldKey) → find_identity blob keys ≡ None → find_identity blob (spend_identity number keys) ≡ None
+none-used : (number : ℕ) (blob : List ℕ) (keys : List HeldKey) → find_identity blob keys ≡ None
+    → find_identity blob (spend_identity number keys) ≡ None
 unfolding find_identity spend_identity
 none-used number blob [] none = refl
 none-used number blob (key ∷ keys) none = by_blob (bytes_eq key.blob blob) refl none (none-used number blob keys)
   where
-    fronted : (after : Option HeldKey) → used key ≡ after → bytes_eq key.blob blob ≡ false → find_identity blob keys ≡ None → find_identity blob (in_front after keys) ≡ None
+    fronted : (after : Option HeldKey) → used key ≡ after → bytes_eq key.blob blob ≡ false
+        → find_identity blob keys ≡ None → find_identity blob (in_front after keys) ≡ None
     fronted None is other none = none
     fronted (Some after) is other none =
         let same : bytes_eq after.blob blob ≡ false = ap (λ (k : HeldKey). bytes_eq k.blob blob) (only_uses key.uses key after is) ∙ other in
         rw same none
 
-    by_test : (is : Bool) → bytes_eq key.blob blob ≡ false → find_identity blob keys ≡ None → find_identity blob (spend_identity number keys) ≡ None → find_identity blob (cond is (in_front (used key) keys) (key ∷ spend_identity number keys)) ≡ None
+    by_test : (is : Bool) → bytes_eq key.blob blob ≡ false → find_identity blob keys ≡ None
+        → find_identity blob (spend_identity number keys) ≡ None
+        → find_identity blob (cond is (in_front (used key) keys) (key ∷ spend_identity number keys)) ≡ None
     by_test true other none later = fronted (used key) refl other none
     by_test false other none later = rw other later
 
-    by_blob : (same : Bool) → bytes_eq key.blob blob ≡ same → cond same (Some key) (find_identity blob keys) ≡ None → (find_identity blob keys ≡ None → find_identity blob (spend_identity number keys) ≡ None) → find_identity blob (spend_identity number (key ∷ keys)) ≡ None
+    by_blob : (same : Bool) → bytes_eq key.blob blob ≡ same
+        → cond same (Some key) (find_identity blob keys) ≡ None
+        → (find_identity blob keys ≡ None → find_identity blob (spend_identity number keys) ≡ None)
+        → find_identity blob (spend_identity number (key ∷ keys)) ≡ None
     by_blob true other none later = absurd cc
     by_blob false other none later = by_test (eqb key.number number) other none (later none)
 
-pub own_blobs-used : (number : ℕ) (keys : List HeldKey) → HaveOwnBlobs keys → HaveOwnBlobs (spend_identity number keys)
+pub own_blobs-used : (number : ℕ) (keys : List HeldKey) → HaveOwnBlobs keys
+    → HaveOwnBlobs (spend_identity number keys)
 unfolding spend_identity HaveOwnBlobs
 own_blobs-used number [] own = tt
 own_blobs-used number (key ∷ keys) own = by_test (eqb key.number number) (own_blobs-used number keys own.1)
@@ -127,31 +147,41 @@ own_blobs-used number (key ∷ keys) own = by_test (eqb key.number number) (own_
         let same : key.blob ≡ after.blob = sym (ap (λ (k : HeldKey). k.blob) (only_uses key.uses key after is)) in
         (subst (λ b. find_identity b keys ≡ None) same own.0, own.1)
 
-    by_test : (is : Bool) → HaveOwnBlobs (spend_identity number keys) → HaveOwnBlobs (cond is (in_front (used key) keys) (key ∷ spend_identity number keys))
+    by_test : (is : Bool) → HaveOwnBlobs (spend_identity number keys)
+        → HaveOwnBlobs (cond is (in_front (used key) keys) (key ∷ spend_identity number keys))
     by_test true later = fronted (used key) refl
     by_test false later = (none-used number key.blob keys own.0, later)
 
 -- what a blob finds after a use: what is left of the one that was used, where it is that one's
-pub find-used : (blob : List ℕ) (number : ℕ) (one : HeldKey) (keys : List HeldKey) → HaveOwnBlobs keys → find_number number keys ≡ Some one → find_identity blob (spend_identity number keys) ≡ cond (bytes_eq one.blob blob) (used one) (find_identity blob keys)
+pub find-used : (blob : List ℕ) (number : ℕ) (one : HeldKey) (keys : List HeldKey)
+    → HaveOwnBlobs keys → find_number number keys ≡ Some one
+    → find_identity blob (spend_identity number keys) ≡ cond (bytes_eq one.blob blob) (used one) (find_identity blob keys)
 unfolding find_identity find_number spend_identity HaveOwnBlobs
 find-used blob number one [] own found = absurd cc
 find-used blob number one (key ∷ keys) own found =
     by_test (eqb key.number number) found (λ there. blob_of_numbered number keys one own.1 there) (λ there. find-used blob number one keys own.1 there)
   where
     -- the first one is used
-    fronted : (after : Option HeldKey) → used key ≡ after → (same : Bool) → bytes_eq key.blob blob ≡ same → find_identity blob (in_front after keys) ≡ cond same after (cond same (Some key) (find_identity blob keys))
-    fronted None is true same = ap (λ b. find_identity b keys) (sym ((bytes_eq-Decides key.blob blob).0 same)) ∙ own.0
+    fronted : (after : Option HeldKey) → used key ≡ after → (same : Bool)
+        → bytes_eq key.blob blob ≡ same
+        → find_identity blob (in_front after keys) ≡ cond same after (cond same (Some key) (find_identity blob keys))
+    fronted None is true same =
+        ap (λ b. find_identity b keys) (sym ((bytes_eq-Decides key.blob blob).0 same)) ∙ own.0
     fronted None is false same = refl
     fronted (Some after) is same test =
         let has : bytes_eq after.blob blob ≡ same = ap (λ (k : HeldKey). bytes_eq k.blob blob) (only_uses key.uses key after is) ∙ test in
         by_same same has
       where
-        by_same : (same : Bool) → bytes_eq after.blob blob ≡ same → find_identity blob (after ∷ keys) ≡ cond same (Some after) (cond same (Some key) (find_identity blob keys))
+        by_same : (same : Bool) → bytes_eq after.blob blob ≡ same
+            → find_identity blob (after ∷ keys) ≡ cond same (Some after) (cond same (Some key) (find_identity blob keys))
         by_same true has = rw has refl
         by_same false has = rw has refl
 
     -- or a later one, which has another blob than the first
-    behind : (first own_one : Bool) → bytes_eq key.blob blob ≡ first → bytes_eq one.blob blob ≡ own_one → find_identity one.blob keys ≡ Some one → find_identity blob (spend_identity number keys) ≡ cond own_one (used one) (find_identity blob keys) → cond first (Some key) (find_identity blob (spend_identity number keys)) ≡ cond own_one (used one) (cond first (Some key) (find_identity blob keys))
+    behind : (first own_one : Bool) → bytes_eq key.blob blob ≡ first
+        → bytes_eq one.blob blob ≡ own_one → find_identity one.blob keys ≡ Some one
+        → find_identity blob (spend_identity number keys) ≡ cond own_one (used one) (find_identity blob keys)
+        → cond first (Some key) (find_identity blob (spend_identity number keys)) ≡ cond own_one (used one) (cond first (Some key) (find_identity blob keys))
     behind true true is_first is_own there later =
         let equal : key.blob ≡ one.blob = (bytes_eq-Decides key.blob blob).0 is_first ∙ sym ((bytes_eq-Decides one.blob blob).0 is_own) in
         let none : None ≡ Some one = sym own.0 ∙ ap (λ b. find_identity b keys) equal ∙ there in
@@ -159,9 +189,13 @@ find-used blob number one (key ∷ keys) own found =
     behind true false is_first is_own there later = refl
     behind false own_one is_first is_own there later = later
 
-    by_test : (is : Bool) → cond is (Some key) (find_number number keys) ≡ Some one → (find_number number keys ≡ Some one → find_identity one.blob keys ≡ Some one) → (find_number number keys ≡ Some one → find_identity blob (spend_identity number keys) ≡ cond (bytes_eq one.blob blob) (used one) (find_identity blob keys)) → find_identity blob (cond is (in_front (used key) keys) (key ∷ spend_identity number keys)) ≡ cond (bytes_eq one.blob blob) (used one) (cond (bytes_eq key.blob blob) (Some key) (find_identity blob keys))
+    by_test : (is : Bool) → cond is (Some key) (find_number number keys) ≡ Some one
+        → (find_number number keys ≡ Some one → find_identity one.blob keys ≡ Some one)
+        → (find_number number keys ≡ Some one → find_identity blob (spend_identity number keys) ≡ cond (bytes_eq one.blob blob) (used one) (find_identity blob keys))
+        → find_identity blob (cond is (in_front (used key) keys) (key ∷ spend_identity number keys)) ≡ cond (bytes_eq one.blob blob) (used one) (cond (bytes_eq key.blob blob) (Some key) (find_identity blob keys))
     by_test true here there later =
         let e : key ≡ one = cc in
         subst (λ (k : HeldKey). find_identity blob (in_front (used key) keys) ≡ cond (bytes_eq k.blob blob) (used k) (cond (bytes_eq key.blob blob) (Some key) (find_identity blob keys))) e
         (fronted (used key) refl (bytes_eq key.blob blob) refl)
-    by_test false here there later = behind (bytes_eq key.blob blob) (bytes_eq one.blob blob) refl refl (there here) (later here)
+    by_test false here there later =
+        behind (bytes_eq key.blob blob) (bytes_eq one.blob blob) refl refl (there here) (later here)

@@ -92,7 +92,7 @@ binding answer events =
     ∷ Started 1 (ticket 9) ∷ Joined Children ∷ Heard 2 (hello 1 9) ∷ Took 2 111 ∷ Heard 2 answer
     ∷ Took 1 5 ∷ events
 
--- the same of a key and a host with a certificate
+-- the client of port 1 added a key with a certificate, and bound its connection to a host with one
 abbrev pub certified : List Happening
 certified = Joined Clients ∷ Heard 1 add_certified ∷ Took 1 5 ∷ Heard 1 bind_certified
     ∷ Started 1 (ticket 9)

@@ -38,7 +38,7 @@ IsLawful life past [] = due_signing life past ≡ None
 IsLawful life past (one ∷ later) =
     StandsAt one.action (due_signing life past) × IsLawful life (one ∷ past) later
 
--- ---- the same of the signatures that are put alone
+-- ---- signatures that are put alone
 
 -- a signature is put where it is due
 abbrev pub IsPutWhereDue : Purpose → ℕ → Option Claim → Type 0
@@ -46,7 +46,7 @@ IsPutWhereDue (ForSignature signing) port due =
     IsSomeAnd due (λ claim. (claim.port ≡ port) × (claim.signing ≡ signing))
 IsPutWhereDue (ForBinding binding) port due = Unit {0}
 
--- the same of any action
+-- an action puts a signature where it is due, if it puts one
 abbrev pub StandsWhereDue : Action → Option Claim → Type 0
 StandsWhereDue (Requested requesting) due = Unit {0}
 StandsWhereDue (Asked asking) due = IsPutWhereDue asking.purpose asking.port due

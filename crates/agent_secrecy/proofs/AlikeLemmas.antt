@@ -22,7 +22,8 @@ use Rattle.agent_secrecy.proofs.SecrecyLemmas.{every_run}
 inside : (one other : Signing) → Sign one ≡ Sign other → one ≡ other
 inside one other same = cc
 
-signings : (one other : Signing) → hide_message hidden (Sign one) ≡ hide_message hidden (Sign other) → IsOfAddition (Sign one) → IsOfAddition (Sign other)
+signings : (one other : Signing) → hide_message hidden (Sign one) ≡ hide_message hidden (Sign other)
+    → IsOfAddition (Sign one) → IsOfAddition (Sign other)
     → AreAlikeSignings (Sign one) (Sign other)
 signings one other same is other_is =
     let one_hidden : Signing = record one { private = hidden one.private } in
@@ -39,7 +40,8 @@ signings one other same is other_is =
       keys = hidden_alike (key_in one) (key_in again) is again_is (ap (λ (s : Signing). s.private) inner);
     }
 
-message : (one other : ToChildMessage) → hide_message hidden one ≡ hide_message hidden other → IsOfAddition one → IsOfAddition other
+message : (one other : ToChildMessage) → hide_message hidden one ≡ hide_message hidden other
+    → IsOfAddition one → IsOfAddition other
     → (one ≡ other) ⊎ AreAlikeSignings one other
 message (Sign one) (Sign other) same is other_is = inr (signings one other same is other_is)
 message (Sign one) (Verify other) same is other_is = absurd (cc)
@@ -51,7 +53,9 @@ message (Confirm job prompt) (Sign other) same is other_is = absurd (cc)
 message (Confirm job prompt) (Verify other) same is other_is = absurd (cc)
 message (Confirm job prompt) (Confirm other_job other_prompt) same is other_is = inl same
 
-messages : (ones others : List ToChildMessage) → map (hide_message hidden) ones ≡ map (hide_message hidden) others → ArePut ones → ArePut others → AreAlikeMessages ones others
+messages : (ones others : List ToChildMessage)
+    → map (hide_message hidden) ones ≡ map (hide_message hidden) others → ArePut ones
+    → ArePut others → AreAlikeMessages ones others
 messages [] [] same is other_is = tt
 messages [] (other ∷ others) same is other_is = absurd (cc)
 messages (one ∷ ones) [] same is other_is = absurd (cc)
@@ -62,14 +66,16 @@ messages (one ∷ ones) (other ∷ others) same is other_is =
       messages ones others rest (All-tail IsOfAddition one ones is) (All-tail IsOfAddition other others other_is),
     )
 
-all_messages : (ones others : List Outcome) → AreAlikeSeen ones others → EachPut ones → EachPut others → AreAlikePut ones others
+all_messages : (ones others : List Outcome) → AreAlikeSeen ones others → EachPut ones
+    → EachPut others → AreAlikePut ones others
 all_messages [] [] seen is other_is = tt
 all_messages [] (other ∷ others) seen is other_is = absurd seen
 all_messages (one ∷ ones) [] seen is other_is = absurd seen
 all_messages (one ∷ ones) (other ∷ others) seen is other_is =
     (messages one.put other.put seen.0.put is.0 other_is.0, all_messages ones others seen.1 is.1 other_is.1)
 
-pub every_put : (settings : Settings) (one other : List Timed) → AreAlike one other → AllFit (first_state settings) one → AreInRange one → AreInRange other
+pub every_put : (settings : Settings) (one other : List Timed) → AreAlike one other
+    → AllFit (first_state settings) one → AreInRange one → AreInRange other
     → AreAlikePut (outcomes (first_state settings) one) (outcomes (first_state settings) other)
 every_put settings one other alike fit range other_range =
     all_messages (outcomes (first_state settings) one) (outcomes (first_state settings) other) (every_run settings one other alike fit) (puts settings one range) (puts settings other other_range)

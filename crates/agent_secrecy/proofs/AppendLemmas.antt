@@ -31,19 +31,23 @@ Puts under_way work = work.under_way.link.owed ≡ under_way.link.owed ++ frames
 none-put : (owed : List ℕ) → owed ≡ owed ++ frames_of []
 none-put owed = sym (append-nil owed)
 
-one-put : (under_way : UnderWay) (errand : Errand) → under_way.link.owed ++ frame_of (message_of errand (under_way.link.last + 1)) ≡ under_way.link.owed ++ frames_of (message_of errand (under_way.link.last + 1) ∷ [])
+one-put : (under_way : UnderWay) (errand : Errand)
+    → under_way.link.owed ++ frame_of (message_of errand (under_way.link.last + 1)) ≡ under_way.link.owed ++ frames_of (message_of errand (under_way.link.last + 1) ∷ [])
 one-put under_way errand = ap (λ frame. under_way.link.owed ++ frame) (sym (append-nil (frame_of (message_of errand (under_way.link.last + 1)))))
 
-served : {asker : Asker} {held : KeyState} {under_way : UnderWay} {served : Served} → IsServed asker held under_way served → Puts under_way served.work
+served : {asker : Asker} {held : KeyState} {under_way : UnderWay} {served : Served}
+    → IsServed asker held under_way served → Puts under_way served.work
 served {under_way = under_way} (answered reply kept same) = none-put under_way.link.owed
 served {under_way = under_way} (refused cause) = none-put under_way.link.owed
 served {under_way = under_way} (asked errand free right) = one-put under_way errand
 served {under_way = under_way} (raised key signing free) = none-put under_way.link.owed
 
-granted : {chain : List Binding} {confirmation : Confirmation} {wall : ℕ} {held : KeyState} {under_way : UnderWay} {work : Work} → IsGranted chain confirmation wall held under_way work → Puts under_way work
+granted : {chain : List Binding} {confirmation : Confirmation} {wall : ℕ} {held : KeyState} {under_way : UnderWay} {work : Work}
+    → IsGranted chain confirmation wall held under_way work → Puts under_way work
 granted {under_way = under_way} (disallowed never) = none-put under_way.link.owed
 granted {under_way = under_way} (unasked cause key may fault) = none-put under_way.link.owed
-granted {confirmation = confirmation} {under_way = under_way} (allowed key may free) = one-put under_way (Signs key (signing_of key confirmation))
+granted {confirmation = confirmation} {under_way = under_way} (allowed key may free) =
+    one-put under_way (Signs key (signing_of key confirmation))
 
 -- ---- moments, and what an event changes quietly
 
@@ -64,14 +68,17 @@ quiet-went (alters number f change) = record { gone = 0; owed = refl }
 quiet-went (closes number may) = record { gone = 0; owed = refl }
 quiet-went (goes_on new (starts job ticket is)) = record { gone = 0; owed = refl }
 quiet-went (goes_on new (leaves job is)) = record { gone = 0; owed = refl }
-quiet-went (goes_on new (sends number count port is found linked)) = record { gone = count; owed = refl }
-quiet-went (goes_on new (prompts number count port one is found linked)) = record { gone = 0; owed = refl }
+quiet-went (goes_on new (sends number count port is found linked)) =
+    record { gone = count; owed = refl }
+quiet-went (goes_on new (prompts number count port one is found linked)) =
+    record { gone = 0; owed = refl }
 quiet-went (goes_on new (says number piece one at there)) = record { gone = 0; owed = refl }
 quiet-went (names job number new) = record { gone = 0; owed = refl }
 quiet-went (links job number new) = record { gone = 0; owed = refl }
 
 -- what came behind it, be it that other bodies stand before what was put
-behind : {before mid : State} → Went before mid → (later outcome : Outcome) → Appends mid later → outcome.put ≡ later.put → outcome.state ≡ later.state → Appends before outcome
+behind : {before mid : State} → Went before mid → (later outcome : Outcome) → Appends mid later
+    → outcome.put ≡ later.put → outcome.state ≡ later.state → Appends before outcome
 behind {before = before} went later outcome one put state = record {
   gone = went.gone + one.gone;
   owed = ap (λ (s : State). s.under_way.link.owed) state
@@ -84,7 +91,8 @@ behind {before = before} went later outcome one put state = record {
 -- ---- events
 
 -- nothing was put, and nothing went
-kept : (state : State) (outcome : Outcome) → outcome.put ≡ [] → outcome.state.under_way.link.owed ≡ state.under_way.link.owed → Appends state outcome
+kept : (state : State) (outcome : Outcome) → outcome.put ≡ []
+    → outcome.state.under_way.link.owed ≡ state.under_way.link.owed → Appends state outcome
 kept state outcome put same = record { gone = 0; owed = same ∙ none-put state.under_way.link.owed ∙ ap (λ all. state.under_way.link.owed ++ frames_of all) (sym put) }
 
 lost-appends : (before state : State) → Appends before (lose state)
@@ -93,7 +101,8 @@ lost-appends before state = record {
   owed = sym (ap (λ bytes. bytes ++ []) (drop_all (length before.under_way.link.owed) before.under_way.link.owed (omega arith)));
 }
 
-lost_if : (fault : Option LinkFault) (before state : State) → state.under_way.link.owed ≡ before.under_way.link.owed → Appends before (lose_if fault state)
+lost_if : (fault : Option LinkFault) (before state : State)
+    → state.under_way.link.owed ≡ before.under_way.link.owed → Appends before (lose_if fault state)
 lost_if None before state same = kept before (stay state) refl same
 lost_if (Some fault) before state same = lost-appends before state
 
@@ -102,17 +111,21 @@ helper-appends piece state =
     let one = lost_if (telling piece state.under_way.link).fault state _ refl in
     record { gone = one.gone; owed = one.owed }
 
-makes-appends : {event : Happening} {old : State} {outcome : Outcome} → Makes event old outcome → Appends old outcome
+makes-appends : {event : Happening} {old : State} {outcome : Outcome} → Makes event old outcome
+    → Appends old outcome
 makes-appends (stays state) = kept state (stay state) refl refl
-makes-appends (first {outcome = outcome} quiet rest) = behind (quiet-went quiet) outcome (after_quiet quiet outcome) (makes-appends rest) refl refl
+makes-appends (first {outcome = outcome} quiet rest) =
+    behind (quiet-went quiet) outcome (after_quiet quiet outcome) (makes-appends rest) refl refl
 makes-appends (serves body_len port state found door nothing owed own) =
     record { gone = 0; owed = served (serve-ends (asker_at state.moment port) state.held state.under_way (front_body body_len port.heard)) }
 makes-appends (tells piece state) = helper-appends piece state
 makes-appends (loses state) = lost-appends state state
 makes-appends (overs confirmation state there) = kept state (over confirmation state) refl refl
-makes-appends (grants confirmation port state there opened) = record { gone = 0; owed = granted (grant-ends port.chain confirmation state) }
+makes-appends (grants confirmation port state there opened) =
+    record { gone = 0; owed = granted (grant-ends port.chain confirmation state) }
 
-pub step-appends : (state : State) (moment : Moment) (event : Happening) → Appends state (step state moment event)
+pub step-appends : (state : State) (moment : Moment) (event : Happening)
+    → Appends state (step state moment event)
 step-appends state moment event =
     let opened : State = at_moment moment state in
     let later : Outcome = handle event opened in

@@ -17,11 +17,13 @@ module _ (key : List ℕ → List ℕ) (keeps : (bytes : List ℕ) → length (k
   abbrev hidden_outcome : Outcome → Outcome
   hidden_outcome outcome = hide_outcome key keeps heard outcome
 
-  taken_in-hidden : (moment : Moment) (state : State) → taken_in moment (hide state) ≡ hide (taken_in moment state)
+  taken_in-hidden : (moment : Moment) (state : State)
+      → taken_in moment (hide state) ≡ hide (taken_in moment state)
   taken_in-hidden moment state =
       ap (λ held. let new : State = record (hide (taken_in moment state)) { held = held } in new) (expired-hidden key (max state.moment.mono moment.mono) state.held)
 
-  all_over-hidden : (all : List Confirmation) (state : State) → all_over all (hide state) ≡ hidden_outcome (all_over all state)
+  all_over-hidden : (all : List Confirmation) (state : State)
+      → all_over all (hide state) ≡ hidden_outcome (all_over all state)
   all_over-hidden [] state = refl
   all_over-hidden (one ∷ others) state =
       let late : Option Confirmation = first_late state.under_way in
@@ -30,11 +32,14 @@ module _ (key : List ℕ → List ℕ) (keeps : (bytes : List ℕ) → length (k
   end_late-hidden : (state : State) → end_late (hide state) ≡ hidden_outcome (end_late state)
   end_late-hidden state = all_over-hidden state.under_way.confirmations state
 
-  pub time_passes-hidden : (moment : Moment) (state : State) → time_passes moment (hide state) ≡ hidden_outcome (time_passes moment state)
+  pub time_passes-hidden : (moment : Moment) (state : State)
+      → time_passes moment (hide state) ≡ hidden_outcome (time_passes moment state)
   time_passes-hidden moment state =
       and_then-hidden key keeps heard (lose_late (taken_in moment state)) _ end_late
       (ap lose_late (taken_in-hidden moment state) ∙ lose_where-hidden key keeps heard (is_helper_late (taken_in moment state).under_way) (taken_in moment state))
       (end_late-hidden (lose_late (taken_in moment state)).state)
 
-  pub at_moment-hidden : (moment : Moment) (state : State) → at_moment moment (hide state) ≡ hide (at_moment moment state)
-  at_moment-hidden moment state = ap (λ (outcome : Outcome). outcome.state) (time_passes-hidden moment state)
+  pub at_moment-hidden : (moment : Moment) (state : State)
+      → at_moment moment (hide state) ≡ hide (at_moment moment state)
+  at_moment-hidden moment state =
+      ap (λ (outcome : Outcome). outcome.state) (time_passes-hidden moment state)

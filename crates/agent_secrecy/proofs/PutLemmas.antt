@@ -39,16 +39,23 @@ HaveSent ports = All SentBytes ports
 no_bytes : IsBytes []
 no_bytes = All-nil (λ byte. byte < 256)
 
-changed-sent : (number : ℕ) (f : Port → Port) (ports : List Port) → ((port : Port) → SentBytes port → SentBytes (f port)) → HaveSent ports → HaveSent (change_port number f ports)
-changed-sent number f ports keeps sent = each_changed SentBytes (has_key port_number number) f ports keeps sent
+changed-sent : (number : ℕ) (f : Port → Port) (ports : List Port)
+    → ((port : Port) → SentBytes port → SentBytes (f port)) → HaveSent ports
+    → HaveSent (change_port number f ports)
+changed-sent number f ports keeps sent =
+    each_changed SentBytes (has_key port_number number) f ports keeps sent
 
-removed-sent : (number : ℕ) (ports : List Port) → HaveSent ports → HaveSent (remove_port number ports)
+removed-sent : (number : ℕ) (ports : List Port) → HaveSent ports
+    → HaveSent (remove_port number ports)
 removed-sent number ports sent = each_left SentBytes (has_key port_number number) ports sent
 
-found-sent : (number : ℕ) (ports : List Port) (port : Port) → find_port number ports ≡ Some port → HaveSent ports → SentBytes port
-found-sent number ports port found sent = each_found SentBytes (has_key port_number number) ports port found sent
+found-sent : (number : ℕ) (ports : List Port) (port : Port) → find_port number ports ≡ Some port
+    → HaveSent ports → SentBytes port
+found-sent number ports port found sent =
+    each_found SentBytes (has_key port_number number) ports port found sent
 
-told-sent : (verdict : Verdict) (number : ℕ) (ports : List Port) → HaveSent ports → HaveSent (change_port number (tell verdict) ports)
+told-sent : (verdict : Verdict) (number : ℕ) (ports : List Port) → HaveSent ports
+    → HaveSent (change_port number (tell verdict) ports)
 told-sent verdict number ports sent = changed-sent number (tell verdict) ports (λ port is. is) sent
 
 -- what clients are told, and who is closed, leaves what the others sent
@@ -76,31 +83,41 @@ lost-put : (fault : Option LinkFault) (state : State) → ArePut (lose_if fault 
 lost-put None state = none
 lost-put (Some fault) state = none
 
-lost-held : (fault : Option LinkFault) (state : State) → AreHeld state.held.table.identities → AreHeld (lose_if fault state).state.held.table.identities
+lost-held : (fault : Option LinkFault) (state : State) → AreHeld state.held.table.identities
+    → AreHeld (lose_if fault state).state.held.table.identities
 lost-held None state keys = keys
 lost-held (Some fault) state keys = keys
 
-taken-sent : (body_len : ℕ) (is_attempt : Bool) (port : Port) → SentBytes port → SentBytes (take_frame body_len is_attempt port)
-taken-sent body_len is_attempt port sent = All-drop (λ byte. byte < 256) (4 + body_len) port.heard sent
+taken-sent : (body_len : ℕ) (is_attempt : Bool) (port : Port) → SentBytes port
+    → SentBytes (take_frame body_len is_attempt port)
+taken-sent body_len is_attempt port sent =
+    All-drop (λ byte. byte < 256) (4 + body_len) port.heard sent
 
-admitted-sent : (room : Bool) (number : ℕ) (door : Door) (ports : List Port) → HaveSent ports → HaveSent (admitted room number door ports)
-admitted-sent true number door ports sent = All-push SentBytes ports (new_port number door) sent no_bytes
+admitted-sent : (room : Bool) (number : ℕ) (door : Door) (ports : List Port) → HaveSent ports
+    → HaveSent (admitted room number door ports)
+admitted-sent true number door ports sent =
+    All-push SentBytes ports (new_port number door) sent no_bytes
 admitted-sent false number door ports sent = sent
 
 -- what an event changes quietly
-change-sent : {event : Happening} {number : ℕ} {f : Port → Port} → IsInRange event → Change event number f → (port : Port) → SentBytes port → SentBytes (f port)
-change-sent range (hears piece is) port sent = All-append (λ byte. byte < 256) port.heard piece sent (subst IsInRange is range).1
+change-sent : {event : Happening} {number : ℕ} {f : Port → Port} → IsInRange event
+    → Change event number f → (port : Port) → SentBytes port → SentBytes (f port)
+change-sent range (hears piece is) port sent =
+    All-append (λ byte. byte < 256) port.heard piece sent (subst IsInRange is range).1
 change-sent range (takes count is) port sent = sent
 
-quiet-keeps : {event : Happening} {old new : State} → IsInRange event → Quiet event old new → Keeps old → Keeps new
+quiet-keeps : {event : Happening} {old new : State} → IsInRange event → Quiet event old new
+    → Keeps old → Keeps new
 quiet-keeps {old = old} range (alters number f change) keeps = record { keys = keeps.keys; sent = changed-sent number f old.ports (change-sent range change) keeps.sent }
-quiet-keeps {old = old} range (closes number may) keeps = record { keys = keeps.keys; sent = removed-sent number old.ports keeps.sent }
+quiet-keeps {old = old} range (closes number may) keeps =
+    record { keys = keeps.keys; sent = removed-sent number old.ports keeps.sent }
 quiet-keeps range (goes_on new goes) keeps = record { keys = keeps.keys; sent = keeps.sent }
 quiet-keeps {old = old} range (names job number new) keeps = record { keys = keeps.keys; sent = changed-sent number unheard old.ports (λ port is. no_bytes) keeps.sent }
 quiet-keeps {old = old} range (links job number new) keeps = record { keys = keeps.keys; sent = changed-sent number unheard old.ports (λ port is. no_bytes) keeps.sent }
 
 -- what it makes
-makes-keeps : {event : Happening} {old : State} {outcome : Outcome} → IsInRange event → Makes event old outcome → Keeps old → KeepsAfter outcome
+makes-keeps : {event : Happening} {old : State} {outcome : Outcome} → IsInRange event
+    → Makes event old outcome → Keeps old → KeepsAfter outcome
 makes-keeps range (stays state) keeps = record { state = keeps; put = none }
 makes-keeps range (first quiet rest) keeps =
     let later = makes-keeps range rest (quiet-keeps range quiet keeps) in
@@ -135,7 +152,8 @@ makes-keeps range (grants confirmation port state there opened) keeps = record {
   put = granted (grant-ends port.chain confirmation state) keeps.keys;
 }
 
-happens : (event : Happening) (state : State) → IsInRange event → Keeps state → KeepsAfter (handle event state)
+happens : (event : Happening) (state : State) → IsInRange event → Keeps state
+    → KeepsAfter (handle event state)
 happens event state range keeps =
     by_event KeepsAfter event state
     (λ door. record {
@@ -150,7 +168,8 @@ at_this_moment moment state keeps = record {
   sent = news-sent (told-moment moment state) keeps.sent;
 }
 
-steps : (state : State) (moment : Moment) (event : Happening) → IsInRange event → Keeps state → KeepsAfter (step state moment event)
+steps : (state : State) (moment : Moment) (event : Happening) → IsInRange event → Keeps state
+    → KeepsAfter (step state moment event)
 steps state moment event range keeps =
     let one = happens event (at_moment moment state) range (at_this_moment moment state keeps) in
     record {
@@ -165,11 +184,13 @@ abbrev pub EachPut : List Outcome → Type 0
 EachPut [] = Unit {0}
 EachPut (one ∷ later) = ArePut one.put × EachPut later
 
-puts_from : (state : State) (events : List Timed) → AreInRange events → Keeps state → EachPut (outcomes state events)
+puts_from : (state : State) (events : List Timed) → AreInRange events → Keeps state
+    → EachPut (outcomes state events)
 puts_from state [] range keeps = tt
 puts_from state (timed ∷ later) range keeps =
     let one = steps state timed.moment timed.event range.0.event keeps in
     (one.put, puts_from (step state timed.moment timed.event).state later range.1 one.state)
 
-pub puts : (settings : Settings) (events : List Timed) → AreInRange events → EachPut (outcomes (first_state settings) events)
+pub puts : (settings : Settings) (events : List Timed) → AreInRange events
+    → EachPut (outcomes (first_state settings) events)
 puts settings events range = puts_from (first_state settings) events range (record { keys = All-nil IsAddition; sent = All-nil SentBytes })

@@ -41,17 +41,22 @@ pub record Tracks (door : ℕ → Door) (f g : ℕ → List ℕ) (s t : State) :
   pub one : IsTracked door s
   pub other : IsTracked door t
   pub streams : Streams door f g s.ports t.ports
-  pub later : (number : ℕ) → s.last_port < number → door number ≡ Clients → AreAlikeStreams (f number) (g number)
+  pub later : (number : ℕ) → s.last_port < number → door number ≡ Clients
+      → AreAlikeStreams (f number) (g number)
 
 -- ---- ports of both
 
-found_pair : (h : Port → Port) (a b : Option Port) (p : Port) → option_map h a ≡ option_map h b → a ≡ Some p → (q : Port) × (b ≡ Some q) × (h p ≡ h q)
-found_pair h a None p same is = absurd (let e : option_map h (Some p) ≡ None = ap (option_map h) (sym is) ∙ same in cc)
+found_pair : (h : Port → Port) (a b : Option Port) (p : Port) → option_map h a ≡ option_map h b
+    → a ≡ Some p → (q : Port) × (b ≡ Some q) × (h p ≡ h q)
+found_pair h a None p same is =
+    absurd (let e : option_map h (Some p) ≡ None = ap (option_map h) (sym is) ∙ same in cc)
 found_pair h a (Some q) p same is =
     (q, refl, (let e : Some (h p) ≡ Some (h q) = ap (option_map h) (sym is) ∙ same in cc))
 
 -- a port that is open in one is open in the other
-pub pair_of : (s t : State) (number : ℕ) (p : Port) → without_secrets s ≡ without_secrets t → find_port number s.ports ≡ Some p → (q : Port) × (find_port number t.ports ≡ Some q) × (hide_port blanked p ≡ hide_port blanked q)
+pub pair_of : (s t : State) (number : ℕ) (p : Port) → without_secrets s ≡ without_secrets t
+    → find_port number s.ports ≡ Some p
+    → (q : Port) × (find_port number t.ports ≡ Some q) × (hide_port blanked p ≡ hide_port blanked q)
 pair_of s t number p same found =
     found_pair (hide_port blanked) (find_port number s.ports) (find_port number t.ports) p
     (sym (find_port-hidden blanked number s.ports) ∙ ap (λ (x : State). find_port number x.ports) same ∙ find_port-hidden blanked number t.ports) found
@@ -60,9 +65,12 @@ pair_of s t number p same found =
 
 pub data ArePair (door : ℕ → Door) : Happening → Happening → Type 0 where
   same_event : (event : Happening) → ArePair door event event
-  pieces : (port : ℕ) (one other : List ℕ) → hide_piece (door port) one ≡ hide_piece (door port) other → ArePair door (Heard port one) (Heard port other)
+  pieces : (port : ℕ) (one other : List ℕ)
+      → hide_piece (door port) one ≡ hide_piece (door port) other
+      → ArePair door (Heard port one) (Heard port other)
 
-pub pair : (door : ℕ → Door) (one other : Happening) → shape door one ≡ shape door other → ArePair door one other
+pub pair : (door : ℕ → Door) (one other : Happening) → shape door one ≡ shape door other
+    → ArePair door one other
 pair door (Joined through) (Joined other) same = subst (λ d. ArePair door (Joined through) (Joined d)) (let e : through ≡ other = cc in e) (same_event (Joined through))
 pair door (Heard port piece) (Heard other bytes) same =
     let is : port ≡ other = cc in
@@ -93,7 +101,8 @@ before event f number = heard_in number event ++ f number
 
 module _ (door : ℕ → Door) (f g : ℕ → List ℕ) where
   -- a quiet event brings nothing of a client
-  silent : (event : Happening) (state : State) (number : ℕ) (port : Port) → IsQuiet event state → find_port number state.ports ≡ Some port → port.door ≡ Clients → heard_in number event ≡ []
+  silent : (event : Happening) (state : State) (number : ℕ) (port : Port) → IsQuiet event state
+      → find_port number state.ports ≡ Some port → port.door ≡ Clients → heard_in number event ≡ []
   silent (Joined through) state number port quiet found client = refl
   silent (Heard other piece) state number port quiet found client = elim (cases_eq number other) [
     | inl same ↦ absurd (let child : port.door ≡ Children = quiet port (ap (λ n. find_port n state.ports) (sym same) ∙ found) in let e : Clients ≡ Children = sym client ∙ child in cc)
@@ -105,7 +114,9 @@ module _ (door : ℕ → Door) (f g : ℕ → List ℕ) where
   silent (StartFailed job) state number port quiet found client = refl
   silent Tick state number port quiet found client = refl
 
-  quiet-after : (event : Happening) (s t : State) → ((d : Door) → event ≡ Joined d → ⊥) → IsQuiet event s → IsQuiet event t → Tracks door (before event f) (before event g) s t → After door f g (handle event s) (handle event t)
+  quiet-after : (event : Happening) (s t : State) → ((d : Door) → event ≡ Joined d → ⊥)
+      → IsQuiet event s → IsQuiet event t → Tracks door (before event f) (before event g) s t
+      → After door f g (handle event s) (handle event t)
   quiet-after event s t other one two tracks = record {
     seen = quiet-alike length-hidden_bytes event s t tracks.same one two;
     streams = λ number p q at_p at_q client.
@@ -124,11 +135,13 @@ module _ (door : ℕ → Door) (f g : ℕ → List ℕ) where
 
   -- ---- a port joins
 
-  joined-seen : (through : Door) (state : State) → seen_of (join through state) ≡ bare (join through (without_secrets state))
+  joined-seen : (through : Door) (state : State)
+      → seen_of (join through state) ≡ bare (join through (without_secrets state))
   joined-seen through state =
       sym (exactly hidden length-hidden_bytes blanked (join through state) _ (join-hidden hidden length-hidden_bytes blanked through state refl))
 
-  joined-after : (through : Door) (s t : State) → Tracks door f g s t → After door f g (handle (Joined through) s) (handle (Joined through) t)
+  joined-after : (through : Door) (s t : State) → Tracks door f g s t
+      → After door f g (handle (Joined through) s) (handle (Joined through) t)
   joined-after through s t tracks = record {
     seen = joined-seen through s ∙ ap (λ state. bare (join through state)) tracks.same ∙ sym (joined-seen through t);
     streams = λ number p q at_p at_q client.
@@ -140,14 +153,20 @@ module _ (door : ℕ → Door) (f g : ℕ → List ℕ) where
       same_last : s.last_port ≡ t.last_port
       same_last = ap (λ (x : State). x.last_port) tracks.same
 
-      above : (number : ℕ) (p : Port) (state : State) → IsSound state → find_port number state.ports ≡ Some p → number ≡ suc state.last_port → ⊥
+      above : (number : ℕ) (p : Port) (state : State) → IsSound state
+          → find_port number state.ports ≡ Some p → number ≡ suc state.last_port → ⊥
       above number p state sound found is =
           let within = found_within number 0 state.last_port state.ports p sound.rising found in omega (arith, within, is)
 
-      by_both : (number : ℕ) (p q : Port) → door number ≡ Clients → (find_port number s.ports ≡ Some p) ⊎ ((number ≡ suc s.last_port) × (new_port (suc s.last_port) through ≡ p)) → (find_port number t.ports ≡ Some q) ⊎ ((number ≡ suc t.last_port) × (new_port (suc t.last_port) through ≡ q)) → AreAlikeStreams (p.heard ++ f number) (q.heard ++ g number)
+      by_both : (number : ℕ) (p q : Port) → door number ≡ Clients
+          → (find_port number s.ports ≡ Some p) ⊎ ((number ≡ suc s.last_port) × (new_port (suc s.last_port) through ≡ p))
+          → (find_port number t.ports ≡ Some q) ⊎ ((number ≡ suc t.last_port) × (new_port (suc t.last_port) through ≡ q))
+          → AreAlikeStreams (p.heard ++ f number) (q.heard ++ g number)
       by_both number p q client (inl at_p) (inl at_q) = tracks.streams number p q at_p at_q client
-      by_both number p q client (inl at_p) (inr new) = absurd (above number p s tracks.one.sound at_p (new.0 ∙ ap suc (sym same_last)))
-      by_both number p q client (inr new) (inl at_q) = absurd (above number q t tracks.other.sound at_q (new.0 ∙ ap suc same_last))
+      by_both number p q client (inl at_p) (inr new) =
+          absurd (above number p s tracks.one.sound at_p (new.0 ∙ ap suc (sym same_last)))
+      by_both number p q client (inr new) (inl at_q) =
+          absurd (above number q t tracks.other.sound at_q (new.0 ∙ ap suc same_last))
       by_both number p q client (inr new) (inr other_new) =
           subst (λ (x : Port). AreAlikeStreams (x.heard ++ f number) (q.heard ++ g number)) new.1
           (subst (λ (x : Port). AreAlikeStreams (f number) (x.heard ++ g number)) other_new.1
@@ -162,7 +181,10 @@ module _ (door : ℕ → Door) (f g : ℕ → List ℕ) where
     abbrev t1 : State
     t1 = changed number two t
 
-    pub look-after : without_secrets s1 ≡ without_secrets t1 → hide_port blanked (one p) ≡ hide_port blanked (two q) → length (one p).heard ≡ length (two q).heard → Streams door f g s1.ports t1.ports → After door f g (looked number s1) (looked number t1)
+    pub look-after : without_secrets s1 ≡ without_secrets t1
+        → hide_port blanked (one p) ≡ hide_port blanked (two q)
+        → length (one p).heard ≡ length (two q).heard → Streams door f g s1.ports t1.ports
+        → After door f g (looked number s1) (looked number t1)
     look-after same same_port lengths streams =
         let found_p : find_port number s1.ports ≡ Some (one p) = find_port-change_port number one s.ports keeps_one ∙ ap (option_map one) at_p in
         let found_q : find_port number t1.ports ≡ Some (two q) = find_port-change_port number two t.ports keeps_two ∙ ap (option_map two) at_q in
@@ -185,14 +207,17 @@ module _ (door : ℕ → Door) (f g : ℕ → List ℕ) where
 -- ---- what a client sends and takes
 
 -- what a client sent more, blanked or not
-more_by : (through : Door) (number : ℕ) (bytes piece : List ℕ) → through ≡ Clients → hide_heard blanked through number bytes ++ blank piece ≡ hide_heard blanked through number (bytes ++ piece)
+more_by : (through : Door) (number : ℕ) (bytes piece : List ℕ) → through ≡ Clients
+    → hide_heard blanked through number bytes ++ blank piece ≡ hide_heard blanked through number (bytes ++ piece)
 more_by Clients number bytes piece is = sym (blank-append bytes piece)
 more_by Children number bytes piece is = absurd (cc)
 
-more-hidden : (piece : List ℕ) (port : Port) → port.door ≡ Clients → heard_more (blank piece) (hide_port blanked port) ≡ hide_port blanked (heard_more piece port)
+more-hidden : (piece : List ℕ) (port : Port) → port.door ≡ Clients
+    → heard_more (blank piece) (hide_port blanked port) ≡ hide_port blanked (heard_more piece port)
 more-hidden piece port client = ap (λ bytes. let p : Port = record port { heard = bytes } in p) (more_by port.door port.number port.heard piece client)
 
-pub heard_lengths : (p q : Port) → hide_port blanked p ≡ hide_port blanked q → p.door ≡ Clients → q.door ≡ Clients → length p.heard ≡ length q.heard
+pub heard_lengths : (p q : Port) → hide_port blanked p ≡ hide_port blanked q → p.door ≡ Clients
+    → q.door ≡ Clients → length p.heard ≡ length q.heard
 heard_lengths p q same one other =
     let p_is : (hide_port blanked p).heard ≡ blank p.heard = ap (λ d. hide_heard blanked d p.number p.heard) one in
     let q_is : (hide_port blanked q).heard ≡ blank q.heard = ap (λ d. hide_heard blanked d q.number q.heard) other in
@@ -202,12 +227,15 @@ heard_lengths p q same one other =
 pub own_piece : (number : ℕ) (piece : List ℕ) → heard_in number (Heard number piece) ≡ piece
 own_piece number piece = grind (arith, nat_tests)
 
-pub no_piece : (number other : ℕ) (piece : List ℕ) → number ≢ other → heard_in number (Heard other piece) ≡ []
+pub no_piece : (number other : ℕ) (piece : List ℕ) → number ≢ other
+    → heard_in number (Heard other piece) ≡ []
 no_piece number other piece apart = grind (arith, nat_tests)
 
 module _ (door : ℕ → Door) (f g : ℕ → List ℕ) (s t : State) where
   module _ (number : ℕ) (p q : Port) (at_p : find_port number s.ports ≡ Some p) (at_q : find_port number t.ports ≡ Some q) (same_port : hide_port blanked p ≡ hide_port blanked q) (client : door number ≡ Clients) where
-    heard-after : (one other : List ℕ) → blank one ≡ blank other → Tracks door (before (Heard number one) f) (before (Heard number other) g) s t → After door f g (handle (Heard number one) s) (handle (Heard number other) t)
+    heard-after : (one other : List ℕ) → blank one ≡ blank other
+        → Tracks door (before (Heard number one) f) (before (Heard number other) g) s t
+        → After door f g (handle (Heard number one) s) (handle (Heard number other) t)
     heard-after one other alike tracks =
         let p_client : p.door ≡ Clients = tracks.one.doors number p at_p ∙ client in
         let q_client : q.door ≡ Clients = tracks.other.doors number q at_q ∙ client in
@@ -234,7 +262,8 @@ module _ (door : ℕ → Door) (f g : ℕ → List ℕ) (s t : State) where
         subst (λ o. After door f g o (handle (Heard number other) t)) (sym (handle-heard number one p s at_p p_client))
         (subst (After door f g (looked number (changed number (heard_more one) s))) (sym (handle-heard number other q t at_q q_client)) after)
 
-    took-after : (count : ℕ) → Tracks door f g s t → After door f g (handle (Took number count) s) (handle (Took number count) t)
+    took-after : (count : ℕ) → Tracks door f g s t
+        → After door f g (handle (Took number count) s) (handle (Took number count) t)
     took-after count tracks =
         let p_client : p.door ≡ Clients = tracks.one.doors number p at_p ∙ client in
         let q_client : q.door ≡ Clients = tracks.other.doors number q at_q ∙ client in
@@ -252,31 +281,41 @@ module _ (door : ℕ → Door) (f g : ℕ → List ℕ) (s t : State) where
 -- ---- every event
 
 -- a child process's port in one is one in the other
-child_too : (s t : State) (number : ℕ) → without_secrets s ≡ without_secrets t → IsChild number s → IsChild number t
+child_too : (s t : State) (number : ℕ) → without_secrets s ≡ without_secrets t → IsChild number s
+    → IsChild number t
 child_too s t number same child q found =
     let was = pair_of t s number q (sym same) found in
     ap (λ (x : Port). x.door) was.2 ∙ child was.0 was.1
 
-found_child : (state : State) (number : ℕ) (port : Port) → find_port number state.ports ≡ Some port → port.door ≡ Children → IsChild number state
+found_child : (state : State) (number : ℕ) (port : Port) → find_port number state.ports ≡ Some port
+    → port.door ≡ Children → IsChild number state
 found_child state number port found is other other_found =
     let same : port ≡ other = (let both : Some port ≡ Some other = sym found ∙ other_found in cc) in
     ap (λ (x : Port). x.door) (sym same) ∙ is
 
-absent_child : (state : State) (number : ℕ) → find_port number state.ports ≡ None → IsChild number state
-absent_child state number absent port found = absurd (let e : None ≡ Some port = sym absent ∙ found in cc)
+absent_child : (state : State) (number : ℕ) → find_port number state.ports ≡ None
+    → IsChild number state
+absent_child state number absent port found =
+    absurd (let e : None ≡ Some port = sym absent ∙ found in cc)
 
-absent_too : (s t : State) (number : ℕ) → without_secrets s ≡ without_secrets t → find_port number s.ports ≡ None → find_port number t.ports ≡ None
+absent_too : (s t : State) (number : ℕ) → without_secrets s ≡ without_secrets t
+    → find_port number s.ports ≡ None → find_port number t.ports ≡ None
 absent_too s t number same absent = by_found (find_port number t.ports) refl
   where
-    by_found : (found : Option Port) → find_port number t.ports ≡ found → find_port number t.ports ≡ None
+    by_found : (found : Option Port) → find_port number t.ports ≡ found
+        → find_port number t.ports ≡ None
     by_found None is = is
     by_found (Some q) is = absurd (let p = pair_of t s number q (sym same) is in let e : None ≡ Some p.0 = sym absent ∙ p.1 in cc)
 
-not_there : (state : State) (number other : ℕ) (port : Port) → find_port number state.ports ≡ None → find_port other state.ports ≡ Some port → other ≢ number
+not_there : (state : State) (number other : ℕ) (port : Port) → find_port number state.ports ≡ None
+    → find_port other state.ports ≡ Some port → other ≢ number
 not_there state number other port absent found same = let e : None ≡ Some port = sym absent ∙ ap (λ n. find_port n state.ports) (sym same) ∙ found in cc
 
 module _ (door : ℕ → Door) (f g : ℕ → List ℕ) (s t : State) where
-  pieces-by : (through : Door) (port : ℕ) (one other : List ℕ) (p : Port) → door port ≡ through → find_port port s.ports ≡ Some p → hide_piece through one ≡ hide_piece through other → Tracks door (before (Heard port one) f) (before (Heard port other) g) s t → After door f g (handle (Heard port one) s) (handle (Heard port other) t)
+  pieces-by : (through : Door) (port : ℕ) (one other : List ℕ) (p : Port) → door port ≡ through
+      → find_port port s.ports ≡ Some p → hide_piece through one ≡ hide_piece through other
+      → Tracks door (before (Heard port one) f) (before (Heard port other) g) s t
+      → After door f g (handle (Heard port one) s) (handle (Heard port other) t)
   pieces-by Clients port one other p is found alike tracks =
       let q = pair_of s t port p tracks.same found in
       heard-after door f g s t port p q.0 found q.1 q.2 is one other alike tracks
@@ -286,7 +325,10 @@ module _ (door : ℕ → Door) (f g : ℕ → List ℕ) (s t : State) where
       (λ same_tracks. quiet-after door f g (Heard port one) s t (λ d e. absurd (cc)) child (child_too s t port same_tracks.same child) same_tracks) tracks
 
   -- where the port isn't open, nothing comes of it
-  absent-after : (port : ℕ) (one other : List ℕ) → find_port port s.ports ≡ None → find_port port t.ports ≡ None → Tracks door (before (Heard port one) f) (before (Heard port other) g) s t → After door f g (handle (Heard port one) s) (handle (Heard port other) t)
+  absent-after : (port : ℕ) (one other : List ℕ) → find_port port s.ports ≡ None
+      → find_port port t.ports ≡ None
+      → Tracks door (before (Heard port one) f) (before (Heard port other) g) s t
+      → After door f g (handle (Heard port one) s) (handle (Heard port other) t)
   absent-after port one other absent other_absent tracks =
       subst (λ o. After door f g o (handle (Heard port other) t)) (sym (ap (λ found. heard_at found one s) absent))
       (subst (After door f g (stay s)) (sym (ap (λ found. heard_at found other t) other_absent)) (record {
@@ -298,11 +340,18 @@ module _ (door : ℕ → Door) (f g : ℕ → List ℕ) (s t : State) where
             (tracks.streams number p q at_p at_q client));
       }))
 
-  pieces-after : (port : ℕ) (one other : List ℕ) (found : Option Port) → find_port port s.ports ≡ found → hide_piece (door port) one ≡ hide_piece (door port) other → Tracks door (before (Heard port one) f) (before (Heard port other) g) s t → After door f g (handle (Heard port one) s) (handle (Heard port other) t)
-  pieces-after port one other None is alike tracks = absent-after port one other is (absent_too s t port tracks.same is) tracks
-  pieces-after port one other (Some p) is alike tracks = pieces-by (door port) port one other p refl is alike tracks
+  pieces-after : (port : ℕ) (one other : List ℕ) (found : Option Port)
+      → find_port port s.ports ≡ found → hide_piece (door port) one ≡ hide_piece (door port) other
+      → Tracks door (before (Heard port one) f) (before (Heard port other) g) s t
+      → After door f g (handle (Heard port one) s) (handle (Heard port other) t)
+  pieces-after port one other None is alike tracks =
+      absent-after port one other is (absent_too s t port tracks.same is) tracks
+  pieces-after port one other (Some p) is alike tracks =
+      pieces-by (door port) port one other p refl is alike tracks
 
-  took-by : (through : Door) (port count : ℕ) (p : Port) → door port ≡ through → find_port port s.ports ≡ Some p → Tracks door f g s t → After door f g (handle (Took port count) s) (handle (Took port count) t)
+  took-by : (through : Door) (port count : ℕ) (p : Port) → door port ≡ through
+      → find_port port s.ports ≡ Some p → Tracks door f g s t
+      → After door f g (handle (Took port count) s) (handle (Took port count) t)
   took-by Clients port count p is found tracks =
       let q = pair_of s t port p tracks.same found in
       took-after door f g s t port p q.0 found q.1 q.2 is count tracks
@@ -310,21 +359,31 @@ module _ (door : ℕ → Door) (f g : ℕ → List ℕ) (s t : State) where
       let child : IsChild port s = found_child s port p found (tracks.one.doors port p found ∙ is) in
       quiet-after door f g (Took port count) s t (λ d e. absurd (cc)) child (child_too s t port tracks.same child) tracks
 
-  took_found : (port count : ℕ) (found : Option Port) → find_port port s.ports ≡ found → Tracks door f g s t → After door f g (handle (Took port count) s) (handle (Took port count) t)
+  took_found : (port count : ℕ) (found : Option Port) → find_port port s.ports ≡ found
+      → Tracks door f g s t
+      → After door f g (handle (Took port count) s) (handle (Took port count) t)
   took_found port count None is tracks =
       let child : IsChild port s = absent_child s port is in
       quiet-after door f g (Took port count) s t (λ d e. absurd (cc)) child (child_too s t port tracks.same child) tracks
   took_found port count (Some p) is tracks = took-by (door port) port count p refl is tracks
 
-  same-after : (event : Happening) → Tracks door (before event f) (before event g) s t → After door f g (handle event s) (handle event t)
+  same-after : (event : Happening) → Tracks door (before event f) (before event g) s t
+      → After door f g (handle event s) (handle event t)
   same-after (Joined through) tracks = joined-after door f g through s t tracks
-  same-after (Heard port piece) tracks = pieces-after port piece piece (find_port port s.ports) refl refl tracks
-  same-after (Ended port) tracks = quiet-after door f g (Ended port) s t (λ d e. absurd (cc)) tt tt tracks
+  same-after (Heard port piece) tracks =
+      pieces-after port piece piece (find_port port s.ports) refl refl tracks
+  same-after (Ended port) tracks =
+      quiet-after door f g (Ended port) s t (λ d e. absurd (cc)) tt tt tracks
   same-after (Took port count) tracks = took_found port count (find_port port s.ports) refl tracks
-  same-after (Started job ticket) tracks = quiet-after door f g (Started job ticket) s t (λ d e. absurd (cc)) tt tt tracks
-  same-after (StartFailed job) tracks = quiet-after door f g (StartFailed job) s t (λ d e. absurd (cc)) tt tt tracks
+  same-after (Started job ticket) tracks =
+      quiet-after door f g (Started job ticket) s t (λ d e. absurd (cc)) tt tt tracks
+  same-after (StartFailed job) tracks =
+      quiet-after door f g (StartFailed job) s t (λ d e. absurd (cc)) tt tt tracks
   same-after Tick tracks = quiet-after door f g Tick s t (λ d e. absurd (cc)) tt tt tracks
 
-  pub handle-after : (one other : Happening) → ArePair door one other → Tracks door (before one f) (before other g) s t → After door f g (handle one s) (handle other t)
+  pub handle-after : (one other : Happening) → ArePair door one other
+      → Tracks door (before one f) (before other g) s t
+      → After door f g (handle one s) (handle other t)
   handle-after one other (same_event event) tracks = same-after event tracks
-  handle-after one other (pieces port first second alike) tracks = pieces-after port first second (find_port port s.ports) refl alike tracks
+  handle-after one other (pieces port first second alike) tracks =
+      pieces-after port first second (find_port port s.ports) refl alike tracks

@@ -35,36 +35,48 @@ use Rattle.agent_secrecy.proofs.RunLemmas.{ArePair, Tracks, handle-after, heard_
 
 -- ---- nothing is heard of a port that hasn't joined
 
-within_by : (state : State) (port : ℕ) (found : Option Port) → IsSound state → find_port port state.ports ≡ found → IsSome found → port ≤ state.last_port
+within_by : (state : State) (port : ℕ) (found : Option Port) → IsSound state
+    → find_port port state.ports ≡ found → IsSome found → port ≤ state.last_port
 within_by state port None sound is there = absurd (cc)
-within_by state port (Some p) sound is there = found_within port 0 state.last_port state.ports p sound.rising is
+within_by state port (Some p) sound is there =
+    found_within port 0 state.last_port state.ports p sound.rising is
 
-unheard_piece : (state : State) (number port : ℕ) (piece : List ℕ) → IsSound state → IsSome (find_port port state.ports) → state.last_port < number → heard_in number (Heard port piece) ≡ []
+unheard_piece : (state : State) (number port : ℕ) (piece : List ℕ) → IsSound state
+    → IsSome (find_port port state.ports) → state.last_port < number
+    → heard_in number (Heard port piece) ≡ []
 unheard_piece state number port piece sound there above =
     let within = within_by state port (find_port port state.ports) sound refl there in
     no_piece number port piece (λ same. omega (arith, within, above, same))
 
-unheard : (event : Happening) (state : State) (number : ℕ) → IsSound state → Fits event state → state.last_port < number → heard_in number event ≡ []
+unheard : (event : Happening) (state : State) (number : ℕ) → IsSound state → Fits event state
+    → state.last_port < number → heard_in number event ≡ []
 unheard (Joined through) state number sound fits above = refl
-unheard (Heard port piece) state number sound fits above = unheard_piece state number port piece sound fits.0 above
+unheard (Heard port piece) state number sound fits above =
+    unheard_piece state number port piece sound fits.0 above
 unheard (Ended port) state number sound fits above = refl
 unheard (Took port count) state number sound fits above = refl
 unheard (Started job ticket) state number sound fits above = refl
 unheard (StartFailed job) state number sound fits above = refl
 unheard Tick state number sound fits above = refl
 
-unheard_other : (door : ℕ → Door) (one other : Happening) (state : State) (number : ℕ) → ArePair door one other → IsSound state → Fits one state → state.last_port < number → heard_in number other ≡ []
-unheard_other door one other state number (same_event event) sound fits above = unheard event state number sound fits above
-unheard_other door one other state number (pieces port first second alike) sound fits above = unheard_piece state number port second sound fits.0 above
+unheard_other : (door : ℕ → Door) (one other : Happening) (state : State) (number : ℕ)
+    → ArePair door one other → IsSound state → Fits one state → state.last_port < number
+    → heard_in number other ≡ []
+unheard_other door one other state number (same_event event) sound fits above =
+    unheard event state number sound fits above
+unheard_other door one other state number (pieces port first second alike) sound fits above =
+    unheard_piece state number port second sound fits.0 above
 
-joins_other : (door : ℕ → Door) (one other : Happening) (last : ℕ) → ArePair door one other → JoinsThrough door last one → JoinsThrough door last other
+joins_other : (door : ℕ → Door) (one other : Happening) (last : ℕ) → ArePair door one other
+    → JoinsThrough door last one → JoinsThrough door last other
 joins_other door one other last (same_event event) joins = joins
 joins_other door one other last (pieces port first second alike) joins = tt
 
 -- ---- a step
 
 module _ (door : ℕ → Door) (f g : ℕ → List ℕ) where
-  moment-tracks : (moment : Moment) (s t : State) → Tracks door f g s t → Tracks door f g (at_moment moment s) (at_moment moment t)
+  moment-tracks : (moment : Moment) (s t : State) → Tracks door f g s t
+      → Tracks door f g (at_moment moment s) (at_moment moment t)
   moment-tracks moment s t tracks = record {
     same = sym (at_moment-hidden hidden length-hidden_bytes blanked moment s) ∙ ap (at_moment moment) tracks.same ∙ at_moment-hidden hidden length-hidden_bytes blanked moment t;
     one = tracked-moment door moment s tracks.one;
@@ -81,20 +93,25 @@ module _ (door : ℕ → Door) (f g : ℕ → List ℕ) where
   }
 
 -- what is seen of what a moment brings
-seen-moment : (moment : Moment) (s t : State) → without_secrets s ≡ without_secrets t → seen_of (time_passes moment s) ≡ seen_of (time_passes moment t)
+seen-moment : (moment : Moment) (s t : State) → without_secrets s ≡ without_secrets t
+    → seen_of (time_passes moment s) ≡ seen_of (time_passes moment t)
 seen-moment moment s t same =
     ap (λ (o : Outcome). let x : Seen = record { state = o.state; put = o.put; closes = o.closes } in x)
     (sym (time_passes-hidden hidden length-hidden_bytes blanked moment s) ∙ ap (time_passes moment) same ∙ time_passes-hidden hidden length-hidden_bytes blanked moment t)
 
 -- and of an event behind it
 abbrev seen_behind : (first then : Seen) → Seen
-seen_behind first then = record then { put = first.put ++ then.put; closes = put_all [] (first.closes ++ then.closes) }
+seen_behind first then =
+    record then { put = first.put ++ then.put; closes = put_all [] (first.closes ++ then.closes) }
 
-seen-behind : (first then : Outcome) → seen_of (in_order (behind first then)) ≡ seen_behind (seen_of first) (seen_of then)
+seen-behind : (first then : Outcome)
+    → seen_of (in_order (behind first then)) ≡ seen_behind (seen_of first) (seen_of then)
 seen-behind first then =
     ap (λ put. let x : Seen = record (seen_of (in_order (behind first then))) { put = put } in x) (map-append (hide_message hidden) first.put then.put)
 
-seen-step : (first then other next : Outcome) → seen_of first ≡ seen_of other → seen_of then ≡ seen_of next → seen_of (in_order (behind first then)) ≡ seen_of (in_order (behind other next))
+seen-step : (first then other next : Outcome) → seen_of first ≡ seen_of other
+    → seen_of then ≡ seen_of next
+    → seen_of (in_order (behind first then)) ≡ seen_of (in_order (behind other next))
 seen-step first then other next same later =
     seen-behind first then ∙ ap (λ x. seen_behind x (seen_of then)) same ∙ ap (seen_behind (seen_of other)) later ∙ sym (seen-behind other next)
 
@@ -105,7 +122,10 @@ record Stepped (door : ℕ → Door) (f g : ℕ → List ℕ) (o u : Outcome) : 
   seen : seen_of o ≡ seen_of u
   tracks : Tracks door f g o.state u.state
 
-stepped : (door : ℕ → Door) (f g : ℕ → List ℕ) (s t : State) (moment : Moment) (one other : Happening) → ArePair door one other → Fits one s → JoinsThrough door s.last_port one → Tracks door (to_come one f) (to_come other g) s t → Stepped door f g (step s moment one) (step t moment other)
+stepped : (door : ℕ → Door) (f g : ℕ → List ℕ) (s t : State) (moment : Moment) (one other : Happening)
+    → ArePair door one other → Fits one s → JoinsThrough door s.last_port one
+    → Tracks door (to_come one f) (to_come other g) s t
+    → Stepped door f g (step s moment one) (step t moment other)
 stepped door f g s t moment one other both fits joins tracks =
     let opened = moment-tracks door (to_come one f) (to_come other g) moment s t tracks in
     let after = handle-after door f g (at_moment moment s) (at_moment moment t) one other both opened in
@@ -129,16 +149,22 @@ stepped door f g s t moment one other both fits joins tracks =
 
 -- ---- what is seen of it
 
-pub owed_at_client : (port : Port) (under_way : UnderWay) → port.door ≡ Clients → owed_by (Some port) under_way ≡ port.owed
-owed_at_client port under_way client = ap (λ d. owed_as (role_of d port.number under_way) port under_way) client
+pub owed_at_client : (port : Port) (under_way : UnderWay) → port.door ≡ Clients
+    → owed_by (Some port) under_way ≡ port.owed
+owed_at_client port under_way client =
+    ap (λ d. owed_as (role_of d port.number under_way) port under_way) client
 
 -- a client is to be read in both
-more_in : {h k f g : List ℕ} (one other : Front) → AreAlikeFronts h k f g one other → is_more one ≡ is_more other
+more_in : {h k f g : List ℕ} (one other : Front) → AreAlikeFronts h k f g one other
+    → is_more one ≡ is_more other
 more_in one other (both_whole body_len bodies streams) = refl
 more_in one other (both_bad first second) = refl
 more_in one other both_more = refl
 
-wants_at_by : (door : ℕ → Door) (f g : ℕ → List ℕ) (s t : State) (number : ℕ) (p q : Port) (through : Door) → Tracks door f g s t → find_port number s.ports ≡ Some p → find_port number t.ports ≡ Some q → hide_port blanked p ≡ hide_port blanked q → p.door ≡ through → wants_more through p.heard ≡ wants_more through q.heard
+wants_at_by : (door : ℕ → Door) (f g : ℕ → List ℕ) (s t : State) (number : ℕ) (p q : Port) (through : Door)
+    → Tracks door f g s t → find_port number s.ports ≡ Some p → find_port number t.ports ≡ Some q
+    → hide_port blanked p ≡ hide_port blanked q → p.door ≡ through
+    → wants_more through p.heard ≡ wants_more through q.heard
 wants_at_by door f g s t number p q Children tracks at_p at_q same is = refl
 wants_at_by door f g s t number p q Clients tracks at_p at_q same is =
     let client : door number ≡ Clients = sym (tracks.one.doors number p at_p) ∙ is in
@@ -146,7 +172,9 @@ wants_at_by door f g s t number p q Clients tracks at_p at_q same is =
     more_in (front longest_body p.heard) (front longest_body q.heard)
     (alike_fronts p.heard q.heard (f number) (g number) (heard_lengths p q same is q_is) (tracks.streams number p q at_p at_q client))
 
-wants-by : (door : ℕ → Door) (f g : ℕ → List ℕ) (s t : State) (number : ℕ) (one other : Option Port) → Tracks door f g s t → find_port number s.ports ≡ one → find_port number t.ports ≡ other → wants_by one ≡ wants_by other
+wants-by : (door : ℕ → Door) (f g : ℕ → List ℕ) (s t : State) (number : ℕ) (one other : Option Port)
+    → Tracks door f g s t → find_port number s.ports ≡ one → find_port number t.ports ≡ other
+    → wants_by one ≡ wants_by other
 wants-by door f g s t number None None tracks is other_is = refl
 wants-by door f g s t number None (Some q) tracks is other_is =
     absurd (let p = pair_of t s number q (sym tracks.same) other_is in let e : None ≡ Some p.0 = sym is ∙ p.1 in cc)
@@ -162,7 +190,8 @@ wants-by door f g s t number (Some p) (Some q) tracks is other_is =
 next_due-hidden : (state : State) → next_due (without_secrets state) ≡ next_due state
 next_due-hidden state = ap (λ death. earlier death (next_limit state.under_way)) (next_death-hidden hidden state.held.table.identities)
 
-seen-alike : (o u : Outcome) → seen_of o ≡ seen_of u → ((number : ℕ) → wants number o.state ≡ wants number u.state) → IsAlikeSeen o u
+seen-alike : (o u : Outcome) → seen_of o ≡ seen_of u
+    → ((number : ℕ) → wants number o.state ≡ wants number u.state) → IsAlikeSeen o u
 seen-alike o u same wanted =
     let state : without_secrets o.state ≡ without_secrets u.state = ap (λ (x : Seen). x.state) same in
     record {
@@ -187,7 +216,8 @@ seen-alike o u same wanted =
 
 -- ---- runs
 
-runs : (door : ℕ → Door) (ones others : List Timed) (s t : State) → AreOfOneShape door ones others → JoinThrough door s.last_port ones → AllFit s ones
+runs : (door : ℕ → Door) (ones others : List Timed) (s t : State) → AreOfOneShape door ones others
+    → JoinThrough door s.last_port ones → AllFit s ones
     → Tracks door (λ number. stream_of number ones) (λ number. stream_of number others) s t → AreAlikeSeen (outcomes s ones) (outcomes t others)
 runs door [] [] s t shapes joins fit tracks = tt
 runs door [] (other ∷ others) s t shapes joins fit tracks = absurd shapes
@@ -203,7 +233,9 @@ runs door (one ∷ ones) (other ∷ others) s t shapes joins fit tracks =
       runs door ones others (step s one.moment one.event).state (step t one.moment other.event).state shapes.2 later_joins fit.1 next.tracks,
     ))
 
-first-tracks : (settings : Settings) (door : ℕ → Door) (f g : ℕ → List ℕ) → ((number : ℕ) → door number ≡ Clients → AreAlikeStreams (f number) (g number)) → Tracks door f g (first_state settings) (first_state settings)
+first-tracks : (settings : Settings) (door : ℕ → Door) (f g : ℕ → List ℕ)
+    → ((number : ℕ) → door number ≡ Clients → AreAlikeStreams (f number) (g number))
+    → Tracks door f g (first_state settings) (first_state settings)
 first-tracks settings door f g streams = record {
   same = refl;
   one = record { sound = first_is_sound settings; doors = λ number port found. absurd (cc) };
@@ -212,7 +244,9 @@ first-tracks settings door f g streams = record {
   later = λ number above client. streams number client;
 }
 
-pub every_run : (settings : Settings) (one other : List Timed) → AreAlike one other → AllFit (first_state settings) one → AreAlikeSeen (outcomes (first_state settings) one) (outcomes (first_state settings) other)
+pub every_run : (settings : Settings) (one other : List Timed) → AreAlike one other
+    → AllFit (first_state settings) one
+    → AreAlikeSeen (outcomes (first_state settings) one) (outcomes (first_state settings) other)
 every_run settings one other alike fit =
     runs alike.door one other (first_state settings) (first_state settings) alike.shapes alike.joins fit
     (first-tracks settings alike.door (λ number. stream_of number one) (λ number. stream_of number other) alike.streams)

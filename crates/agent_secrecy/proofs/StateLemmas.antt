@@ -50,27 +50,38 @@ module _ (key : List ℕ → List ℕ) (keeps : (bytes : List ℕ) → length (k
   }
 
   -- what nothing was put in, or no more than what was hidden already
-  pub exactly : (one hidden_one : Outcome) → hidden_one ≡ hide_outcome one → bare hidden_one ≡ seen key heard one
-  exactly one hidden_one same = ap bare same ∙ ap (seen_owed one) (blank-twice one.state.under_way.link.owed)
+  pub exactly : (one hidden_one : Outcome) → hidden_one ≡ hide_outcome one
+      → bare hidden_one ≡ seen key heard one
+  exactly one hidden_one same =
+      ap bare same ∙ ap (seen_owed one) (blank-twice one.state.under_way.link.owed)
 
-  pub closed-hidden : (number : ℕ) (state : State) → closed number (hide state) ≡ hide (closed number state)
-  closed-hidden number state = ap (with_ports (hide state)) (remove_port-hidden heard number state.ports)
+  pub closed-hidden : (number : ℕ) (state : State)
+      → closed number (hide state) ≡ hide (closed number state)
+  closed-hidden number state =
+      ap (with_ports (hide state)) (remove_port-hidden heard number state.ports)
 
-  pub changed-hidden : (number : ℕ) (f g : Port → Port) (state : State) → ((port : Port) → find_port number state.ports ≡ Some port → g (hide_port heard port) ≡ hide_port heard (f port)) → changed number g (hide state) ≡ hide (changed number f state)
-  changed-hidden number f g state same = ap (with_ports (hide state)) (change_port-hidden heard number f g state.ports same)
+  pub changed-hidden : (number : ℕ) (f g : Port → Port) (state : State)
+      → ((port : Port) → find_port number state.ports ≡ Some port → g (hide_port heard port) ≡ hide_port heard (f port))
+      → changed number g (hide state) ≡ hide (changed number f state)
+  changed-hidden number f g state same =
+      ap (with_ports (hide state)) (change_port-hidden heard number f g state.ports same)
 
   -- these actions led to the state and closed these ports
   abbrev done : List Action → State → List ℕ → Outcome
   done actions state closes = record { state = state; actions = actions; put = []; closes = closes }
 
   -- one thing, and then another
-  pub and_then-hidden : (one hidden_one : Outcome) (next : State → Outcome) → hidden_one ≡ hide_outcome one → next (hide one.state) ≡ hide_outcome (next one.state) → and_then hidden_one next ≡ hide_outcome (and_then one next)
+  pub and_then-hidden : (one hidden_one : Outcome) (next : State → Outcome)
+      → hidden_one ≡ hide_outcome one → next (hide one.state) ≡ hide_outcome (next one.state)
+      → and_then hidden_one next ≡ hide_outcome (and_then one next)
   and_then-hidden one hidden_one next same later =
       ap (λ first. and_then first next) same ∙ ap (behind (hide_outcome one)) later
       ∙ ap (λ put. let left : Outcome = record (hide_outcome (and_then one next)) { put = put } in left) (sym (map-append (hide_message key) one.put (next one.state).put))
 
   -- a port is closed, and then this happens
-  pub shut_then-hidden : (number : ℕ) (next : State → Outcome) (state : State) → next (hide (closed number state)) ≡ hide_outcome (next (closed number state)) → shut_then number next (hide state) ≡ hide_outcome (shut_then number next state)
+  pub shut_then-hidden : (number : ℕ) (next : State → Outcome) (state : State)
+      → next (hide (closed number state)) ≡ hide_outcome (next (closed number state))
+      → shut_then number next (hide state) ≡ hide_outcome (shut_then number next state)
   shut_then-hidden number next state same =
       ap (λ left. with_closing left (closing number (hide_ports heard state.ports) left.closes)) (ap next (closed-hidden number state) ∙ same)
       ∙ ap (with_closing (hide_outcome (next (closed number state)))) (closing-hidden heard number state.ports (next (closed number state)).closes)
@@ -78,7 +89,8 @@ module _ (key : List ℕ → List ℕ) (keeps : (bytes : List ℕ) → length (k
       with_closing : Outcome → List ℕ → Outcome
       with_closing left closes = record left { closes = closes }
 
-  pub shut-hidden : (number : ℕ) (state : State) → shut number (hide state) ≡ hide_outcome (shut number state)
+  pub shut-hidden : (number : ℕ) (state : State)
+      → shut number (hide state) ≡ hide_outcome (shut number state)
   shut-hidden number state = shut_then-hidden number stay state refl
 
   -- ---- the loss of the helper
@@ -90,11 +102,13 @@ module _ (key : List ℕ → List ℕ) (keeps : (bytes : List ℕ) → length (k
       ∙ tell_each-hidden heard (Refuses HelperLost) (askers state.under_way.link.asks) (close_helper state.under_way.link.state state.ports))
       ∙ ap (done (Lost ∷ []) (hide (lose state).state)) (helper_closes-hidden heard state.under_way.link.state state.ports)
 
-  pub lose_where-hidden : (is : Bool) (state : State) → lose_where is (hide state) ≡ hide_outcome (lose_where is state)
+  pub lose_where-hidden : (is : Bool) (state : State)
+      → lose_where is (hide state) ≡ hide_outcome (lose_where is state)
   lose_where-hidden false state = refl
   lose_where-hidden true state = lose-hidden state
 
-  pub lose_if-hidden : (fault : Option LinkFault) (state : State) → lose_if fault (hide state) ≡ hide_outcome (lose_if fault state)
+  pub lose_if-hidden : (fault : Option LinkFault) (state : State)
+      → lose_if fault (hide state) ≡ hide_outcome (lose_if fault state)
   lose_if-hidden None state = refl
   lose_if-hidden (Some fault) state = lose-hidden state
 
@@ -103,15 +117,18 @@ module _ (key : List ℕ → List ℕ) (keeps : (bytes : List ℕ) → length (k
   abbrev hide_answering : Answering → Answering
   hide_answering before = record before { ports = hide_ports heard before.ports }
 
-  answer_asker-hidden : (verdict : Verdict) (one : Settled) (before : Answering) → answer_asker verdict one (hide_answering before) ≡ hide_answering (answer_asker verdict one before)
+  answer_asker-hidden : (verdict : Verdict) (one : Settled) (before : Answering)
+      → answer_asker verdict one (hide_answering before) ≡ hide_answering (answer_asker verdict one before)
   answer_asker-hidden verdict one before =
       ap (λ ports. let new : Answering = record (answer_asker verdict one before) { ports = ports } in new) (tell-hidden heard one.asker verdict before.ports)
 
-  proved_where_open-hidden : (found : Option Port) (verification : Verification) → proved_where_open (option_map (hide_port heard) found) verification ≡ proved_where_open found verification
+  proved_where_open-hidden : (found : Option Port) (verification : Verification)
+      → proved_where_open (option_map (hide_port heard) found) verification ≡ proved_where_open found verification
   proved_where_open-hidden None verification = refl
   proved_where_open-hidden (Some port) verification = refl
 
-  answer_true-hidden : (found : Option Verification) (one : Settled) (before : Answering) → answer_true found one (hide_answering before) ≡ hide_answering (answer_true found one before)
+  answer_true-hidden : (found : Option Verification) (one : Settled) (before : Answering)
+      → answer_true found one (hide_answering before) ≡ hide_answering (answer_true found one before)
   answer_true-hidden None one before = answer_asker-hidden (Replies Success) one before
   answer_true-hidden (Some verification) one before =
       ap (λ ports. let new : Answering = record { ports = ports; verifications = remove_verification one.ask before.verifications; actions = before.actions ++ Answered one ∷ proved_where_open (find_port one.asker (hide_ports heard before.ports)) verification } in new)
@@ -119,21 +136,28 @@ module _ (key : List ℕ → List ℕ) (keeps : (bytes : List ℕ) → length (k
       ∙ ap (λ more. let new : Answering = record { ports = hide_ports heard (change_port one.asker (prove verification) before.ports); verifications = remove_verification one.ask before.verifications; actions = before.actions ++ Answered one ∷ more } in new)
       (ap (λ found. proved_where_open found verification) (find_port-hidden heard one.asker before.ports) ∙ proved_where_open-hidden (find_port one.asker before.ports) verification)
 
-  answer_by-hidden : (what : Answer) (one : Settled) (before : Answering) → answer_by what one (hide_answering before) ≡ hide_answering (answer_by what one before)
-  answer_by-hidden (answer.Signed signature) one before = answer_asker-hidden (Replies (Signature signature)) one before
-  answer_by-hidden answer.Refused one before = answer_asker-hidden (Refuses HelperRefused) one before
-  answer_by-hidden answer.True one before = answer_true-hidden (find_verification one.ask before.verifications) one before
+  answer_by-hidden : (what : Answer) (one : Settled) (before : Answering)
+      → answer_by what one (hide_answering before) ≡ hide_answering (answer_by what one before)
+  answer_by-hidden (answer.Signed signature) one before =
+      answer_asker-hidden (Replies (Signature signature)) one before
+  answer_by-hidden answer.Refused one before =
+      answer_asker-hidden (Refuses HelperRefused) one before
+  answer_by-hidden answer.True one before =
+      answer_true-hidden (find_verification one.ask before.verifications) one before
   answer_by-hidden answer.False one before = answer_asker-hidden (Refuses SignatureWrong) one before
 
-  answer_all-hidden : (settled : List Settled) (before : Answering) → answer_all settled (hide_answering before) ≡ hide_answering (answer_all settled before)
+  answer_all-hidden : (settled : List Settled) (before : Answering)
+      → answer_all settled (hide_answering before) ≡ hide_answering (answer_all settled before)
   answer_all-hidden [] before = refl
   answer_all-hidden (one ∷ later) before = ap (answer_all later) (answer_by-hidden one.answer one before) ∙ answer_all-hidden later (answer_by one.answer one before)
 
-  told_state-hidden : (link : HelperLink) (settled : List Settled) (state : State) → with_answers (hide_link link) (answers_in settled (hide state)) (hide state) ≡ hide (with_answers link (answers_in settled state) state)
+  told_state-hidden : (link : HelperLink) (settled : List Settled) (state : State)
+      → with_answers (hide_link link) (answers_in settled (hide state)) (hide state) ≡ hide (with_answers link (answers_in settled state) state)
   told_state-hidden link settled state =
       ap (λ answers. with_answers (hide_link link) answers (hide state)) (answer_all-hidden settled (record { ports = state.ports; verifications = state.under_way.verifications; actions = [] }))
 
-  told_actions-hidden : (settled : List Settled) (state : State) → (answers_in settled (hide state)).actions ≡ (answers_in settled state).actions
+  told_actions-hidden : (settled : List Settled) (state : State)
+      → (answers_in settled (hide state)).actions ≡ (answers_in settled state).actions
   told_actions-hidden settled state =
       ap (λ (answers : Answering). answers.actions) (answer_all-hidden settled (record { ports = state.ports; verifications = state.under_way.verifications; actions = [] }))
 
@@ -143,34 +167,40 @@ module _ (key : List ℕ → List ℕ) (keeps : (bytes : List ℕ) → length (k
       ∙ ap (λ new. and_then (acted (answers_in settled state).actions new) (lose_if fault)) (told_state-hidden link settled state)
       ∙ ap (behind (acted (answers_in settled state).actions (hide (with_answers link (answers_in settled state) state)))) (lose_if-hidden fault (with_answers link (answers_in settled state) state))
 
-  pub helper_heard-hidden : (piece : List ℕ) (state : State) → helper_heard piece (hide state) ≡ hide_outcome (helper_heard piece state)
+  pub helper_heard-hidden : (piece : List ℕ) (state : State)
+      → helper_heard piece (hide state) ≡ hide_outcome (helper_heard piece state)
   helper_heard-hidden piece state =
       let told : Telling = telling piece state.under_way.link in
       tells-hidden told.link told.settled told.fault state
 
   -- ---- consent
 
-  pub over-hidden : (confirmation : Confirmation) (state : State) → over confirmation (hide state) ≡ hide_outcome (over confirmation state)
+  pub over-hidden : (confirmation : Confirmation) (state : State)
+      → over confirmation (hide state) ≡ hide_outcome (over confirmation state)
   over-hidden confirmation state =
       ap (λ ports. done (Over confirmation.job ∷ []) (with_ports (hide (over confirmation state).state) ports) (confirmer_closes confirmation.port (hide_ports heard state.ports)))
       (ap (change_port confirmation.asker (tell (Refuses NotConfirmed))) (close_confirmer-hidden heard confirmation.port state.ports)
       ∙ tell-hidden heard confirmation.asker (Refuses NotConfirmed) (close_confirmer confirmation.port state.ports))
       ∙ ap (done (Over confirmation.job ∷ []) (hide (over confirmation state).state)) (confirmer_closes-hidden heard confirmation.port state.ports)
 
-  pub over_if-hidden : (found : Option Confirmation) (state : State) → over_if found (hide state) ≡ hide_outcome (over_if found state)
+  pub over_if-hidden : (found : Option Confirmation) (state : State)
+      → over_if found (hide state) ≡ hide_outcome (over_if found state)
   over_if-hidden None state = refl
   over_if-hidden (Some confirmation) state = over-hidden confirmation state
 
   grant_unless-hidden : (denial : Option Denial) (held : HeldKey) (confirmation : Confirmation) (under_way : UnderWay) → work_bare (grant_unless denial (hide_key key held) confirmation (hide_under_way under_way)) ≡ work_seen key (grant_unless denial held confirmation under_way)
-  grant_unless-hidden (Some denial) held confirmation under_way = settles-hidden key keeps (Refuses NoLongerAllowed) under_way
+  grant_unless-hidden (Some denial) held confirmation under_way =
+      settles-hidden key keeps (Refuses NoLongerAllowed) under_way
   grant_unless-hidden None held confirmation under_way = put_ask-hidden key keeps (Signs held (signing_of held confirmation)) confirmation.asker under_way
 
   grant_with-hidden : (found : Option HeldKey) (chain : List Binding) (confirmation : Confirmation) (wall : ℕ) (under_way : UnderWay) → work_bare (grant_with (option_map (hide_key key) found) chain confirmation wall (hide_under_way under_way)) ≡ work_seen key (grant_with found chain confirmation wall under_way)
-  grant_with-hidden None chain confirmation wall under_way = settles-hidden key keeps (Refuses NoLongerAllowed) under_way
+  grant_with-hidden None chain confirmation wall under_way =
+      settles-hidden key keeps (Refuses NoLongerAllowed) under_way
   grant_with-hidden (Some held) chain confirmation wall under_way = grant_unless-hidden (denial_under held.rules held.blob chain confirmation.message wall) held confirmation under_way
 
   grant_by-hidden : (lock : Option (List ℕ)) (held : KeyState) (chain : List Binding) (confirmation : Confirmation) (wall : ℕ) (under_way : UnderWay) → work_bare (grant_by lock (hide_held key held) chain confirmation wall (hide_under_way under_way)) ≡ work_seen key (grant_by lock held chain confirmation wall under_way)
-  grant_by-hidden (Some passphrase) held chain confirmation wall under_way = settles-hidden key keeps (Refuses NoLongerAllowed) under_way
+  grant_by-hidden (Some passphrase) held chain confirmation wall under_way =
+      settles-hidden key keeps (Refuses NoLongerAllowed) under_way
   grant_by-hidden None held chain confirmation wall under_way =
       ap (λ found. work_bare (grant_with found chain confirmation wall (hide_under_way under_way))) (find_number-hidden key confirmation.addition held.table.identities)
       ∙ grant_with-hidden (find_number confirmation.addition held.table.identities) chain confirmation wall under_way
@@ -182,7 +212,9 @@ module _ (key : List ℕ → List ℕ) (keeps : (bytes : List ℕ) → length (k
     closes = closes;
   }
 
-  grant_concluded-hidden : (hidden_work work : Work) (confirmation : Confirmation) (state : State) → work_bare hidden_work ≡ work_seen key work → bare (grant_concluded hidden_work confirmation (hide state)) ≡ seen key heard (grant_concluded work confirmation state)
+  grant_concluded-hidden : (hidden_work work : Work) (confirmation : Confirmation) (state : State)
+      → work_bare hidden_work ≡ work_seen key work
+      → bare (grant_concluded hidden_work confirmation (hide state)) ≡ seen key heard (grant_concluded work confirmation state)
   grant_concluded-hidden hidden_work work confirmation state same =
       ap (granted_with confirmation state (close_confirmer confirmation.port (hide_ports heard state.ports)) (confirmer_closes confirmation.port (hide_ports heard state.ports))) same
       ∙ ap (λ ports. granted_with confirmation state ports (confirmer_closes confirmation.port (hide_ports heard state.ports)) (work_seen key work)) (close_confirmer-hidden heard confirmation.port state.ports)
@@ -192,21 +224,26 @@ module _ (key : List ℕ → List ℕ) (keeps : (bytes : List ℕ) → length (k
       ∙ ap (λ ports. let new : Seen = record { state = record (hide state) { held = hide_held key (after_use work.used state.held); ports = ports; under_way = hide_under_way work.under_way }; put = map (hide_message key) work.put; closes = confirmer_closes confirmation.port state.ports } in new)
       (tell-hidden heard confirmation.asker work.verdict (close_confirmer confirmation.port state.ports))
 
-  grant_to-hidden : (found : Option Port) (confirmation : Confirmation) (state : State) → bare (grant_to (option_map (hide_port heard) found) confirmation (hide state)) ≡ seen key heard (grant_to found confirmation state)
+  grant_to-hidden : (found : Option Port) (confirmation : Confirmation) (state : State)
+      → bare (grant_to (option_map (hide_port heard) found) confirmation (hide state)) ≡ seen key heard (grant_to found confirmation state)
   grant_to-hidden None confirmation state = exactly (stay state) _ refl
   grant_to-hidden (Some port) confirmation state =
       grant_concluded-hidden (grant_work port.chain confirmation (hide state)) (grant_work port.chain confirmation state) confirmation state
       (grant_by-hidden state.held.lock state.held port.chain confirmation state.moment.wall (without_confirmation confirmation.job state.under_way))
 
-  pub grant-hidden : (confirmation : Confirmation) (state : State) → bare (grant confirmation (hide state)) ≡ seen key heard (grant confirmation state)
+  pub grant-hidden : (confirmation : Confirmation) (state : State)
+      → bare (grant confirmation (hide state)) ≡ seen key heard (grant confirmation state)
   grant-hidden confirmation state =
       ap (λ found. bare (grant_to found confirmation (hide state))) (find_port-hidden heard confirmation.asker state.ports)
       ∙ grant_to-hidden (find_port confirmation.asker state.ports) confirmation state
 
   consent_by-hidden : (what : Consent) (confirmation : Confirmation) (piece : List ℕ) (state : State) → bare (consent_by what confirmation piece (hide state)) ≡ seen key heard (consent_by what confirmation piece state)
-  consent_by-hidden NotYet confirmation piece state = exactly (stay (with_heard confirmation.job piece state)) _ refl
+  consent_by-hidden NotYet confirmation piece state =
+      exactly (stay (with_heard confirmation.job piece state)) _ refl
   consent_by-hidden Yes confirmation piece state = grant-hidden confirmation state
-  consent_by-hidden No confirmation piece state = exactly (over confirmation state) _ (over-hidden confirmation state)
+  consent_by-hidden No confirmation piece state =
+      exactly (over confirmation state) _ (over-hidden confirmation state)
 
-  pub confirmer_heard-hidden : (confirmation : Confirmation) (piece : List ℕ) (state : State) → bare (confirmer_heard confirmation piece (hide state)) ≡ seen key heard (confirmer_heard confirmation piece state)
+  pub confirmer_heard-hidden : (confirmation : Confirmation) (piece : List ℕ) (state : State)
+      → bare (confirmer_heard confirmation piece (hide state)) ≡ seen key heard (confirmer_heard confirmation piece state)
   confirmer_heard-hidden confirmation piece state = consent_by-hidden (consent confirmation.job (confirmation.heard ++ piece)) confirmation piece state

@@ -33,7 +33,8 @@ all_sym : (ones others : List (List ℕ)) → AreAllAlike ones others → AreAll
 all_sym [] [] alike = tt
 all_sym [] (other ∷ others) alike = absurd alike
 all_sym (one ∷ ones) [] alike = absurd alike
-all_sym (one ∷ ones) (other ∷ others) alike = (bodies_sym one other alike.0, all_sym ones others alike.1)
+all_sym (one ∷ ones) (other ∷ others) alike =
+    (bodies_sym one other alike.0, all_sym ones others alike.1)
 
 pub streams_sym : (one other : List ℕ) → AreAlikeStreams one other → AreAlikeStreams other one
 streams_sym one other alike = record {
@@ -55,14 +56,16 @@ body_lengths one other (inr alike) = omega (
 )
 
 -- the split of a stream of which a whole frame was heard
-split-heard : (max : ℕ) (s t : List ℕ) (body_len : ℕ) → front max s ≡ Whole body_len → split max (s ++ t) ≡ then_split (front_body body_len s ∷ []) (split max (after_front body_len s ++ t))
+split-heard : (max : ℕ) (s t : List ℕ) (body_len : ℕ) → front max s ≡ Whole body_len
+    → split max (s ++ t) ≡ then_split (front_body body_len s ∷ []) (split max (after_front body_len s ++ t))
 split-heard max s t body_len found =
     split-whole max (s ++ t) body_len (front-append_whole max s t body_len found)
     ∙ ap (λ (b : List ℕ). then_split (b ∷ []) (split max (after_front body_len (s ++ t)))) (front_body-append max s t body_len found)
     ∙ ap (λ (r : List ℕ). then_split (front_body body_len s ∷ []) (split max r)) (after_front-append max s t body_len found)
 
 -- a whole frame that was heard to its end
-heard_whole : (max : ℕ) (s t : List ℕ) (body_len : ℕ) → front max (s ++ t) ≡ Whole body_len → 4 + body_len ≤ length s → front max s ≡ Whole body_len
+heard_whole : (max : ℕ) (s t : List ℕ) (body_len : ℕ) → front max (s ++ t) ≡ Whole body_len
+    → 4 + body_len ≤ length s → front max s ≡ Whole body_len
 heard_whole max s t body_len found enough =
     let is = front_says max (s ++ t) (Whole body_len) found in
     let same : announced_len (s ++ t) ≡ announced_len s = announced_len-append s t (omega arith) in
@@ -89,7 +92,8 @@ pub record IsWholeToo (h k f g : List ℕ) (body_len : ℕ) : Type 0 where
 
 module _ (h k f g : List ℕ) (lengths : length h ≡ length k) where
   -- by what stands at the front of the other stream
-  whole_by : (body_len : ℕ) (answer : Front) → front longest_body h ≡ Whole body_len → front longest_body (k ++ g) ≡ answer
+  whole_by : (body_len : ℕ) (answer : Front) → front longest_body h ≡ Whole body_len
+      → front longest_body (k ++ g) ≡ answer
       → AreAlikeSplits (then_split (front_body body_len h ∷ []) (split longest_body (after_front body_len h ++ f))) (split_from answer (split longest_body) (k ++ g))
       → IsWholeToo h k f g body_len
   whole_by body_len (Whole other_len) found is alike =
@@ -113,13 +117,15 @@ module _ (h k f g : List ℕ) (lengths : length h ≡ length k) where
   whole_by body_len More found is alike = absurd (alike.bodies)
 
   -- a whole frame stands at the front of the other too
-  whole_too : (body_len : ℕ) → front longest_body h ≡ Whole body_len → AreAlikeStreams (h ++ f) (k ++ g) → IsWholeToo h k f g body_len
+  whole_too : (body_len : ℕ) → front longest_body h ≡ Whole body_len
+      → AreAlikeStreams (h ++ f) (k ++ g) → IsWholeToo h k f g body_len
   whole_too body_len found alike =
       whole_by body_len (front longest_body (k ++ g)) found refl
       (subst (AreAlikeSplits (then_split (front_body body_len h ∷ []) (split longest_body (after_front body_len h ++ f)))) (split-front longest_body (k ++ g))
       (subst (λ parts. AreAlikeSplits parts (split longest_body (k ++ g))) (split-heard longest_body h f body_len found) alike))
 
-  bad_from : (announced : ℕ) → front longest_body h ≡ Bad announced → take 4 (h ++ f) ≡ take 4 (k ++ g) → front longest_body k ≡ Bad (announced_len k)
+  bad_from : (announced : ℕ) → front longest_body h ≡ Bad announced
+      → take 4 (h ++ f) ≡ take 4 (k ++ g) → front longest_body k ≡ Bad (announced_len k)
   bad_from announced found heads =
       let says = front_says longest_body h (Bad announced) found in
       let header : 4 ≤ length h = says.0.header in
@@ -139,7 +145,8 @@ module _ (h k f g : List ℕ) (lengths : length h ≡ length k) where
   bad_by announced More found alike = bad_from announced found alike.heads
 
   -- a bad length stands at the front of the other too
-  bad_too : (announced : ℕ) → front longest_body h ≡ Bad announced → AreAlikeStreams (h ++ f) (k ++ g) → front longest_body k ≡ Bad (announced_len k)
+  bad_too : (announced : ℕ) → front longest_body h ≡ Bad announced
+      → AreAlikeStreams (h ++ f) (k ++ g) → front longest_body k ≡ Bad (announced_len k)
   bad_too announced found alike =
       bad_by announced (front longest_body (k ++ g)) found
       (subst (AreAlikeSplits (unsplit (h ++ f))) (split-front longest_body (k ++ g))
@@ -151,7 +158,9 @@ more_whole n same = cc
 more_bad : (n : ℕ) → More ≡ Bad n → ⊥
 more_bad n same = cc
 
-fronts_by : (h k f g : List ℕ) (lengths : length h ≡ length k) (one other : Front) → front longest_body h ≡ one → front longest_body k ≡ other → AreAlikeStreams (h ++ f) (k ++ g) → AreAlikeFronts h k f g one other
+fronts_by : (h k f g : List ℕ) (lengths : length h ≡ length k) (one other : Front)
+    → front longest_body h ≡ one → front longest_body k ≡ other → AreAlikeStreams (h ++ f) (k ++ g)
+    → AreAlikeFronts h k f g one other
 fronts_by h k f g lengths (Whole body_len) other one_is other_is alike =
     let too = whole_too h k f g lengths body_len one_is alike in
     subst (AreAlikeFronts h k f g (Whole body_len)) (sym too.front ∙ other_is) (both_whole body_len too.bodies too.streams)
@@ -164,5 +173,7 @@ fronts_by h k f g lengths More (Bad announced) one_is other_is alike =
 fronts_by h k f g lengths More More one_is other_is alike = both_more
 
 -- however much of them was heard
-pub alike_fronts : (h k f g : List ℕ) → length h ≡ length k → AreAlikeStreams (h ++ f) (k ++ g) → AreAlikeFronts h k f g (front longest_body h) (front longest_body k)
-alike_fronts h k f g lengths alike = fronts_by h k f g lengths (front longest_body h) (front longest_body k) refl refl alike
+pub alike_fronts : (h k f g : List ℕ) → length h ≡ length k → AreAlikeStreams (h ++ f) (k ++ g)
+    → AreAlikeFronts h k f g (front longest_body h) (front longest_body k)
+alike_fronts h k f g lengths alike =
+    fronts_by h k f g lengths (front longest_body h) (front longest_body k) refl refl alike

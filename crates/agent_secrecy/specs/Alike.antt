@@ -23,19 +23,20 @@ pub record AreAlikeAdditions (one other : List ℕ) : Type 0 where
   pub left : one ≡ number ∷ (key.private ++ rest)
   pub right : other ≡ number ∷ (other_key.private ++ rest)
 
--- the same body, or alike additions
+-- two bodies are equal, or alike additions
 abbrev pub AreAlikeBodies : List ℕ → List ℕ → Type 0
 AreAlikeBodies one other = (one ≡ other) ⊎ AreAlikeAdditions one other
 
 -- ---- streams
 
--- one by one
+-- as many bodies in both lists, and each is alike the one at its place
 abbrev pub AreAllAlike : List (List ℕ) → List (List ℕ) → Type 0
 AreAllAlike [] [] = Unit {0}
 AreAllAlike [] (other ∷ others) = ⊥
 AreAllAlike (one ∷ ones) [] = ⊥
 AreAllAlike (one ∷ ones) (other ∷ others) = AreAlikeBodies one other × AreAllAlike ones others
 
+-- two splits with as many bodies, each alike, and rests of equal lengths that agree in their first four bytes
 pub record AreAlikeSplits (one other : Split) : Type 0 where
   pub bodies : AreAllAlike one.bodies other.bodies
   pub lengths : length one.rest ≡ length other.rest
@@ -57,6 +58,7 @@ heard_in number (Started job ticket) = []
 heard_in number (StartFailed job) = []
 heard_in number Tick = []
 
+-- the bytes that are heard at this port in all events, one after another
 abbrev pub stream_of : ℕ → List Timed → List ℕ
 stream_of number [] = []
 stream_of number (timed ∷ later) = heard_in number timed.event ++ stream_of number later
@@ -86,12 +88,13 @@ JoinsThrough door last (Started job ticket) = Unit {0}
 JoinsThrough door last (StartFailed job) = Unit {0}
 JoinsThrough door last Tick = Unit {0}
 
+-- each port that joins in these events, from this number on, comes through the door behind its number
 abbrev pub JoinThrough : (ℕ → Door) → ℕ → List Timed → Type 0
 JoinThrough door last [] = Unit {0}
 JoinThrough door last (timed ∷ later) =
     JoinsThrough door last timed.event × JoinThrough door (last_after timed.event last) later
 
--- the same moments and events in the same order, but for the bytes of clients, in pieces of equal lengths
+-- both lists have the same moments and events in the same order, but for the bytes of clients, in pieces of equal lengths
 abbrev pub AreOfOneShape : (ℕ → Door) → List Timed → List Timed → Type 0
 AreOfOneShape door [] [] = Unit {0}
 AreOfOneShape door [] (other ∷ others) = ⊥

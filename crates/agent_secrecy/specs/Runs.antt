@@ -17,7 +17,7 @@ abbrev pub told_by : Outcome → List (List ℕ)
 told_by outcome = owed_of 1 outcome.state ∷ owed_of 2 outcome.state ∷ outcome.closes
     ∷ map (λ (job : Job). job.number) (starts outcome.state) ∷ []
 
--- the same after each event, from the first state on
+-- what each of these events tells, from the first state on
 abbrev pub told_in : List Happening → List (List (List ℕ))
 told_in events = map told_by (outcomes (first_state no_settings) (map now events))
 
@@ -32,13 +32,15 @@ add_asking_with tag secret =
 abbrev pub adding : (secret : ℕ) → List Happening → List Happening
 adding secret later = Joined Clients ∷ Heard 1 (add_with 17 secret) ∷ Took 1 5 ∷ later
 
--- it lists the keys; it asks for a signature; it adds the same key with one secret
+-- the client adds a key and lists the keys
 abbrev pub listing : (secret : ℕ) → List Happening
 listing secret = adding secret (Heard 1 list ∷ [])
 
+-- the client adds a key and asks for a signature
 abbrev pub signing : (secret : ℕ) → List Happening
 signing secret = adding secret (Heard 1 (sign 17) ∷ [])
 
+-- the client adds a key, and then the same key with a fixed secret
 abbrev pub adding_again : (secret : ℕ) → List Happening
 adding_again secret = adding secret (Heard 1 (add_with 17 34) ∷ [])
 

@@ -6,7 +6,7 @@ use Rattle.agent_model.specs.State.{Port, client_count, find_port, next_due, num
 use Rattle.agent_secrecy.specs.Secrets.{hidden}
 use Rattle.agent_secrecy.specs.Hiding.{hide_message}
 
--- after one event
+-- what is seen of two outcomes is alike: what clients are owed, what is closed, put and due, and how much is held
 pub record IsAlikeSeen (one other : Outcome) : Type 0 where
   pub owed : (number : ℕ) (port : Port) → find_port number one.state.ports ≡ Some port → port.door ≡ Clients
       → owed_of number one.state ≡ owed_of number other.state
@@ -22,6 +22,7 @@ pub record IsAlikeSeen (one other : Outcome) : Type 0 where
   pub helper : length one.state.under_way.link.owed ≡ length other.state.under_way.link.owed
   pub put : map (hide_message hidden) one.put ≡ map (hide_message hidden) other.put
 
+-- event by event, what is seen of two runs is alike
 abbrev pub AreAlikeSeen : List Outcome → List Outcome → Type 0
 AreAlikeSeen [] [] = Unit {0}
 AreAlikeSeen [] (other ∷ others) = ⊥

@@ -38,9 +38,11 @@ pub record Left (number : ℕ) (ports : List Port) (port : Port) : Type 0 where
 
 pub same_left : (number : ℕ) (ports : List Port) (port : Port) → find_port number ports ≡ Some port
     → Left number ports port
-same_left number ports port found = record { was = port; found = found; door = refl; busy = inl (refl, refl) }
+same_left number ports port found =
+    record { was = port; found = found; door = refl; busy = inl (refl, refl) }
 
-busy_then : (mid port was : Port) → ((mid.waits ≡ was.waits) × (mid.owed ≡ was.owed)) ⊎ IsBusy mid.waits mid.owed
+busy_then : (mid port was : Port)
+    → ((mid.waits ≡ was.waits) × (mid.owed ≡ was.owed)) ⊎ IsBusy mid.waits mid.owed
     → ((port.waits ≡ mid.waits) × (port.owed ≡ mid.owed)) ⊎ IsBusy port.waits port.owed
     → ((port.waits ≡ was.waits) × (port.owed ≡ was.owed)) ⊎ IsBusy port.waits port.owed
 busy_then mid port was before (inr busy) = inr busy
@@ -112,7 +114,8 @@ news_busy f (says verdict is) x = answer_busy verdict is x.owed
 news_busy f (proves verification) x = replies_busy Success x.owed
 
 -- ports that are told something, and others that are closed
-pub news_left : {old new : List Port} → Told old new → (number last : ℕ) (port : Port) → IsRising 0 last old
+pub news_left : {old new : List Port} → Told old new → (number last : ℕ) (port : Port)
+    → IsRising 0 last old
     → find_port number new ≡ Some port → Left number old port
 news_left {old} untold number last port rising found = same_left number old port found
 news_left {old} (news at f ports is told) number last port rising found =
@@ -148,13 +151,15 @@ quiet_left {old = old} (alters at f (hears piece came)) none number port rising 
 quiet_left (alters at f (takes count is)) none number port rising found = absurd (none at count is)
 quiet_left {old = old} (closes at may) none number port rising found =
     same_left number old.ports port (find_port-left number at 0 old.last_port old.ports port rising found)
-quiet_left {old = old} (goes_on new goes) none number port rising found = same_left number old.ports port found
+quiet_left {old = old} (goes_on new goes) none number port rising found =
+    same_left number old.ports port found
 quiet_left {old = old} (names job at new) none number port rising found =
     plain_left at number unheard old.ports port (λ x. refl) (λ x. refl) (λ x. refl) (λ x. refl) found
 quiet_left {old = old} (links job at new) none number port rising found =
     plain_left at number unheard old.ports port (λ x. refl) (λ x. refl) (λ x. refl) (λ x. refl) found
 
-rising_quiet : {event : Happening} {old new : State} → Quiet event old new → IsRising 0 old.last_port old.ports
+rising_quiet : {event : Happening} {old new : State} → Quiet event old new
+    → IsRising 0 old.last_port old.ports
     → IsRising 0 new.last_port new.ports
 rising_quiet {event = event} {old = old} {new = new} quiet rising =
     rising_behind old new (follows-quiet event old quiet record { last = refl; ports = led }) rising

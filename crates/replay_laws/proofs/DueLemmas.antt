@@ -36,7 +36,8 @@ NothingIsDue state =
     (number : ℕ) (port : Port) → find_port number state.ports ≡ Some port → port.door ≡ Clients → due port ≡ More
 
 -- nor of one that sent no more
-due_left : (number : ℕ) (state : State) (port : Port) → NothingIsDue state → (left : Left number state.ports port)
+due_left : (number : ℕ) (state : State) (port : Port) → NothingIsDue state
+    → (left : Left number state.ports port)
     → port.door ≡ Clients → port.heard ≡ left.was.heard → due port ≡ More
 due_left number state port none left client heard =
     elim left.busy [
@@ -49,12 +50,14 @@ due_left number state port none left client heard =
     ]
 
 -- as time passes
-moment_left : (number : ℕ) (moment : Moment) (state : State) (port : Port) → IsRising 0 state.last_port state.ports
+moment_left : (number : ℕ) (moment : Moment) (state : State) (port : Port)
+    → IsRising 0 state.last_port state.ports
     → find_port number (at_moment moment state).ports ≡ Some port → Left number state.ports port
 moment_left number moment state port rising found =
     news_left (told-moment moment state) number state.last_port port rising found
 
-pub moment_due : (moment : Moment) (state : State) → IsRising 0 state.last_port state.ports → NothingIsDue state
+pub moment_due : (moment : Moment) (state : State) → IsRising 0 state.last_port state.ports
+    → NothingIsDue state
     → NothingIsDue (at_moment moment state)
 moment_due moment state rising none number port found client =
     let left = moment_left number moment state port rising found in
@@ -89,14 +92,16 @@ handle_left (StartFailed job) state number port quiet rising found =
 handle_left Tick state number port quiet rising found =
     makes_left (makes-handle Tick state (λ door is. absurd (cc))) (λ at count is. absurd (cc)) number port rising found
 
-pub quiet_due : (event : Happening) (state : State) → IsQuiet event state → IsRising 0 state.last_port state.ports
+pub quiet_due : (event : Happening) (state : State) → IsQuiet event state
+    → IsRising 0 state.last_port state.ports
     → NothingIsDue state → NothingIsDue (handle event state).state
 quiet_due event state quiet rising none number port found client =
     let left = handle_left event state number port quiet rising found in
     due_left number state port none left client
     (quiet_keeps length-hidden_bytes event state number port left.was rising quiet found client left.found)
 
-pub joined_due : (door : Door) (state : State) → NothingIsDue state → NothingIsDue (handle (Joined door) state).state
+pub joined_due : (door : Door) (state : State) → NothingIsDue state
+    → NothingIsDue (handle (Joined door) state).state
 joined_due door state none number port found client =
     elim
     (admitted_found (has_room door state.ports state.under_way) number (suc state.last_port) door state.ports port found) [
@@ -122,7 +127,8 @@ concluded_due at number body_len attempt verdict state port busies none found cl
     by_told
     (was_at at number (tell verdict) (change_port at (take_frame body_len attempt) state.ports) port (λ x. refl) found)
   where
-    by_taken : number ≢ at → WasAt at number (take_frame body_len attempt) state.ports port → due port ≡ More
+    by_taken : number ≢ at → WasAt at number (take_frame body_len attempt) state.ports port
+        → due port ≡ More
     by_taken apart (that was is there new) = absurd (apart is)
     by_taken apart (another other there) = none number port apart there client
 
@@ -161,7 +167,8 @@ looked_due number port state rising there none =
     subst (λ (o : Outcome). NothingIsDue o.state) (sym (looked-found number port state (due port) there refl))
     (front_due (due port) port state rising (ap (λ n. find_port n state.ports) own ∙ there) refl (subst (λ n. NothingElseIsDue n state) (sym own) none))
 
-changed_due : (number : ℕ) (f : Port → Port) (port : Port) (state : State) → ((x : Port) → (f x).number ≡ x.number)
+changed_due : (number : ℕ) (f : Port → Port) (port : Port) (state : State)
+    → ((x : Port) → (f x).number ≡ x.number)
     → IsRising 0 state.last_port state.ports → find_port number state.ports ≡ Some port → NothingIsDue state
     → NothingIsDue (looked number (changed number f state)).state
 changed_due number f port state keeps rising there none =
@@ -170,14 +177,16 @@ changed_due number f port state keeps rising there none =
     (find_port-change_port number f state.ports keeps ∙ ap (option_map f) there)
     (λ other one apart found client. none other one (sym (find_port-apart other number f state.ports keeps apart) ∙ found) client)
 
-pub heard_due : (number : ℕ) (piece : List ℕ) (port : Port) (state : State) → IsRising 0 state.last_port state.ports
+pub heard_due : (number : ℕ) (piece : List ℕ) (port : Port) (state : State)
+    → IsRising 0 state.last_port state.ports
     → find_port number state.ports ≡ Some port → port.door ≡ Clients → NothingIsDue state
     → NothingIsDue (handle (Heard number piece) state).state
 heard_due number piece port state rising there client none =
     subst (λ (o : Outcome). NothingIsDue o.state) (sym (handle-heard number piece port state there client))
     (changed_due number (heard_more piece) port state (λ x. refl) rising there none)
 
-pub took_due : (number count : ℕ) (port : Port) (state : State) → IsRising 0 state.last_port state.ports
+pub took_due : (number count : ℕ) (port : Port) (state : State)
+    → IsRising 0 state.last_port state.ports
     → find_port number state.ports ≡ Some port → port.door ≡ Clients → NothingIsDue state
     → NothingIsDue (handle (Took number count) state).state
 took_due number count port state rising there client none =

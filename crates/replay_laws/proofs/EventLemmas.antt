@@ -37,7 +37,8 @@ module _ (rename : List ℕ → List ℕ) where
       both-heard _ _ (relocks rename) port state (relocked_state rename state) (child port is) refl piece
       (subst (λ n. IsChild n state) (sym (found_number number state.ports port is)) child)
 
-  took_found : (found : Option Port) (number count : ℕ) (state : State) → find_port number state.ports ≡ found
+  took_found : (found : Option Port) (number count : ℕ) (state : State)
+      → find_port number state.ports ≡ found
       → IsChild number state
       → took_at found count (relocked_state rename state) ≡ relocked_outcome rename (took_at found count state)
   took_found None number count state is child = refl
@@ -47,14 +48,17 @@ module _ (rename : List ℕ → List ℕ) where
   ended_found : (found : Option Port) (state : State)
       → ended_at found (relocked_state rename state) ≡ relocked_outcome rename (ended_at found state)
   ended_found None state = refl
-  ended_found (Some port) state = both-ended _ _ (relocks rename) port state (relocked_state rename state) refl
+  ended_found (Some port) state =
+      both-ended _ _ (relocks rename) port state (relocked_state rename state) refl
 
   pub quiet-relocked : (event : Happening) (state : State) → IsQuiet event state
       → handle event (relocked_state rename state) ≡ relocked_outcome rename (handle event state)
   quiet-relocked (Joined door) state quiet = absurd quiet
-  quiet-relocked (Heard port piece) state quiet = heard_found (find_port port state.ports) port piece state refl quiet
+  quiet-relocked (Heard port piece) state quiet =
+      heard_found (find_port port state.ports) port piece state refl quiet
   quiet-relocked (Ended port) state quiet = ended_found (find_port port state.ports) state
-  quiet-relocked (Took port count) state quiet = took_found (find_port port state.ports) port count state refl quiet
+  quiet-relocked (Took port count) state quiet =
+      took_found (find_port port state.ports) port count state refl quiet
   quiet-relocked (Started job ticket) state quiet = refl
   quiet-relocked (StartFailed job) state quiet =
       both-failed _ _ (relocks rename) job state (relocked_state rename state) refl
@@ -67,7 +71,8 @@ module _ (rename : List ℕ → List ℕ) (renaming : IsRenaming rename) (told :
   AreAlike s t = redacted_state rename told s ≡ blanked_state t
 
   -- a moment
-  pub moment-told : (moment : Moment) (s t : State) → AreAlike s t → AreAlike (at_moment moment s) (at_moment moment t)
+  pub moment-told : (moment : Moment) (s t : State) → AreAlike s t
+      → AreAlike (at_moment moment s) (at_moment moment t)
   moment-told moment s t same =
       ap (hide_state hidden (told_at told)) (sym (at_moment-relocked rename moment s))
       ∙ sym (at_moment-hidden hidden length-hidden_bytes (told_at told) moment (relocked_state rename s))
@@ -75,7 +80,8 @@ module _ (rename : List ℕ → List ℕ) (renaming : IsRenaming rename) (told :
       ∙ at_moment-hidden hidden length-hidden_bytes as_is moment t
 
   -- what no client sends or takes
-  pub quiet-told : (event : Happening) (s t : State) → AreAlike s t → IsQuiet event s → IsQuiet event t
+  pub quiet-told : (event : Happening) (s t : State) → AreAlike s t → IsQuiet event s
+      → IsQuiet event t
       → redacted_seen rename told (handle event s) ≡ blanked_seen (handle event t)
   quiet-told event s t same one other =
       ap (seen hidden (told_at told)) (sym (quiet-relocked rename event s one))
@@ -123,7 +129,8 @@ module _ (rename : List ℕ → List ℕ) (renaming : IsRenaming rename) (told :
         (let e : Some (hide_port (told_at told) p) ≡ Some (hide_port as_is q) = ap (option_map (hide_port (told_at told))) (sym is) ∙ same in cc);
   }
 
-  pub pair_of : (number : ℕ) (p : Port) (s t : State) → AreAlike s t → find_port number s.ports ≡ Some p
+  pub pair_of : (number : ℕ) (p : Port) (s t : State) → AreAlike s t
+      → find_port number s.ports ≡ Some p
       → Pair number p t
   pair_of number p s t same found =
       paired number (find_port number s.ports) (find_port number t.ports) p t
@@ -160,7 +167,8 @@ module _ (rename : List ℕ → List ℕ) (renaming : IsRenaming rename) (told :
   told_heard Clients number bytes is = refl
   told_heard Children number bytes is = absurd (cc)
 
-  pub heard_as_is : (door : Door) (number : ℕ) (bytes : List ℕ) → hide_heard as_is door number bytes ≡ bytes
+  pub heard_as_is : (door : Door) (number : ℕ) (bytes : List ℕ)
+      → hide_heard as_is door number bytes ≡ bytes
   heard_as_is Clients number bytes = refl
   heard_as_is Children number bytes = refl
 
@@ -184,7 +192,8 @@ module _ (rename : List ℕ → List ℕ) (renaming : IsRenaming rename) (told :
       (ap blanked_seen (handle-heard number bytes q.port t q.found (ap (λ (port : Port). port.door) (sym q.same) ∙ client)))
 
   -- a client takes bytes
-  pub took-told : (number count : ℕ) (p : Port) (s t : State) → AreAlike s t → find_port number s.ports ≡ Some p
+  pub took-told : (number count : ℕ) (p : Port) (s t : State) → AreAlike s t
+      → find_port number s.ports ≡ Some p
       → p.door ≡ Clients
       → AreToldFronts rename renaming told p.heard (front longest_body p.heard) (front longest_body (told p.heard))
       → redacted_seen rename told (handle (Took number count) s) ≡ blanked_seen (handle (Took number count) t)

@@ -20,7 +20,8 @@ use Rattle.replay_laws.proofs.OwedLemmas.{moment_grows}
 
 -- ---- numbers of ports
 
-open_is : (number : ℕ) (ports : List Port) → is_some (find_port number ports) ≡ is_among number (numbers ports)
+open_is : (number : ℕ) (ports : List Port)
+    → is_some (find_port number ports) ≡ is_among number (numbers ports)
 open_is number [] = refl
 open_is number (port ∷ ports) =
     let rest : is_some (find_port number ports) ≡ is_among number (numbers ports) = open_is number ports in
@@ -49,13 +50,15 @@ kept_among number (one ∷ others) kept there out = elim (cases_eq number one) [
         absurd
         (let in_it : is_among number (one ∷ without others kept) ≡ true = grind (arith, nat_tests) in let both : true ≡ false = sym in_it ∙ out in cc)
 
-    by_rest : (b : Bool) → is_among number (cond b (without others kept) (one ∷ without others kept)) ≡ false
+    by_rest : (b : Bool)
+        → is_among number (cond b (without others kept) (one ∷ without others kept)) ≡ false
         → is_among number (without others kept) ≡ false
     by_rest true out = out
     by_rest false out = grind (arith, nat_tests)
 
 -- who is taken out isn't kept
-taken_out : (number : ℕ) (all kept : List ℕ) → is_among number (without all kept) ≡ true → is_among number kept ≡ false
+taken_out : (number : ℕ) (all kept : List ℕ) → is_among number (without all kept) ≡ true
+    → is_among number kept ≡ false
 taken_out number [] kept out = absurd (cc)
 taken_out number (one ∷ others) kept out = by_kept (is_among one kept) refl out (taken_out number others kept)
   where
@@ -121,7 +124,8 @@ to_start_stays moment state =
     at_moment-keeps (λ s. s.under_way.to_start ≡ state.under_way.to_start) moment state (λ s is. is)
     (λ one s there is. is) refl
 
-owed_behind : (found : Option Port) (number count : ℕ) (moment : Moment) (state : State) → IsSteady state
+owed_behind : (found : Option Port) (number count : ℕ) (moment : Moment) (state : State)
+    → IsSteady state
     → find_port number (at_moment moment state).ports ≡ found → IsSome found
     → count ≤ length (owed_by (find_port number state.ports) state.under_way)
     → count ≤ length (owed_by found (at_moment moment state).under_way)
@@ -131,7 +135,8 @@ owed_behind (Some port) number count moment state steady is there few =
     omega (arith, few, was.2, ap (λ (found : Option Port). length (owed_by found state.under_way)) was.1)
 
 module _ (moment : Moment) (state : State) (steady : IsSteady state) where
-  heard_by : (closed : Bool) (number : ℕ) (piece : List ℕ) → is_among number (ticked moment state).closes ≡ closed
+  heard_by : (closed : Bool) (number : ℕ) (piece : List ℕ)
+      → is_among number (ticked moment state).closes ≡ closed
       → Fits (Heard number piece) state → FitsUnless closed (Heard number piece) (at_moment moment state)
   heard_by true number piece is fits = tt
   heard_by false number piece is fits = (open_behind number moment state steady fits.0 is, fits.1)
@@ -146,7 +151,8 @@ module _ (moment : Moment) (state : State) (steady : IsSteady state) where
   open_by_owed None under_way count some few = absurd (omega (arith, some, few))
   open_by_owed (Some port) under_way count some few = refl
 
-  took_by : (closed : Bool) (number count : ℕ) → is_among number (ticked moment state).closes ≡ closed
+  took_by : (closed : Bool) (number count : ℕ)
+      → is_among number (ticked moment state).closes ≡ closed
       → Fits (Took number count) state → FitsUnless closed (Took number count) (at_moment moment state)
   took_by true number count is fits = tt
   took_by false number count is fits =
@@ -155,7 +161,8 @@ module _ (moment : Moment) (state : State) (steady : IsSteady state) where
       (open_by_owed (find_port number state.ports) state.under_way count fits.0 fits.1) is in
       (fits.0, owed_behind (find_port number (at_moment moment state).ports) number count moment state steady refl there fits.1)
 
-pub fits_behind : (event : Happening) (moment : Moment) (state : State) → IsSteady state → Fits event state
+pub fits_behind : (event : Happening) (moment : Moment) (state : State) → IsSteady state
+    → Fits event state
     → FitsUnless (is_passed_over moment event state) event (ticked moment state).state
 fits_behind (Joined door) moment state steady fits =
     subst (λ (n : ℕ). n < 2 ^ 64 - 1) (sym (at_moment-follows moment state).last) fits

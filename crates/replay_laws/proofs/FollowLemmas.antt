@@ -44,7 +44,8 @@ module _ (all : List (List ℕ)) where
 
   -- both states are alike as any moment begins, where these passphrases come in the whole run
   pub record Follow (state : State) (replay : Replay) : Type 0 where
-    pub alike : (moment : Moment) → AreAlike (at_moment moment state) (at_moment moment replay.state)
+    pub alike : (moment : Moment)
+        → AreAlike (at_moment moment state) (at_moment moment replay.state)
     pub ports : numbers state.ports ≡ numbers replay.state.ports
     pub steady : IsSteady state
     pub other_steady : IsSteady replay.state
@@ -55,7 +56,8 @@ module _ (all : List (List ℕ)) where
     pub last : replay.last_port ≡ state.last_port
     pub grown : IsFrontOf replay.recording.passphrases all
     pub tracked : AreTracked all state.ports replay.recording.ports
-    pub none : (number : ℕ) → state.last_port < number → find_kept number replay.recording.ports ≡ None
+    pub none : (number : ℕ) → state.last_port < number
+        → find_kept number replay.recording.ports ≡ None
 
 -- what holds of a state after each event holds after all
 stepped_by : (P : State → Type 0) (moment : Moment) (passed : Bool) (event : Happening) (state : State)
@@ -88,7 +90,8 @@ agrees_same whole final is = record {
   later = λ moment. ap (at_moment moment) is;
 }
 
-pub agrees_later : (moment : Moment) (whole final : State) → IsFresh moment whole → IsFresh moment final
+pub agrees_later : (moment : Moment) (whole final : State) → IsFresh moment whole
+    → IsFresh moment final
     → at_moment moment whole ≡ at_moment moment final → Agrees whole final
 agrees_later moment whole final one other is =
     let same = taken_same moment whole final one.on_time other.on_time is in
@@ -129,13 +132,14 @@ link_owed : (found : Option Confirmation) (one other : Port) (old new : UnderWay
 link_owed None one other old new = refl
 link_owed (Some confirmation) one other old new = refl
 
--- the same is under way but for what the helper is owed, of which the length is the same
+-- what is under way is equal but for what the helper is owed, of which the length is equal
 record IsAlikeUnderWay (one other : UnderWay) : Type 0 where
   state : one.link.state ≡ other.link.state
   owed : length one.link.owed ≡ length other.link.owed
   confirmations : one.confirmations ≡ other.confirmations
 
-child_owed : (linked : Bool) (number : ℕ) (one other : Port) (old new : UnderWay) → IsAlikeUnderWay old new
+child_owed : (linked : Bool) (number : ℕ) (one other : Port) (old new : UnderWay)
+    → IsAlikeUnderWay old new
     → length (owed_as (role_by_helper linked number old.confirmations) one old)
     ≡ length (owed_as (role_by_helper linked number new.confirmations) other new)
 child_owed true number one other old new same =
@@ -145,7 +149,8 @@ child_owed false number one other old new same =
     link_owed (find_linked number old.confirmations) one other old new
     ∙ ap (λ all. length (owed_as (role_by_link (find_linked number all)) other new)) same.confirmations
 
-door_owed : (door : Door) (number : ℕ) (one other : Port) (old new : UnderWay) → one.owed ≡ other.owed
+door_owed : (door : Door) (number : ℕ) (one other : Port) (old new : UnderWay)
+    → one.owed ≡ other.owed
     → IsAlikeUnderWay old new
     → length (owed_as (role_of door number old) one old) ≡ length (owed_as (role_of door number new) other new)
 door_owed Clients number one other old new owed same = ap length owed
@@ -154,7 +159,8 @@ door_owed Children number one other old new owed same =
     ∙ ap
     (λ link. length (owed_as (role_by_helper (is_linked_to number link) number new.confirmations) other new)) same.state
 
-port_owed : (one other : Port) (old new : UnderWay) → one.door ≡ other.door → one.number ≡ other.number
+port_owed : (one other : Port) (old new : UnderWay) → one.door ≡ other.door
+    → one.number ≡ other.number
     → one.owed ≡ other.owed → IsAlikeUnderWay old new
     → length (owed_by_port one old) ≡ length (owed_by_port other new)
 port_owed one other old new door number owed same =
@@ -175,13 +181,15 @@ module _ (all : List (List ℕ)) (renaming : IsRenaming (name_in all)) (one othe
         confirmations = ap (λ (u : UnderWay). u.confirmations) is;
       }
 
-  found_other : (found : Option Port) (number : ℕ) → find_port number one.ports ≡ found → IsSome found
+  found_other : (found : Option Port) (number : ℕ) → find_port number one.ports ≡ found
+      → IsSome found
       → IsSome (find_port number other.ports)
   found_other None number is there = absurd (cc)
   found_other (Some port) number is there =
       ap is_some (pair_of (name_in all) renaming (told_bytes (name_in all)) number port one other same is).found
 
-  owed_other : (found : Option Port) (number count : ℕ) → find_port number one.ports ≡ found → 0 < count
+  owed_other : (found : Option Port) (number count : ℕ) → find_port number one.ports ≡ found
+      → 0 < count
       → count ≤ length (owed_by found one.under_way)
       → count ≤ length (owed_by (find_port number other.ports) other.under_way)
   owed_other None number count is some few = absurd (omega (arith, some, few))
@@ -194,17 +202,21 @@ module _ (all : List (List ℕ)) (renaming : IsRenaming (name_in all)) (one othe
       (omega (arith, few, equal))
 
   fits_other : (event : Happening) → Fits event one → Fits event other
-  fits_other (Joined door) fits = subst (λ (n : ℕ). n < 2 ^ 64 - 1) (ap (λ (s : State). s.last_port) same) fits
-  fits_other (Heard number piece) fits = (found_other (find_port number one.ports) number refl fits.0, fits.1)
+  fits_other (Joined door) fits =
+      subst (λ (n : ℕ). n < 2 ^ 64 - 1) (ap (λ (s : State). s.last_port) same) fits
+  fits_other (Heard number piece) fits =
+      (found_other (find_port number one.ports) number refl fits.0, fits.1)
   fits_other (Ended number) fits = found_other (find_port number one.ports) number refl fits
   fits_other (Took number count) fits =
       (fits.0, owed_other (find_port number one.ports) number count refl fits.0 fits.1)
   fits_other (Started job ticket) fits =
       subst (λ (s : State). IsSome (find_to_start job s.under_way.to_start)) same fits
-  fits_other (StartFailed job) fits = subst (λ (s : State). IsSome (find_to_start job s.under_way.to_start)) same fits
+  fits_other (StartFailed job) fits =
+      subst (λ (s : State). IsSome (find_to_start job s.under_way.to_start)) same fits
   fits_other Tick fits = tt
 
-  fits_unless : (passed : Bool) (event : Happening) → FitsUnless passed event one → FitsUnless passed event other
+  fits_unless : (passed : Bool) (event : Happening) → FitsUnless passed event one
+      → FitsUnless passed event other
   fits_unless true event fits = tt
   fits_unless false event fits = fits_other event fits
 
@@ -251,7 +263,8 @@ module _ (all : List (List ℕ)) (few : length all < 2 ^ 64) (renaming : IsRenam
       ∙ ap (without (numbers state.ports)) (sym (looks_alike (name_in all) renaming one other alike).ports)
       ∙ sym (closes_are moment state follow.steady)
 
-  pub fits_here : (what : Happening) → Fits what state → FitsUnless (is_at_one what closed) what other
+  pub fits_here : (what : Happening) → Fits what state
+      → FitsUnless (is_at_one what closed) what other
   fits_here what fits =
       fits_unless all renaming one other alike (is_at_one what closed) what
       (subst (λ ports. FitsUnless (is_at_one what ports) what one) (sym same_closed) (fits_behind what moment state follow.steady fits))
@@ -272,7 +285,8 @@ module _ (all : List (List ℕ)) (few : length all < 2 ^ 64) (renaming : IsRenam
     pub looks : LooksAlike next (run_of told)
     pub follows : Follow all next (replay_of told)
 
-  pub comes : (told : Told) (whole : State) → AllFitUnless moment closed (events_of told.steps) other
+  pub comes : (told : Told) (whole : State)
+      → AllFitUnless moment closed (events_of told.steps) other
       → AreAlike all next whole → Agrees whole (run_of told) → NothingIsDue next
       → last_after event replay.last_port ≡ next.last_port
       → IsFrontOf told.kept.passphrases all → AreTracked all next.ports told.kept.ports
@@ -313,7 +327,8 @@ module _ (all : List (List ℕ)) (few : length all < 2 ^ 64) (renaming : IsRenam
   one_by false what gone brings =
       subst (AreAlike all next) (sym (unpassed what)) (ap (λ (seen : Seen). seen.state) (brings refl))
 
-  pub one_comes : (told : Told) (what : Happening) → events_of told.steps ≡ what ∷ [] → Fits what state
+  pub one_comes : (told : Told) (what : Happening) → events_of told.steps ≡ what ∷ []
+      → Fits what state
       → (is_at_one what closed ≡ true → next ≡ one)
       → (is_at_one what closed ≡ false → BringsAlike (name_in all) (handle event one) (handle what other))
       → NothingIsDue next → last_after event replay.last_port ≡ next.last_port → IsFrontOf told.kept.passphrases all
@@ -326,7 +341,8 @@ module _ (all : List (List ℕ)) (few : length all < 2 ^ 64) (renaming : IsRenam
       (agrees_same _ _ (ap (λ events. stepped_all moment closed events other) (sym is))) due last grown tracked none
 
   -- nothing that changes the other run
-  pub none_comes : (told : Told) → AllFitUnless moment closed (events_of told.steps) other → run_of told ≡ other
+  pub none_comes : (told : Told) → AllFitUnless moment closed (events_of told.steps) other
+      → run_of told ≡ other
       → AreAlike all next other
       → NothingIsDue next → last_after event replay.last_port ≡ next.last_port → IsFrontOf told.kept.passphrases all
       → AreTracked all next.ports told.kept.ports

@@ -99,14 +99,16 @@ module _ (all : List (List ℕ)) (few : length all < 2 ^ 64) (renaming : IsRenam
   new_of kept piece =
       held (taken kept piece replay.recording.passphrases).bytes (taken kept piece replay.recording.passphrases).port
 
-  new_number : (kept : Kept) (piece : List ℕ) (number : ℕ) → find_kept number replay.recording.ports ≡ Some kept
+  new_number : (kept : Kept) (piece : List ℕ) (number : ℕ)
+      → find_kept number replay.recording.ports ≡ Some kept
       → (taken kept piece replay.recording.passphrases).port.number ≡ number
   new_number kept piece number found =
       (taken_same kept.door kept piece replay.recording.passphrases).0
       ∙ found_key kept_number number replay.recording.ports kept found
 
   -- another port's, above the last one
-  none_heard : (number : ℕ) (piece : List ℕ) (kept : Kept) → find_kept number replay.recording.ports ≡ Some kept
+  none_heard : (number : ℕ) (piece : List ℕ) (kept : Kept)
+      → find_kept number replay.recording.ports ≡ Some kept
       → (above : ℕ) → (next all few renaming moment (Heard number piece) state replay follow).last_port < above
       → find_kept above (heard_told number piece (Some kept)).kept.ports ≡ None
   none_heard number piece kept found above is =
@@ -119,7 +121,8 @@ module _ (all : List (List ℕ)) (few : length all < 2 ^ 64) (renaming : IsRenam
       ∙ none
 
   -- nobody is there any more
-  heard_nobody : (found : Option Kept) (number : ℕ) (piece : List ℕ) → find_kept number replay.recording.ports ≡ found
+  heard_nobody : (found : Option Kept) (number : ℕ) (piece : List ℕ)
+      → find_kept number replay.recording.ports ≡ found
       → Fits (Heard number piece) state → find_port number here.ports ≡ None
       → IsFrontOf (heard_told number piece found).kept.passphrases all
       → C (Heard number piece) (heard_told number piece found)
@@ -182,9 +185,11 @@ module _ (all : List (List ℕ)) (few : length all < 2 ^ 64) (renaming : IsRenam
       (λ p at. child_tracked p.door p.heard kept piece door (child_after number piece p child at))))
       (none_heard number piece kept is)
     where
-      child_tracked : (d : Door) (heard : List ℕ) (k : Kept) (b : List ℕ) → k.door ≡ Children → d ≡ Children
+      child_tracked : (d : Door) (heard : List ℕ) (k : Kept) (b : List ℕ) → k.door ≡ Children
+          → d ≡ Children
           → TrackedBy all d heard (new_of k b)
-      child_tracked Children heard k b is_child same = (taken_same k.door k b replay.recording.passphrases).1 ∙ is_child
+      child_tracked Children heard k b is_child same =
+          (taken_same k.door k b replay.recording.passphrases).1 ∙ is_child
       child_tracked Clients heard k b is_child same = absurd (cc)
 
       child_after : (n : ℕ) (b : List ℕ) (p : Port) → IsOfChild n here
@@ -216,7 +221,8 @@ module _ (all : List (List ℕ)) (few : length all < 2 ^ 64) (renaming : IsRenam
     told_whole = taken_told all port.heard piece kept replay.recording.passphrases keeps_here grown
 
     pair : Pair (name_in all) renaming (told_bytes (name_in all)) number port there
-    pair = pair_of (name_in all) renaming (told_bytes (name_in all)) number port here there both found
+    pair =
+        pair_of (name_in all) renaming (told_bytes (name_in all)) number port here there both found
 
     pair_client : pair.port.door ≡ Clients
     pair_client = ap (λ (p : Port). p.door) (sym pair.same) ∙ client
@@ -314,7 +320,8 @@ module _ (all : List (List ℕ)) (few : length all < 2 ^ 64) (renaming : IsRenam
         (agrees_later moment whole (stepped_all moment gone_ports (heard_up_to number (length (byte ∷ bytes)) (byte ∷ bytes)) there) (step_fresh moment (Heard number took.bytes) there sound time) lines.1 (sym lines.2)))
         due_next (follow.last ∙ sym last_next) grown tracked_next (none_heard number piece kept is)
 
-    heard_client : (bytes : List ℕ) → took.bytes ≡ bytes → C (Heard number piece) (heard_told number piece (Some kept))
+    heard_client : (bytes : List ℕ) → took.bytes ≡ bytes
+        → C (Heard number piece) (heard_told number piece (Some kept))
     heard_client [] told = silent told
     heard_client (byte ∷ bytes) told = spoken byte bytes told
 
@@ -338,7 +345,8 @@ module _ (all : List (List ℕ)) (few : length all < 2 ^ 64) (renaming : IsRenam
   heard_somebody (Some kept) number piece port is fits small read found tracked grown =
       heard_door port.door number piece port kept is fits small read found refl tracked grown
 
-  heard_by : (found : Option Port) (number : ℕ) (piece : List ℕ) → find_port number here.ports ≡ found
+  heard_by : (found : Option Port) (number : ℕ) (piece : List ℕ)
+      → find_port number here.ports ≡ found
       → Fits (Heard number piece) state → IsBytes piece → length piece ≤ longest_piece
       → IsFrontOf (heard_told number piece (find_kept number replay.recording.ports)).kept.passphrases all
       → C (Heard number piece) (heard_told number piece (find_kept number replay.recording.ports))
@@ -365,4 +373,5 @@ module _ (all : List (List ℕ)) (few : length all < 2 ^ 64) (renaming : IsRenam
       base.started_comes all few renaming moment state replay follow job ticket fits
   event_comes (StartFailed job) fits range read grown =
       base.failed_comes all few renaming moment state replay follow job fits
-  event_comes Tick fits range read grown = base.tick_comes all few renaming moment state replay follow
+  event_comes Tick fits range read grown =
+      base.tick_comes all few renaming moment state replay follow

@@ -41,7 +41,8 @@ noted_grows None passphrase early = record { later = passphrase ∷ []; whole = 
 numbered_grows : (number : ℕ) (passphrase : List ℕ) (early : List (List ℕ))
     → IsFrontOf early (numbered number passphrase early).passphrases
 numbered_grows number [] early = front_same early
-numbered_grows number (byte ∷ bytes) early = noted_grows (position (bytes_eq (byte ∷ bytes)) early) (byte ∷ bytes) early
+numbered_grows number (byte ∷ bytes) early =
+    noted_grows (position (bytes_eq (byte ∷ bytes)) early) (byte ∷ bytes) early
 
 grows_by : (read : Result ClientRequest MsgFault) (number : ℕ) (bytes : List ℕ) (early : List (List ℕ))
     → IsFrontOf early (redacted_as read number bytes early).passphrases
@@ -57,11 +58,13 @@ grows_by (Ok (OtherExtension name)) number bytes early = front_same early
 grows_by (Ok (Unsupported other)) number bytes early = front_same early
 grows_by (Err what) number bytes early = front_same early
 
-redacted_grows : (body : List ℕ) (early : List (List ℕ)) → IsFrontOf early (redacted body early).passphrases
+redacted_grows : (body : List ℕ) (early : List (List ℕ))
+    → IsFrontOf early (redacted body early).passphrases
 redacted_grows [] early = front_same early
 redacted_grows (number ∷ bytes) early = grows_by (request_of (number ∷ bytes)) number bytes early
 
-pub all_grow : (bodies early : List (List ℕ)) → IsFrontOf early (redacted_all bodies early).passphrases
+pub all_grow : (bodies early : List (List ℕ))
+    → IsFrontOf early (redacted_all bodies early).passphrases
 all_grow [] early = front_same early
 all_grow (body ∷ bodies) early =
     front_then early (redacted body early).passphrases (redacted_all (body ∷ bodies) early).passphrases
@@ -84,19 +87,24 @@ body_by (Ok (Sign signing)) number bytes early all front = refl
 body_by (Ok (Add addition)) number bytes early all front = refl
 body_by (Ok (Remove blob)) number bytes early all front = refl
 body_by (Ok RemoveAll) number bytes early all front = refl
-body_by (Ok (Lock passphrase)) number bytes early all front = numbered_body number passphrase early all front
-body_by (Ok (Unlock passphrase)) number bytes early all front = numbered_body number passphrase early all front
+body_by (Ok (Lock passphrase)) number bytes early all front =
+    numbered_body number passphrase early all front
+body_by (Ok (Unlock passphrase)) number bytes early all front =
+    numbered_body number passphrase early all front
 body_by (Ok (Bind bind)) number bytes early all front = refl
 body_by (Ok (OtherExtension name)) number bytes early all front = refl
 body_by (Ok (Unsupported other)) number bytes early all front = refl
 body_by (Err what) number bytes early all front = refl
 
-pub redacted_body : (body : List ℕ) (early all : List (List ℕ)) → IsFrontOf (redacted body early).passphrases all
+pub redacted_body : (body : List ℕ) (early all : List (List ℕ))
+    → IsFrontOf (redacted body early).passphrases all
     → (redacted body early).body ≡ renamed (name_in all) body
 redacted_body [] early all front = refl
-redacted_body (number ∷ bytes) early all front = body_by (request_of (number ∷ bytes)) number bytes early all front
+redacted_body (number ∷ bytes) early all front =
+    body_by (request_of (number ∷ bytes)) number bytes early all front
 
-all_bodies : (bodies early all : List (List ℕ)) → IsFrontOf (redacted_all bodies early).passphrases all
+all_bodies : (bodies early all : List (List ℕ))
+    → IsFrontOf (redacted_all bodies early).passphrases all
     → (redacted_all bodies early).body ≡ frames (map (renamed (name_in all)) bodies)
 all_bodies [] early all front = refl
 all_bodies (body ∷ bodies) early all front =
@@ -121,12 +129,14 @@ behind_told rename heard piece fine =
     ∙ ap (λ l. l ++ told_split rename (split longest_body (cut.rest ++ piece)))
     (sym (append-nil first) ∙ ap (λ l. first ++ l) (sym none))
   where
-    by_front : (what : Front) → ends_badly what ≡ false → rest_bytes what (split longest_body heard).rest ≡ []
+    by_front : (what : Front) → ends_badly what ≡ false
+        → rest_bytes what (split longest_body heard).rest ≡ []
     by_front (Whole body_len) is = refl
     by_front (Bad announced) is = absurd (cc)
     by_front More is = refl
 
-pub bad_starts : (rest : List ℕ) (what : Front) → front longest_body rest ≡ what → ends_badly what ≡ true
+pub bad_starts : (rest : List ℕ) (what : Front) → front longest_body rest ≡ what
+    → ends_badly what ≡ true
     → (announced : ℕ) × (front longest_body rest ≡ Bad announced)
 bad_starts rest (Whole body_len) is bad = absurd (cc)
 bad_starts rest (Bad announced) is bad = (announced, is)
@@ -149,7 +159,8 @@ bad_told rename heard piece bad =
     ∙ ap (λ (l : List ℕ). first ++ l) (take-append-le 4 cut.rest piece header)
     ∙ sym (ap (λ (f : Front). first ++ rest_bytes f cut.rest) found.1)
 
-bad_rest : (heard piece : List ℕ) → ends_badly (front longest_body (split longest_body heard).rest) ≡ true
+bad_rest : (heard piece : List ℕ)
+    → ends_badly (front longest_body (split longest_body heard).rest) ≡ true
     → ends_badly (front longest_body (split longest_body (heard ++ piece)).rest) ≡ true
 bad_rest heard piece bad =
     let cut = split longest_body heard in
@@ -196,7 +207,8 @@ module _ (all : List (List ℕ)) where
       leaves_by at port got cut
       (all_bodies cut.bodies early all (subst (λ ps. IsFrontOf ps all) (passphrases_by at port got cut.rest) front_is)) refl
 
-  client_told : (is_bad : Bool) (heard piece : List ℕ) (port : Port) (early : List (List ℕ)) → port.is_bad ≡ is_bad
+  client_told : (is_bad : Bool) (heard piece : List ℕ) (port : Port) (early : List (List ℕ))
+      → port.is_bad ≡ is_bad
       → Keeps heard port → IsFrontOf (client_taken is_bad port piece early).passphrases all
       → told (heard ++ piece) ≡ told heard ++ (client_taken is_bad port piece early).bytes
   client_told true heard piece port early is keeps front_is =
@@ -209,7 +221,8 @@ module _ (all : List (List ℕ)) where
       (ap (λ rest. told_split (name_in all) (split longest_body (rest ++ piece))) (sym kept)
       ∙ sym (leaves (split longest_body (port.unrecorded ++ piece)) port early front_is))
 
-  taken_told_by : (door : Door) (heard piece : List ℕ) (port : Port) (early : List (List ℕ)) → door ≡ Clients
+  taken_told_by : (door : Door) (heard piece : List ℕ) (port : Port) (early : List (List ℕ))
+      → door ≡ Clients
       → Keeps heard port → IsFrontOf (taken_by door port piece early).passphrases all
       → told (heard ++ piece) ≡ told heard ++ (taken_by door port piece early).bytes
   taken_told_by Clients heard piece port early is keeps front_is =
@@ -224,14 +237,16 @@ module _ (all : List (List ℕ)) where
 
 -- ---- what is kept then
 
-kept_by : (what : Front) (heard : List ℕ) (port : Port) (got : Redacted) (rest : List ℕ) → port.door ≡ Clients
+kept_by : (what : Front) (heard : List ℕ) (port : Port) (got : Redacted) (rest : List ℕ)
+    → port.door ≡ Clients
     → port.is_bad ≡ false → (split longest_body heard).rest ≡ rest → front longest_body rest ≡ what
     → Keeps heard (rest_taken what port got rest).port
 kept_by (Whole body_len) heard port got rest door fine is at = record { door = door; bad = fine ∙ sym (ap (λ r. ends_badly (front longest_body r)) is ∙ ap ends_badly at); unrecorded = sym is ∙ ap (λ b. kept_of b (split longest_body heard).rest) (sym fine) }
 kept_by (Bad announced) heard port got rest door fine is at = record { door = door; bad = sym (ap (λ r. ends_badly (front longest_body r)) is ∙ ap ends_badly at); unrecorded = refl }
 kept_by More heard port got rest door fine is at = record { door = door; bad = fine ∙ sym (ap (λ r. ends_badly (front longest_body r)) is ∙ ap ends_badly at); unrecorded = sym is ∙ ap (λ b. kept_of b (split longest_body heard).rest) (sym fine) }
 
-client_keeps : (is_bad : Bool) (heard piece : List ℕ) (port : Port) (early : List (List ℕ)) → port.is_bad ≡ is_bad
+client_keeps : (is_bad : Bool) (heard piece : List ℕ) (port : Port) (early : List (List ℕ))
+    → port.is_bad ≡ is_bad
     → Keeps heard port → Keeps (heard ++ piece) (client_taken is_bad port piece early).port
 client_keeps true heard piece port early is keeps = record {
   door = keeps.door;
@@ -247,11 +262,14 @@ client_keeps false heard piece port early is keeps =
     kept_by (front longest_body cut.rest) (heard ++ piece) port (redacted_all cut.bodies early) cut.rest keeps.door is
     (ap (λ (s : Split). s.rest) (split-append longest_body heard piece) ∙ ap (λ r. (split longest_body (r ++ piece)).rest) (sym kept)) refl
 
-keeps_by : (door : Door) (heard piece : List ℕ) (port : Port) (early : List (List ℕ)) → door ≡ Clients
+keeps_by : (door : Door) (heard piece : List ℕ) (port : Port) (early : List (List ℕ))
+    → door ≡ Clients
     → Keeps heard port → Keeps (heard ++ piece) (taken_by door port piece early).port
-keeps_by Clients heard piece port early is keeps = client_keeps port.is_bad heard piece port early refl keeps
+keeps_by Clients heard piece port early is keeps =
+    client_keeps port.is_bad heard piece port early refl keeps
 keeps_by Children heard piece port early is keeps = absurd (cc)
 
 pub taken_keeps : (heard piece : List ℕ) (port : Port) (early : List (List ℕ)) → Keeps heard port
     → Keeps (heard ++ piece) (taken port piece early).port
-taken_keeps heard piece port early keeps = keeps_by port.door heard piece port early keeps.door keeps
+taken_keeps heard piece port early keeps =
+    keeps_by port.door heard piece port early keeps.door keeps

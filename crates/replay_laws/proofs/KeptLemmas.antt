@@ -13,7 +13,8 @@ pub moment-time : (moment : Moment) (state : State) → GiveTime state.under_way
     → GiveTime (at_moment moment state).under_way.limits
 moment-time moment state time = subst GiveTime (sym (at_moment-limits moment state)) time
 
-pub step-time : (state : State) (moment : Moment) (event : Happening) → GiveTime state.under_way.limits
+pub step-time : (state : State) (moment : Moment) (event : Happening)
+    → GiveTime state.under_way.limits
     → GiveTime (step state moment event).state.under_way.limits
 step-time state moment event time =
     subst GiveTime (sym ((keeps_time-handle event (at_moment moment state)).limits ∙ at_moment-limits moment state)) time

@@ -23,7 +23,8 @@ living_by : (early late : ℕ) (key : HeldKey) (keys : List HeldKey) (lives : Bo
     ≡ filter (λ (k : HeldKey). lives_at late k.death) keys
     → filter (λ (k : HeldKey). lives_at late k.death) (cond lives (key ∷ filter (λ (k : HeldKey). lives_at early k.death) keys) (filter (λ (k : HeldKey). lives_at early k.death) keys))
     ≡ filter (λ (k : HeldKey). lives_at late k.death) (key ∷ keys)
-living_by early late key keys true le is rest = ap (λ r. cond (lives_at late key.death) (key ∷ r) r) rest
+living_by early late key keys true le is rest =
+    ap (λ r. cond (lives_at late key.death) (key ∷ r) r) rest
 living_by early late key keys false le is rest =
     rest
     ∙ sym
@@ -66,7 +67,8 @@ pub taken_same : (moment : Moment) (one other : State) → IsOnTime moment one �
 taken_same moment one other first second same =
     sym (on_time-at_moment moment one first) ∙ same ∙ on_time-at_moment moment other second
 
-pub later_same : (moment later : Moment) (one other : State) → IsOnTime moment one → IsOnTime moment other
+pub later_same : (moment later : Moment) (one other : State) → IsOnTime moment one
+    → IsOnTime moment other
     → moment.mono ≤ one.moment.mono → moment.mono ≤ other.moment.mono → at_moment moment one ≡ at_moment moment other
     → at_moment later one ≡ at_moment later other
 later_same moment later one other first second one_after other_after same =

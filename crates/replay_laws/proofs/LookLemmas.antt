@@ -73,7 +73,8 @@ attempts_renamed rename (Some passphrase) one other same = refl
 module _ (rename : List ℕ → List ℕ) (renaming : IsRenaming rename) (told : List ℕ → List ℕ) where
   -- what stands at the front of these bytes, and of what is told of them
   pub data AreToldFronts (bytes : List ℕ) : Front → Front → Type 0 where
-    both_whole : (body_len other_len : ℕ) → Reads rename (front_body body_len bytes) (front_body other_len (told bytes))
+    both_whole : (body_len other_len : ℕ)
+        → Reads rename (front_body body_len bytes) (front_body other_len (told bytes))
         → names_bind (front_body other_len (told bytes)) ≡ names_bind (front_body body_len bytes)
         → after_front other_len (told bytes) ≡ told (after_front body_len bytes)
         → AreToldFronts bytes (Whole body_len) (Whole other_len)
@@ -188,7 +189,8 @@ module _ (rename : List ℕ → List ℕ) (renaming : IsRenaming rename) (told :
         subst (λ bytes. AreToldFronts p.heard (due p) (due_front q.waits q.owed bytes)) (sym heard_is)
         (subst (λ (port : Port). AreToldFronts p.heard (due p) (due_front port.waits port.owed (told p.heard))) same_port (due_told_by p.waits p.owed fronts))
 
-    pub looked-told : (number : ℕ) → find_port number s.ports ≡ Some p → find_port number t.ports ≡ Some q
+    pub looked-told : (number : ℕ) → find_port number s.ports ≡ Some p
+        → find_port number t.ports ≡ Some q
         → AreToldFronts p.heard (front longest_body p.heard) (front longest_body (told p.heard))
         → redacted_seen rename told (looked number s) ≡ blanked_seen (looked number t)
     looked-told number here there fronts =

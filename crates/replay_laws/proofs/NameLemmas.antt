@@ -27,9 +27,11 @@ from_front p i k (x ∷ xs) ys found =
     grind (arith, nat_tests)
 
 -- what stands nowhere in front is found behind it
-from_behind : {X : Type 0} (p : X → Bool) (i : ℕ) (xs ys : List X) (y : X) → position_from p i xs ≡ None → p y ≡ true
+from_behind : {X : Type 0} (p : X → Bool) (i : ℕ) (xs ys : List X) (y : X)
+    → position_from p i xs ≡ None → p y ≡ true
     → position_from p i (xs ++ y ∷ ys) ≡ Some (i + length xs)
-from_behind p i [] ys y none is = ap (λ b. cond b (Some i) (position_from p (i + 1) ys)) is ∙ ap Some (omega arith)
+from_behind p i [] ys y none is =
+    ap (λ b. cond b (Some i) (position_from p (i + 1) ys)) is ∙ ap Some (omega arith)
 from_behind p i (x ∷ xs) ys y none is =
     let later : position_from p (i + 1) xs ≡ None → position_from p (i + 1) (xs ++ y ∷ ys) ≡ Some ((i + 1) + length xs) =
     λ there. from_behind p (i + 1) xs ys y there is in
@@ -37,9 +39,11 @@ from_behind p i (x ∷ xs) ys y none is =
 
 position-front : {X : Type 0} (p : X → Bool) (k : ℕ) (xs ys : List X) → position p xs ≡ Some k
     → position p (xs ++ ys) ≡ Some k
-position-front p k xs ys found = position_is p (xs ++ ys) ∙ from_front p 0 k xs ys (sym (position_is p xs) ∙ found)
+position-front p k xs ys found =
+    position_is p (xs ++ ys) ∙ from_front p 0 k xs ys (sym (position_is p xs) ∙ found)
 
-position-behind : {X : Type 0} (p : X → Bool) (xs ys : List X) (y : X) → position p xs ≡ None → p y ≡ true
+position-behind : {X : Type 0} (p : X → Bool) (xs ys : List X) (y : X) → position p xs ≡ None
+    → p y ≡ true
     → position p (xs ++ y ∷ ys) ≡ Some (length xs)
 position-behind p xs ys y none is =
     position_is p (xs ++ y ∷ ys) ∙ from_behind p 0 xs ys y (sym (position_is p xs) ∙ none) is ∙ ap Some (omega arith)
@@ -128,7 +132,7 @@ number_is_name byte bytes early all front =
     let found = noted_place (byte ∷ bytes) early all (position (bytes_eq (byte ∷ bytes)) early) refl front in
     ap decimal found.2 ∙ sym (ap (λ place. name_by place (byte ∷ bytes)) found.1)
 
--- so it is short
+-- the number of a passphrase that was noted has at most 20 digits
 pub number_is_short : (byte : ℕ) (bytes : List ℕ) (early all : List (List ℕ)) → length all < 2 ^ 64
     → IsFrontOf (noted (byte ∷ bytes) early) all → length (decimal (number_of (byte ∷ bytes) early)) ≤ 20
 number_is_short byte bytes early all few front =

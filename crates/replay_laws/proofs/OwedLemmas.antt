@@ -36,7 +36,8 @@ helper_owed : (linked : Bool) (number : ℕ) (one other : Port) (old new : Under
     → find_linked number new.confirmations ≡ find_linked number old.confirmations
     → owed_as (role_by_helper linked number new.confirmations) one new
     ≡ owed_as (role_by_helper linked number old.confirmations) other old
-helper_owed true number one other old new links linked = ap (λ (l : HelperLink). sendable l.state l.owed) (links refl)
+helper_owed true number one other old new links linked =
+    ap (λ (l : HelperLink). sendable l.state l.owed) (links refl)
 helper_owed false number one other old new links linked =
     ap (λ found. owed_as (role_by_link found) one new) linked
     ∙ role_owed (find_linked number old.confirmations) one other old new
@@ -53,7 +54,8 @@ record IsTold (was port : Port) : Type 0 where
   door : port.door ≡ was.door
   owed : length was.owed ≤ length port.owed
 
-door_owed : (door : Door) (number : ℕ) (was port : Port) (old new : UnderWay) → length was.owed ≤ length port.owed
+door_owed : (door : Door) (number : ℕ) (was port : Port) (old new : UnderWay)
+    → length was.owed ≤ length port.owed
     → Stays number old new
     → length (owed_as (role_of door number old) was old) ≤ length (owed_as (role_of door number new) port new)
 door_owed Clients number was port old new owed stays = owed
@@ -106,7 +108,8 @@ told_all verdict (client ∷ others) number ports port found =
 
 -- ---- ports that are closed
 
-left_apart : (at : Option ℕ) (number last : ℕ) (ports : List Port) (port : Port) → IsRising 0 last ports
+left_apart : (at : Option ℕ) (number last : ℕ) (ports : List Port) (port : Port)
+    → IsRising 0 last ports
     → find_port number (close_confirmer at ports) ≡ Some port
     → (find_port number ports ≡ Some port) × (at ≢ Some number)
 left_apart None number last ports port rising found = (found, λ is. absurd (cc))
@@ -129,9 +132,11 @@ pub record Grows (number : ℕ) (old new : State) : Type 0 where
       × (length (owed_by_port was old.under_way) ≤ length (owed_by_port port new.under_way))
 
 nothing_grows : (number : ℕ) (state : State) → Grows number state state
-nothing_grows number state = record { steady = λ steady. steady; owed = λ steady port found. (port, found, omega arith) }
+nothing_grows number state =
+    record { steady = λ steady. steady; owed = λ steady port found. (port, found, omega arith) }
 
-grows_then : (number : ℕ) (old mid new : State) → Grows number old mid → Grows number mid new → Grows number old new
+grows_then : (number : ℕ) (old mid new : State) → Grows number old mid → Grows number mid new
+    → Grows number old new
 grows_then number old mid new one two = record {
   steady = λ steady. two.steady (one.steady steady);
   owed = λ steady port found.
@@ -173,13 +178,15 @@ lose_grows number state = record {
     new : UnderWay
     new = (lose state).state.under_way
 
-over_grows : (number : ℕ) (one : Confirmation) (state : State) → IsIn one state.under_way.confirmations
+over_grows : (number : ℕ) (one : Confirmation) (state : State)
+    → IsIn one state.under_way.confirmations
     → Grows number state (over one state).state
 over_grows number one state there = record {
   steady = λ steady. record {
     rising =
         rising_behind state (over one state).state (follows-makes Tick state (overs one state there) record { last = refl; ports = same }) steady.rising;
-    order = jobs-remove one.job 0 state.under_way.confirmations state.under_way.last_job steady.order;
+    order =
+        jobs-remove one.job 0 state.under_way.confirmations state.under_way.last_job steady.order;
   };
   owed = λ steady port found.
       let was = told_one (Refuses NotConfirmed) one.asker number (close_confirmer one.port state.ports) port found in
@@ -202,14 +209,16 @@ over_grows number one state there = record {
     new : UnderWay
     new = (over one state).state.under_way
 
-taken_in_grows : (number : ℕ) (moment : Moment) (state : State) → Grows number state (taken_in moment state)
+taken_in_grows : (number : ℕ) (moment : Moment) (state : State)
+    → Grows number state (taken_in moment state)
 taken_in_grows number moment state = record {
   steady = λ steady. record { rising = steady.rising; order = steady.order };
   owed = λ steady port found.
       (port, found, owed_more port port state.under_way (taken_in moment state).under_way record { number = refl; door = refl; owed = omega arith } record { helper = refl; link = λ linked. refl; confirmer = refl });
 }
 
-pub moment_grows : (number : ℕ) (moment : Moment) (state : State) → Grows number state (at_moment moment state)
+pub moment_grows : (number : ℕ) (moment : Moment) (state : State)
+    → Grows number state (at_moment moment state)
 moment_grows number moment state =
     grows_then number state (taken_in moment state) (at_moment moment state) (taken_in_grows number moment state)
     (time_passes-brings (λ s outcome. Grows number s outcome.state) moment state (nothing_grows number) (lose_grows number) (over_grows number)

@@ -45,7 +45,8 @@ module _ (rename : List ℕ → List ℕ) (renaming : IsRenaming rename) where
   told_bad : (bytes : List ℕ) (one other : Front) (announced : ℕ)
       → AreToldFronts rename renaming (told_bytes rename) bytes one other → front longest_body bytes ≡ one
       → other ≡ Bad announced → length (told_bytes rename bytes) ≤ 4
-  told_bad bytes one other announced (both_whole body_len other_len reads names after) is bad = absurd (cc)
+  told_bad bytes one other announced (both_whole body_len other_len reads names after) is bad =
+      absurd (cc)
   told_bad bytes one other announced (both_bad first second) is bad =
       let told : told_bytes rename bytes ≡ take 4 bytes =
       ap (told_split rename) (split-bad longest_body bytes first is) ∙ ap (λ (f : Front). rest_bytes f bytes) is in
@@ -53,7 +54,8 @@ module _ (rename : List ℕ → List ℕ) (renaming : IsRenaming rename) where
   told_bad bytes one other announced both_more is bad = absurd (cc)
 
   -- so of what is told no part but the whole has a bad length at its front
-  pub no_bad_front : (bytes early later : List ℕ) (announced : ℕ) → IsBytes bytes → IsShort rename bytes
+  pub no_bad_front : (bytes early later : List ℕ) (announced : ℕ) → IsBytes bytes
+      → IsShort rename bytes
       → told_bytes rename bytes ≡ early ++ later → 0 < length later → front longest_body early ≡ Bad announced → ⊥
   no_bad_front bytes early later announced each short told some bad =
       let whole : front longest_body (told_bytes rename bytes) ≡ Bad announced =
@@ -66,14 +68,16 @@ module _ (rename : List ℕ → List ℕ) (renaming : IsRenaming rename) where
 
 -- ---- a client whose bytes begin with no bad length stays open
 
-due_bad : (waits : Waits) (owed bytes : List ℕ) (announced : ℕ) → due_front waits owed bytes ≡ Bad announced
+due_bad : (waits : Waits) (owed bytes : List ℕ) (announced : ℕ)
+    → due_front waits owed bytes ≡ Bad announced
     → front longest_body bytes ≡ Bad announced
 due_bad Nothing [] bytes announced bad = bad
 due_bad Nothing (byte ∷ owed) bytes announced bad = absurd (cc)
 due_bad (OnAsk ask) owed bytes announced bad = absurd (cc)
 due_bad (OnConfirmation job) owed bytes announced bad = absurd (cc)
 
-front_open : (answer : Front) (port : Port) (state : State) → find_port port.number state.ports ≡ Some port
+front_open : (answer : Front) (port : Port) (state : State)
+    → find_port port.number state.ports ≡ Some port
     → ((announced : ℕ) → answer ≡ Bad announced → ⊥)
     → IsSome (find_port port.number (look_front answer port state).state.ports)
 front_open (Whole body_len) port state found fine =
@@ -116,7 +120,8 @@ held_events false number (byte ∷ bytes) = refl
 
 -- the events of bytes in at most so many pieces
 abbrev pub heard_up_to : ℕ → ℕ → List ℕ → List Happening
-heard_up_to number count bytes = events_of (map (λ piece. steps.Hear number piece) (pieces_up_to count bytes))
+heard_up_to number count bytes =
+    events_of (map (λ piece. steps.Hear number piece) (pieces_up_to count bytes))
 
 -- a state that an event of this moment led to
 pub record IsFresh (moment : Moment) (state : State) : Type 0 where
@@ -176,7 +181,8 @@ module _ (moment : Moment) (start : State) (number : ℕ) (port : Port) (closed 
       ×
       (at_moment moment (stepped_all moment closed (heard_up_to number count (drop longest_piece (byte ∷ bytes))) (stepped_unless passed moment (Heard number (take longest_piece (byte ∷ bytes))) state)) ≡ at_moment moment (after all))
 
-  next_lines : (count byte : ℕ) (bytes : List ℕ) (state : State) → IsSome (find_port number state.ports)
+  next_lines : (count byte : ℕ) (bytes : List ℕ) (state : State)
+      → IsSome (find_port number state.ports)
       → Lines count (drop longest_piece (byte ∷ bytes)) (step state moment (Heard number (take longest_piece (byte ∷ bytes)))).state
       → Lines (suc count) (byte ∷ bytes) state
   next_lines count byte bytes state there later =
@@ -201,11 +207,13 @@ module _ (moment : Moment) (start : State) (number : ℕ) (port : Port) (closed 
       whole ∙ ap (λ l. early ++ l) (sym (take-append-drop longest_piece bytes))
       ∙ sym (append_assoc early (take longest_piece bytes) (drop longest_piece bytes))
 
-  go : (count : ℕ) (early bytes : List ℕ) (state : State) → length bytes ≤ count → all ≡ early ++ bytes
+  go : (count : ℕ) (early bytes : List ℕ) (state : State) → length bytes ≤ count
+      → all ≡ early ++ bytes
       → IsFresh moment state → at_moment moment state ≡ at_moment moment (after early) → Lines count bytes state
   go zero early [] state few whole fresh same = (tt, fresh, ended early [] state refl whole same)
   go zero early (byte ∷ bytes) state few whole fresh same = absurd (omega (arith, few))
-  go (suc count) early [] state few whole fresh same = (tt, fresh, ended early [] state refl whole same)
+  go (suc count) early [] state few whole fresh same =
+      (tt, fresh, ended early [] state refl whole same)
   go (suc count) early (byte ∷ bytes) state few whole fresh same =
       let piece = take longest_piece (byte ∷ bytes) in
       let rest = drop longest_piece (byte ∷ bytes) in
@@ -217,7 +225,8 @@ module _ (moment : Moment) (start : State) (number : ℕ) (port : Port) (closed 
       (ap (λ (s : State). at_moment moment (handle (Heard number piece) s).state) same ∙ sym (cut early piece)))
 
   -- all of what is told in one event
-  pub lines_come : (byte : ℕ) (bytes : List ℕ) → all ≡ byte ∷ bytes → Lines (length (byte ∷ bytes)) (byte ∷ bytes) start
+  pub lines_come : (byte : ℕ) (bytes : List ℕ) → all ≡ byte ∷ bytes
+      → Lines (length (byte ∷ bytes)) (byte ∷ bytes) start
   lines_come byte bytes whole =
       let piece = take longest_piece (byte ∷ bytes) in
       let rest = drop longest_piece (byte ∷ bytes) in

@@ -126,7 +126,8 @@ unfolding request_of request_of_number added_key_at form_at string_at string_len
 short_25 = refl
 
 -- the number alone isn't read either
-secret_unread : (number : ℕ) → IsSecret number → (what : MsgFault) × (agent_request_of (number ∷ []) ≡ Err what)
+secret_unread : (number : ℕ) → IsSecret number
+    → (what : MsgFault) × (agent_request_of (number ∷ []) ≡ Err what)
 secret_unread number (inl is) =
     (fault.Key key_faults.Short, ap (λ (n : ℕ). agent_request_of (n ∷ [])) is ∙ ap and_host_key short_17)
 secret_unread number (inr (inl is)) =
@@ -143,7 +144,8 @@ module _ (rename : List ℕ → List ℕ) where
   pub data Reads (body told : List ℕ) : Type 0 where
     as_read : hide_read hidden (agent_request_of told) ≡ hide_read hidden (renamed_read rename (agent_request_of body))
         → Reads body told
-    unread_both : (one other : MsgFault) → agent_request_of body ≡ Err one → agent_request_of told ≡ Err other
+    unread_both : (one other : MsgFault) → agent_request_of body ≡ Err one
+        → agent_request_of told ≡ Err other
         → Reads body told
 
   abbrev ReadsAs : List ℕ → List ℕ → Type 0
@@ -185,23 +187,28 @@ module _ (rename : List ℕ → List ℕ) where
       ap (hide_read hidden) (ap and_host_key told ∙ keyless (rename passphrase) ∙ ap Ok (sym named)
       ∙ ap (renamed_read rename) (sym (keyless passphrase) ∙ sym (ap and_host_key is)))
 
-  unread_so : (secret : Bool) (number : ℕ) (bytes : List ℕ) (what : MsgFault) → holds_secrets number ≡ secret
+  unread_so : (secret : Bool) (number : ℕ) (bytes : List ℕ) (what : MsgFault)
+      → holds_secrets number ≡ secret
       → request_of (number ∷ bytes) ≡ Err what → Reads (number ∷ bytes) (unread secret number bytes)
   unread_so true number bytes what holds is =
       let other = secret_unread number (secret_is number holds) in unread_both what other.0 (ap and_host_key is) other.1
-  unread_so false number bytes what holds is = unread_both what what (ap and_host_key is) (ap and_host_key is)
+  unread_so false number bytes what holds is =
+      unread_both what what (ap and_host_key is) (ap and_host_key is)
 
-  by_read : (read : Result ClientRequest MsgFault) (number : ℕ) (bytes : List ℕ) → IsBytes (number ∷ bytes)
+  by_read : (read : Result ClientRequest MsgFault) (number : ℕ) (bytes : List ℕ)
+      → IsBytes (number ∷ bytes)
       → request_of (number ∷ bytes) ≡ read → length (renamed_as rename read number bytes) ≤ longest_body
       → Reads (number ∷ bytes) (renamed_as rename read number bytes)
   by_read (Ok ListIdentities) number bytes each is short =
       as_read (unchanged_read (number ∷ bytes) ListIdentities is refl)
   by_read (Ok (Sign signing)) number bytes each is short =
       as_read (unchanged_read (number ∷ bytes) (Sign signing) is refl)
-  by_read (Ok (Add addition)) number bytes each is short = as_read (added_read number bytes addition each is)
+  by_read (Ok (Add addition)) number bytes each is short =
+      as_read (added_read number bytes addition each is)
   by_read (Ok (Remove blob)) number bytes each is short =
       as_read (unchanged_read (number ∷ bytes) (Remove blob) is refl)
-  by_read (Ok RemoveAll) number bytes each is short = as_read (unchanged_read (number ∷ bytes) RemoveAll is refl)
+  by_read (Ok RemoveAll) number bytes each is short =
+      as_read (unchanged_read (number ∷ bytes) RemoveAll is refl)
   by_read (Ok (Lock passphrase)) number bytes each is short =
       as_read
       (named_read number 22 bytes passphrase Lock (request_is_found (number ∷ bytes) (Lock passphrase) each is) is
@@ -216,12 +223,14 @@ module _ (rename : List ℕ → List ℕ) where
       as_read (unchanged_read (number ∷ bytes) (OtherExtension name) is refl)
   by_read (Ok (Unsupported other)) number bytes each is short =
       as_read (unchanged_read (number ∷ bytes) (Unsupported other) is refl)
-  by_read (Err what) number bytes each is short = unread_so (holds_secrets number) number bytes what refl is
+  by_read (Err what) number bytes each is short =
+      unread_so (holds_secrets number) number bytes what refl is
 
   pub renamed_reads : (number : ℕ) (bytes : List ℕ) → IsBytes (number ∷ bytes)
       → length (renamed rename (number ∷ bytes)) ≤ longest_body
       → Reads (number ∷ bytes) (renamed rename (number ∷ bytes))
-  renamed_reads number bytes each short = by_read (request_of (number ∷ bytes)) number bytes each refl short
+  renamed_reads number bytes each short =
+      by_read (request_of (number ∷ bytes)) number bytes each refl short
 
   -- ---- neither binds where the other doesn't
 
@@ -246,11 +255,13 @@ module _ (rename : List ℕ → List ℕ) where
       inr
       (inr (inr (let printed : number ∷ bytes ≡ 25 ∷ (addition.key.private ++ (string addition.comment ++ bound.constraints)) = bound.printed in cc)))
 
-  text_is : (number code : ℕ) (bytes passphrase : List ℕ) → IsText code (number ∷ bytes) passphrase → number ≡ code
+  text_is : (number code : ℕ) (bytes passphrase : List ℕ) → IsText code (number ∷ bytes) passphrase
+      → number ≡ code
   text_is number code bytes passphrase shown =
       (let printed : number ∷ bytes ≡ code ∷ string passphrase = shown.printed in cc)
 
-  names_by : (read : Result ClientRequest MsgFault) (number : ℕ) (bytes : List ℕ) → IsBytes (number ∷ bytes)
+  names_by : (read : Result ClientRequest MsgFault) (number : ℕ) (bytes : List ℕ)
+      → IsBytes (number ∷ bytes)
       → request_of (number ∷ bytes) ≡ read
       → names_bind (renamed_as rename read number bytes) ≡ names_bind (number ∷ bytes)
   names_by (Ok ListIdentities) number bytes each is = refl

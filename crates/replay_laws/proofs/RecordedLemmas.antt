@@ -58,7 +58,8 @@ module _ (all : List (List ℕ)) where
       subst (λ bytes. TrackedBy all Clients bytes kept) (sym (same refl)) tracked
   by_same Children heard was kept same tracked = tracked
 
-  tracked_same : (door : Door) (heard was : List ℕ) (found : Option Kept) → (door ≡ Clients → heard ≡ was)
+  tracked_same : (door : Door) (heard was : List ℕ) (found : Option Kept)
+      → (door ≡ Clients → heard ≡ was)
       → Tracked all door was found → Tracked all door heard found
   tracked_same door heard was None same tracked = tracked
   tracked_same door heard was (Some kept) same tracked = by_same door heard was kept same tracked
@@ -87,7 +88,8 @@ module _ (all : List (List ℕ)) where
 abbrev pub with_kept : ℕ → Kept → List Kept → List Kept
 with_kept number new recorded = change_by kept_number number (λ _. new) recorded
 
-new_by : (number : ℕ) (new kept : Kept) (others : List Kept) (is : Bool) → (kept.number == number) ≡ is
+new_by : (number : ℕ) (new kept : Kept) (others : List Kept) (is : Bool)
+    → (kept.number == number) ≡ is
     → new.number ≡ number → is_some (cond is (Some kept) (find_kept number others)) ≡ true
     → (is_some (find_kept number others) ≡ true → find_kept number (with_kept number new others) ≡ Some new)
     → find_kept number (cond is (new ∷ others) (kept ∷ with_kept number new others)) ≡ Some new
@@ -103,7 +105,8 @@ found_new number new [] own there = absurd (cc)
 found_new number new (kept ∷ others) own there =
     new_by number new kept others (kept.number == number) refl own there (found_new number new others own)
 
-apart_by : (number other : ℕ) (new kept : Kept) (others : List Kept) (is : Bool) → (kept.number == number) ≡ is
+apart_by : (number other : ℕ) (new kept : Kept) (others : List Kept) (is : Bool)
+    → (kept.number == number) ≡ is
     → new.number ≡ number → other ≢ number
     → find_kept other (with_kept number new others) ≡ find_kept other others
     → find_kept other (cond is (new ∷ others) (kept ∷ with_kept number new others)) ≡ find_kept other (kept ∷ others)
@@ -115,7 +118,8 @@ apart_by number other new kept others true test own apart rest =
 apart_by number other new kept others false test own apart rest =
     ap (λ found. cond (kept.number == other) (Some kept) found) rest
 
-pub found_apart : (number other : ℕ) (new : Kept) (recorded : List Kept) → new.number ≡ number → other ≢ number
+pub found_apart : (number other : ℕ) (new : Kept) (recorded : List Kept) → new.number ≡ number
+    → other ≢ number
     → find_kept other (with_kept number new recorded) ≡ find_kept other recorded
 found_apart number other new [] own apart = refl
 found_apart number other new (kept ∷ others) own apart =
@@ -139,7 +143,8 @@ re_tracked all number new ports recorded own there elsewhere here other port fou
 
 -- ---- a frame that is taken
 
-after_keeps : (heard : List ℕ) (body_len : ℕ) (kept : Kept) → front longest_body heard ≡ Whole body_len
+after_keeps : (heard : List ℕ) (body_len : ℕ) (kept : Kept)
+    → front longest_body heard ≡ Whole body_len
     → Keeps heard kept → Keeps (after_front body_len heard) kept
 after_keeps heard body_len kept whole keeps =
     let same : (split longest_body heard).rest ≡ (split longest_body (after_front body_len heard)).rest =
@@ -156,7 +161,8 @@ module _ (all : List (List ℕ)) where
   after_short heard body_len whole short =
       (subst (λ (cut : Split). AreShort (name_in all) cut.bodies) (split-whole longest_body heard body_len whole) short).1
 
-  after_by : (door : Door) (heard : List ℕ) (body_len : ℕ) (kept : Kept) → front longest_body heard ≡ Whole body_len
+  after_by : (door : Door) (heard : List ℕ) (body_len : ℕ) (kept : Kept)
+      → front longest_body heard ≡ Whole body_len
       → TrackedBy all door heard kept → TrackedBy all door (after_front body_len heard) kept
   after_by Clients heard body_len kept whole tracked = (
     after_keeps heard body_len kept whole tracked.0,
@@ -169,9 +175,11 @@ module _ (all : List (List ℕ)) where
       → front longest_body heard ≡ Whole body_len → Tracked all door heard found
       → Tracked all door (after_front body_len heard) found
   after_tracked door heard body_len None whole tracked = tracked
-  after_tracked door heard body_len (Some kept) whole tracked = after_by door heard body_len kept whole tracked
+  after_tracked door heard body_len (Some kept) whole tracked =
+      after_by door heard body_len kept whole tracked
 
-  due_whole : (waits : Waits) (owed bytes : List ℕ) (body_len : ℕ) → due_front waits owed bytes ≡ Whole body_len
+  due_whole : (waits : Waits) (owed bytes : List ℕ) (body_len : ℕ)
+      → due_front waits owed bytes ≡ Whole body_len
       → front longest_body bytes ≡ Whole body_len
   due_whole Nothing [] bytes body_len whole = whole
   due_whole Nothing (byte ∷ owed) bytes body_len whole = absurd (cc)
@@ -261,7 +269,8 @@ module _ (all : List (List ℕ)) where
           find_port-change_port number (heard_more piece) state.ports (λ x. refl)
           ∙ ap (option_map (heard_more piece)) there
 
-      by_was : (other : ℕ) (port : Port) → other ≢ number → WasAt number other (heard_more piece) state.ports port
+      by_was : (other : ℕ) (port : Port) → other ≢ number
+          → WasAt number other (heard_more piece) state.ports port
           → Tracked all port.door port.heard (find_kept other recorded)
       by_was other port apart (that was is found new) = absurd (apart is)
       by_was other port apart (another away found) = tracked other port found

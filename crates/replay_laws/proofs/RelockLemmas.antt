@@ -64,7 +64,8 @@ module _ (rename : List ℕ → List ℕ) where
 
   pub at_moment-relocked : (moment : Moment) (state : State)
       → at_moment moment (state_of state) ≡ state_of (at_moment moment state)
-  at_moment-relocked moment state = ap (λ (outcome : Outcome). outcome.state) (time_passes-relocked moment state)
+  at_moment-relocked moment state =
+      ap (λ (outcome : Outcome). outcome.state) (time_passes-relocked moment state)
 
   -- ---- what the helper and the user say
 
@@ -124,7 +125,8 @@ module _ (rename : List ℕ → List ℕ) where
   AreRelocked one other = other ≡ outcome_of one
 
   abbrev with_closes : Outcome → List ℕ → Outcome
-  with_closes left closes = record { state = left.state; actions = left.actions; put = left.put; closes = closes }
+  with_closes left closes =
+      record { state = left.state; actions = left.actions; put = left.put; closes = closes }
 
   pub relocks : AreAlikeInBoth IsRelocked AreRelocked
   relocks = record {

@@ -36,7 +36,8 @@ module _ (rename : List ℕ → List ℕ) (renaming : IsRenaming rename) where
 
   -- ---- one request
 
-  uses-relocked : (held : KeyState) (work : Work) → uses (relocked rename held) work ≡ served_of (uses held work)
+  uses-relocked : (held : KeyState) (work : Work)
+      → uses (relocked rename held) work ≡ served_of (uses held work)
   uses-relocked held work =
       ap (λ keys. let s : Served = record { held = keys; work = work } in s) (after_use-relocked rename work.used held)
 
@@ -57,7 +58,8 @@ module _ (rename : List ℕ → List ℕ) (renaming : IsRenaming rename) where
   add_by-relocked : (found : Option HeldKey) (asker : Asker) (addition : Addition) (held : KeyState) (under_way : UnderWay)
       → add_by found asker addition (relocked rename held) under_way
       ≡ served_of (add_by found asker addition held under_way)
-  add_by-relocked None asker addition held under_way = add_seen-relocked true addition asker.mono held under_way
+  add_by-relocked None asker addition held under_way =
+      add_seen-relocked true addition asker.mono held under_way
   add_by-relocked (Some key) asker addition held under_way =
       add_seen-relocked (sees asker key) addition asker.mono held under_way
 
@@ -70,7 +72,8 @@ module _ (rename : List ℕ → List ℕ) (renaming : IsRenaming rename) where
       → remove_by found asker blob (relocked rename held) under_way
       ≡ served_of (remove_by found asker blob held under_way)
   remove_by-relocked None asker blob held under_way = refl
-  remove_by-relocked (Some key) asker blob held under_way = remove_seen-relocked (sees asker key) blob held under_way
+  remove_by-relocked (Some key) asker blob held under_way =
+      remove_seen-relocked (sees asker key) blob held under_way
 
   -- locked with these bytes
   abbrev locked_as : KeyState → List ℕ → UnderWay → Served
@@ -84,7 +87,8 @@ module _ (rename : List ℕ → List ℕ) (renaming : IsRenaming rename) where
 
   lock_by-relocked : (passphrase : List ℕ) (held : KeyState) (under_way : UnderWay)
       → lock_by (rename passphrase) (relocked rename held) under_way ≡ served_of (lock_by passphrase held under_way)
-  lock_by-relocked [] held under_way = ap (λ name. lock_by name (relocked rename held) under_way) renaming.empty
+  lock_by-relocked [] held under_way =
+      ap (λ name. lock_by name (relocked rename held) under_way) renaming.empty
   lock_by-relocked (byte ∷ bytes) held under_way =
       named (rename (byte ∷ bytes)) (byte ∷ bytes) held under_way (name_is_some byte bytes)
 
@@ -106,7 +110,8 @@ module _ (rename : List ℕ → List ℕ) (renaming : IsRenaming rename) where
   unlocked-relocked (Remove blob) asker held under_way =
       remove_by-relocked (find_identity blob held.table.identities) asker blob held under_way
   unlocked-relocked RemoveAll asker held under_way = refl
-  unlocked-relocked (Lock passphrase) asker held under_way = lock_by-relocked passphrase held under_way
+  unlocked-relocked (Lock passphrase) asker held under_way =
+      lock_by-relocked passphrase held under_way
   unlocked-relocked (Unlock passphrase) asker held under_way = refl
   unlocked-relocked (Bind bind) asker held under_way = refl
   unlocked-relocked (OtherExtension name) asker held under_way = refl
@@ -132,9 +137,11 @@ module _ (rename : List ℕ → List ℕ) (renaming : IsRenaming rename) where
       → serve_by (option_map rename lock) (renamed_request rename request) asker (relocked rename held) under_way
       ≡ served_of (serve_by lock request asker held under_way)
   by_lock None request asker held under_way = unlocked-relocked request asker held under_way
-  by_lock (Some passphrase) request asker held under_way = locked-relocked passphrase request held under_way
+  by_lock (Some passphrase) request asker held under_way =
+      locked-relocked passphrase request held under_way
 
-  unread-relocked : (what : MsgFault) (lock : Option (List ℕ)) → unread what (option_map rename lock) ≡ unread what lock
+  unread-relocked : (what : MsgFault) (lock : Option (List ℕ))
+      → unread what (option_map rename lock) ≡ unread what lock
   unread-relocked fault.Empty lock = refl
   unread-relocked fault.Short lock = refl
   unread-relocked fault.Trailing lock = refl

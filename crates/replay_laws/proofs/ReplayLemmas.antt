@@ -66,11 +66,13 @@ module _ (all : List (List ℕ)) (few : length all < 2 ^ 64) (renaming : IsRenam
   closed_alike : gone_ports ≡ (ticked moment state).closes
   closed_alike = same_closed all few renaming moment Tick state replay follow
 
-  pub gone_here : (number : ℕ) → is_among number gone_ports ≡ true → find_port number here.ports ≡ None
+  pub gone_here : (number : ℕ) → is_among number gone_ports ≡ true
+      → find_port number here.ports ≡ None
   gone_here number passed =
       gone_behind number moment state follow.steady (ap (is_among number) (sym closed_alike) ∙ passed)
 
-  open_here : (number : ℕ) → IsSome (find_port number state.ports) → is_among number gone_ports ≡ false
+  open_here : (number : ℕ) → IsSome (find_port number state.ports)
+      → is_among number gone_ports ≡ false
       → IsSome (find_port number here.ports)
   open_here number was out =
       open_behind number moment state follow.steady was (ap (is_among number) (sym closed_alike) ∙ out)
@@ -183,11 +185,14 @@ module _ (all : List (List ℕ)) (few : length all < 2 ^ 64) (renaming : IsRenam
     pub small : IsBytes heard
     pub short : IsShort (name_in all) heard
 
-  tracked_client : (heard : List ℕ) (found : Option Kept) → Tracked all Clients heard found → TrackedClient heard found
+  tracked_client : (heard : List ℕ) (found : Option Kept) → Tracked all Clients heard found
+      → TrackedClient heard found
   tracked_client heard None tracked = absurd tracked
-  tracked_client heard (Some kept) tracked = record { kept = kept; there = refl; keeps = tracked.0; small = tracked.1; short = tracked.2 }
+  tracked_client heard (Some kept) tracked =
+      record { kept = kept; there = refl; keeps = tracked.0; small = tracked.1; short = tracked.2 }
 
-  client_here : (number : ℕ) (port : Port) → find_port number here.ports ≡ Some port → port.door ≡ Clients
+  client_here : (number : ℕ) (port : Port) → find_port number here.ports ≡ Some port
+      → port.door ≡ Clients
       → TrackedClient port.heard (find_kept number replay.recording.ports)
   client_here number port found client =
       tracked_client port.heard (find_kept number replay.recording.ports)

@@ -32,7 +32,8 @@ bytes_are (byte ∷ bytes) is =
     All-cons (λ byte. byte < 256) byte bytes (below byte parts.0) (bytes_are bytes parts.1)
 
 -- an event at a second of 64 bits
-timed : (second : ℕ) (event : Happening) → second < 2 ^ 64 → IsInRange event → IsTimed (on second event)
+timed : (second : ℕ) (event : Happening) → second < 2 ^ 64 → IsInRange event
+    → IsTimed (on second event)
 timed second event small range = record { event = range; mono = small; wall = small }
 
 pub late_in_range : AreInRange late

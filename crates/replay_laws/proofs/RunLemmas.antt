@@ -44,7 +44,8 @@ heard_grows (Some port) piece recording = taken_grows port.door port piece recor
 lines_grow : (event : Happening) (last : ℕ) (recording : Recording)
     → IsFrontOf recording.passphrases (lines_of event last recording).kept.passphrases
 lines_grow (Joined door) last recording = front_same recording.passphrases
-lines_grow (Heard number piece) last recording = heard_grows (find_kept number recording.ports) piece recording
+lines_grow (Heard number piece) last recording =
+    heard_grows (find_kept number recording.ports) piece recording
 lines_grow (Ended number) last recording = front_same recording.passphrases
 lines_grow (Took number count) last recording = front_same recording.passphrases
 lines_grow (Started job ticket) last recording = front_same recording.passphrases

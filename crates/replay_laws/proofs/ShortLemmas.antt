@@ -28,7 +28,8 @@ use Rattle.replay_laws.proofs.NameLemmas.{number_is_name, number_is_short}
 module _ (all : List (List ℕ)) (few : length all < 2 ^ 64) where
   -- ---- a body
 
-  kept_length : (number code : ℕ) (bytes rest : List ℕ) (addition : Addition) → IsAddedKey addition.key
+  kept_length : (number code : ℕ) (bytes rest : List ℕ) (addition : Addition)
+      → IsAddedKey addition.key
       → number ∷ bytes ≡ code ∷ (addition.key.private ++ rest) → length (number ∷ bytes) ≤ longest_body
       → length (number ∷ (without_secrets addition.key.private ++ drop (length addition.key.private) bytes)) ≤ longest_body
   kept_length number code bytes rest addition is printed within =
@@ -66,7 +67,8 @@ module _ (all : List (List ℕ)) (few : length all < 2 ^ 64) where
   named_length passphrase number early front =
       omega (arith, name_length passphrase number early front, length-string (name_in all passphrase))
 
-  unread_length : (secret : Bool) (number : ℕ) (bytes : List ℕ) → length (number ∷ bytes) ≤ longest_body
+  unread_length : (secret : Bool) (number : ℕ) (bytes : List ℕ)
+      → length (number ∷ bytes) ≤ longest_body
       → length (unread secret number bytes) ≤ longest_body
   unread_length true number bytes within = omega arith
   unread_length false number bytes within = within
@@ -81,7 +83,8 @@ module _ (all : List (List ℕ)) (few : length all < 2 ^ 64) where
       added_length number bytes addition (request_is_found (number ∷ bytes) (Add addition) each is) within
   length_by (Ok (Remove blob)) number bytes early is each within front = within
   length_by (Ok RemoveAll) number bytes early is each within front = within
-  length_by (Ok (Lock passphrase)) number bytes early is each within front = named_length passphrase number early front
+  length_by (Ok (Lock passphrase)) number bytes early is each within front =
+      named_length passphrase number early front
   length_by (Ok (Unlock passphrase)) number bytes early is each within front =
       named_length passphrase number early front
   length_by (Ok (Bind bind)) number bytes early is each within front = within
@@ -102,7 +105,8 @@ module _ (all : List (List ℕ)) (few : length all < 2 ^ 64) where
   small_body bytes body_len each =
       All-take (λ byte. byte < 256) body_len (drop 4 bytes) (All-drop (λ byte. byte < 256) 4 bytes each)
 
-  small_after : (bytes : List ℕ) (body_len : ℕ) → IsBytes bytes → IsBytes (after_front body_len bytes)
+  small_after : (bytes : List ℕ) (body_len : ℕ) → IsBytes bytes
+      → IsBytes (after_front body_len bytes)
   small_after bytes body_len each = All-drop (λ byte. byte < 256) (4 + body_len) bytes each
 
   -- these bodies are short, and the rest is of bytes
@@ -110,7 +114,8 @@ module _ (all : List (List ℕ)) (few : length all < 2 ^ 64) where
     short : AreShort (name_in all) cut.bodies
     rest : IsBytes cut.rest
 
-  well_by : (count : ℕ) (bytes : List ℕ) (early : List (List ℕ)) (at : Front) → front longest_body bytes ≡ at
+  well_by : (count : ℕ) (bytes : List ℕ) (early : List (List ℕ)) (at : Front)
+      → front longest_body bytes ≡ at
       → length bytes ≤ suc count → IsBytes bytes
       → IsFrontOf (redacted_all (split longest_body bytes).bodies early).passphrases all
       → ((later : List ℕ) (past : List (List ℕ)) → length later ≤ count → IsBytes later → IsFrontOf (redacted_all (split longest_body later).bodies past).passphrases all → IsTakenWell (split longest_body later))
@@ -140,7 +145,8 @@ module _ (all : List (List ℕ)) (few : length all < 2 ^ 64) where
   well_by count bytes early More is few each grown later =
       subst IsTakenWell (sym (split-more longest_body bytes is)) record { short = tt; rest = each }
 
-  nothing_by : (bytes : List ℕ) (at : Front) → front longest_body bytes ≡ at → length bytes ≤ 0 → IsBytes bytes
+  nothing_by : (bytes : List ℕ) (at : Front) → front longest_body bytes ≡ at → length bytes ≤ 0
+      → IsBytes bytes
       → IsTakenWell (split longest_body bytes)
   nothing_by bytes (Whole body_len) is none each =
       absurd (let within = (front_says longest_body bytes (Whole body_len) is).0.header in omega (arith, none, within))
@@ -149,7 +155,8 @@ module _ (all : List (List ℕ)) (few : length all < 2 ^ 64) where
   nothing_by bytes More is none each =
       subst IsTakenWell (sym (split-more longest_body bytes is)) record { short = tt; rest = each }
 
-  nothing : (bytes : List ℕ) → length bytes ≤ 0 → IsBytes bytes → IsTakenWell (split longest_body bytes)
+  nothing : (bytes : List ℕ) → length bytes ≤ 0 → IsBytes bytes
+      → IsTakenWell (split longest_body bytes)
   nothing bytes none each = nothing_by bytes (front longest_body bytes) refl none each
 
   well : (count : ℕ) (bytes : List ℕ) (early : List (List ℕ)) → length bytes ≤ count → IsBytes bytes
@@ -163,12 +170,15 @@ module _ (all : List (List ℕ)) (few : length all < 2 ^ 64) where
 
   -- ---- a piece
 
-  short_append : (one other : List (List ℕ)) → AreShort (name_in all) one → AreShort (name_in all) other
+  short_append : (one other : List (List ℕ)) → AreShort (name_in all) one
+      → AreShort (name_in all) other
       → AreShort (name_in all) (one ++ other)
   short_append [] other first second = second
-  short_append (body ∷ bodies) other first second = (first.0, short_append bodies other first.1 second)
+  short_append (body ∷ bodies) other first second =
+      (first.0, short_append bodies other first.1 second)
 
-  client_short : (is_bad : Bool) (heard piece : List ℕ) (port : Port) (early : List (List ℕ)) → port.is_bad ≡ is_bad
+  client_short : (is_bad : Bool) (heard piece : List ℕ) (port : Port) (early : List (List ℕ))
+      → port.is_bad ≡ is_bad
       → Keeps heard port → IsBytes (split longest_body heard).rest → IsBytes piece → IsShort (name_in all) heard
       → IsFrontOf (client_taken is_bad port piece early).passphrases all → IsShort (name_in all) (heard ++ piece)
   client_short true heard piece port early is keeps rest small short grown =
@@ -190,7 +200,8 @@ module _ (all : List (List ℕ)) (few : length all < 2 ^ 64) where
       subst (λ (s : Split). AreShort (name_in all) s.bodies) (sym (split-append longest_body heard piece))
       (short_append cut.bodies (split longest_body (cut.rest ++ piece)).bodies short new.short)
 
-  rest_by : (bytes : List ℕ) (most : ℕ) (at : Front) → front longest_body bytes ≡ at → length bytes ≤ most
+  rest_by : (bytes : List ℕ) (most : ℕ) (at : Front) → front longest_body bytes ≡ at
+      → length bytes ≤ most
       → IsBytes bytes
       → ((later : List ℕ) → length later < most → IsBytes later → IsBytes (split longest_body later).rest)
       → IsBytes (split longest_body bytes).rest
@@ -210,7 +221,8 @@ module _ (all : List (List ℕ)) (few : length all < 2 ^ 64) where
       rest_by bytes (suc count) (front longest_body bytes) refl less each
       (λ later fewer small. rest_small count later (omega (arith, fewer)) small)
 
-  short_by : (door : Door) (heard piece : List ℕ) (port : Port) (early : List (List ℕ)) → door ≡ Clients
+  short_by : (door : Door) (heard piece : List ℕ) (port : Port) (early : List (List ℕ))
+      → door ≡ Clients
       → Keeps heard port → IsBytes heard → IsBytes piece → IsShort (name_in all) heard
       → IsFrontOf (taken_by door port piece early).passphrases all → IsShort (name_in all) (heard ++ piece)
   short_by Clients heard piece port early is keeps each small short grown =
@@ -218,7 +230,8 @@ module _ (all : List (List ℕ)) (few : length all < 2 ^ 64) where
       (rest_small (length heard) heard (omega arith) each) small short grown
   short_by Children heard piece port early is keeps each small short grown = absurd (cc)
 
-  pub taken_short : (heard piece : List ℕ) (port : Port) (early : List (List ℕ)) → Keeps heard port → IsBytes heard
+  pub taken_short : (heard piece : List ℕ) (port : Port) (early : List (List ℕ)) → Keeps heard port
+      → IsBytes heard
       → IsBytes piece → IsShort (name_in all) heard → IsFrontOf (taken port piece early).passphrases all
       → IsShort (name_in all) (heard ++ piece)
   taken_short heard piece port early keeps each small short grown =

@@ -25,16 +25,19 @@ quiet_is (StartFailed job) state quiet = quiet
 quiet_is Tick state quiet = quiet
 
 module _ (rename : List ℕ → List ℕ) (renaming : IsRenaming rename) where
-  pub quiet_alike : (event : Happening) (s t : State) → AreToldAlike rename s t → IsOfNoClient event s
+  pub quiet_alike : (event : Happening) (s t : State) → AreToldAlike rename s t
+      → IsOfNoClient event s
       → IsOfNoClient event t → BringsAlike rename (handle event s) (handle event t)
   quiet_alike event s t same one other =
       quiet-told rename renaming (told_bytes rename) event s t same (quiet_is event s one) (quiet_is event t other)
 
   pub joined_alike : (door : Door) (s t : State) → AreToldAlike rename s t
       → BringsAlike rename (handle (Joined door) s) (handle (Joined door) t)
-  joined_alike door s t same = joined-told rename renaming (told_bytes rename) door s t (told-nothing rename) same
+  joined_alike door s t same =
+      joined-told rename renaming (told_bytes rename) door s t (told-nothing rename) same
 
-  pub heard_alike : (number : ℕ) (piece bytes : List ℕ) (port : Port) (s t : State) → AreToldAlike rename s t
+  pub heard_alike : (number : ℕ) (piece bytes : List ℕ) (port : Port) (s t : State)
+      → AreToldAlike rename s t
       → find_port number s.ports ≡ Some port → port.door ≡ Clients
       → told_bytes rename (port.heard ++ piece) ≡ told_bytes rename port.heard ++ bytes
       → IsBytes (port.heard ++ piece) → IsShort rename (port.heard ++ piece)

@@ -92,7 +92,8 @@ same_ports number (port ∷ ports) =
     let rest = same_ports number ports in
     grind (arith, nat_tests)
 
-pub nothing_heard : (number : ℕ) (port : Port) (state : State) → find_port number state.ports ≡ Some port
+pub nothing_heard : (number : ℕ) (port : Port) (state : State)
+    → find_port number state.ports ≡ Some port
     → port.door ≡ Clients → due port ≡ More → (handle (Heard number []) state).state ≡ state
 nothing_heard number port state found client none =
     let same : changed number (heard_more []) state ≡ state =

@@ -22,7 +22,8 @@ use Rattle.replay_laws.proofs.ReadLemmas.{Reads, renamed_names, renamed_reads}
 module _ (rename : List ℕ → List ℕ) where
   -- ---- a body that is told has a first byte
 
-  unread_some : (secret : Bool) (number : ℕ) (bytes : List ℕ) → 0 < length (unread secret number bytes)
+  unread_some : (secret : Bool) (number : ℕ) (bytes : List ℕ)
+      → 0 < length (unread secret number bytes)
   unread_some true number bytes = omega arith
   unread_some false number bytes = omega arith
 
@@ -44,12 +45,14 @@ module _ (rename : List ℕ → List ℕ) where
   renamed_some [] some = absurd (omega (arith, some))
   renamed_some (number ∷ bytes) some = some_by (request_of (number ∷ bytes)) number bytes
 
-  body_reads : (body : List ℕ) → 0 < length body → IsBytes body → length (renamed rename body) ≤ longest_body
+  body_reads : (body : List ℕ) → 0 < length body → IsBytes body
+      → length (renamed rename body) ≤ longest_body
       → Reads rename body (renamed rename body)
   body_reads [] some each short = absurd (omega (arith, some))
   body_reads (number ∷ bytes) some each short = renamed_reads rename number bytes each short
 
-  body_names : (body : List ℕ) → 0 < length body → IsBytes body → names_bind (renamed rename body) ≡ names_bind body
+  body_names : (body : List ℕ) → 0 < length body → IsBytes body
+      → names_bind (renamed rename body) ≡ names_bind body
   body_names [] some each = absurd (omega (arith, some))
   body_names (number ∷ bytes) some each = renamed_names rename number bytes each
 
@@ -78,7 +81,7 @@ module _ (rename : List ℕ → List ℕ) where
         ∙ told-then (front_body body_len bytes ∷ []) (split longest_body (after_front body_len bytes))
         ∙ ap (λ (l : List ℕ). l ++ told_bytes rename (after_front body_len bytes)) (append-nil (string told))
 
-    -- the same of a frame of what is told
+    -- a frame of what is told is whole, and its body stands in front
     told_frame : (bytes body later : List ℕ) (body_len : ℕ) → bytes ≡ string body ++ later
         → length body ≤ longest_body → 0 < length body
         → (front longest_body bytes ≡ Whole (length body)) × (front_body (length body) bytes ≡ body)
@@ -91,7 +94,8 @@ module _ (rename : List ℕ → List ℕ) where
       ap (after_front (length body)) is ∙ drop_at (string body) later (4 + length body) (length-string body),
     )
 
-    whole_fronts : (bytes : List ℕ) (body_len : ℕ) → front longest_body bytes ≡ Whole body_len → IsBytes bytes
+    whole_fronts : (bytes : List ℕ) (body_len : ℕ) → front longest_body bytes ≡ Whole body_len
+        → IsBytes bytes
         → length (renamed rename (front_body body_len bytes)) ≤ longest_body
         → Fronts bytes (Whole body_len) (front longest_body (told_bytes rename bytes))
     whole_fronts bytes body_len is each short =
@@ -133,12 +137,14 @@ module _ (rename : List ℕ → List ℕ) where
         subst (Fronts bytes More)
         (sym (ap (front longest_body) told ∙ front-short longest_body [] (omega arith))) both_more
 
-    first_short : (bytes : List ℕ) (body_len : ℕ) → front longest_body bytes ≡ Whole body_len → IsShort rename bytes
+    first_short : (bytes : List ℕ) (body_len : ℕ) → front longest_body bytes ≡ Whole body_len
+        → IsShort rename bytes
         → length (renamed rename (front_body body_len bytes)) ≤ longest_body
     first_short bytes body_len is short =
         (subst (λ (cut : Split). AreShort rename cut.bodies) (split-whole longest_body bytes body_len is) short).0
 
-    fronts_by : (bytes : List ℕ) (one : Front) → front longest_body bytes ≡ one → IsBytes bytes → IsShort rename bytes
+    fronts_by : (bytes : List ℕ) (one : Front) → front longest_body bytes ≡ one → IsBytes bytes
+        → IsShort rename bytes
         → Fronts bytes one (front longest_body (told_bytes rename bytes))
     fronts_by bytes (Whole body_len) is each short =
         whole_fronts bytes body_len is each (first_short bytes body_len is short)

@@ -46,10 +46,11 @@ renamed rename (number ∷ bytes) = renamed_as rename (request_of (number ∷ by
 abbrev pub relocked : (List ℕ → List ℕ) → KeyState → KeyState
 relocked rename held = record { table = held.table; lock = option_map rename held.lock }
 
--- what comes of a request, so
+-- what comes of a request, with the lock under the passphrase's other name
 abbrev pub served_as : (List ℕ → List ℕ) → Served → Served
 served_as rename served = record { held = relocked rename served.held; work = served.work }
 
+-- a state whose lock has the passphrase's other name
 abbrev pub relocked_state : (List ℕ → List ℕ) → State → State
 relocked_state rename state = record {
   held = relocked rename state.held;
@@ -59,6 +60,7 @@ relocked_state rename state = record {
   moment = state.moment;
 }
 
+-- an outcome whose state has the passphrase's other name
 abbrev pub relocked_outcome : (List ℕ → List ℕ) → Outcome → Outcome
 relocked_outcome rename outcome = record {
   state = relocked_state rename outcome.state;
@@ -80,6 +82,7 @@ renamed_request rename (Bind bind) = Bind bind
 renamed_request rename (OtherExtension name) = OtherExtension name
 renamed_request rename (Unsupported number) = Unsupported number
 
+-- what was read of a body: a request with the passphrase's other name, or the fault that refused it
 abbrev pub renamed_read : (List ℕ → List ℕ) → Result ClientRequest MsgFault → Result ClientRequest MsgFault
 renamed_read rename (Ok request) = Ok (renamed_request rename request)
 renamed_read rename (Err fault) = Err fault
@@ -90,6 +93,7 @@ renamed_read rename (Err fault) = Err fault
 abbrev pub told_at : (List ℕ → List ℕ) → ℕ → List ℕ → List ℕ
 told_at told number bytes = told bytes
 
+-- what a client of any number sent, with nothing hidden
 abbrev pub as_is : ℕ → List ℕ → List ℕ
 as_is number bytes = bytes
 
@@ -97,7 +101,7 @@ as_is number bytes = bytes
 abbrev pub redacted_state : (List ℕ → List ℕ) → (List ℕ → List ℕ) → State → State
 redacted_state rename told state = hide_state hidden (told_at told) (relocked_state rename state)
 
--- what comes of an event, so
+-- what comes of an event without its secrets, passphrases by their other names
 abbrev pub redacted_seen : (List ℕ → List ℕ) → (List ℕ → List ℕ) → Outcome → Seen
 redacted_seen rename told outcome = seen hidden (told_at told) (relocked_outcome rename outcome)
 
@@ -105,5 +109,6 @@ redacted_seen rename told outcome = seen hidden (told_at told) (relocked_outcome
 abbrev pub blanked_state : State → State
 blanked_state state = hide_state hidden as_is state
 
+-- an outcome of a run of what is told, with private fields blanked
 abbrev pub blanked_seen : Outcome → Seen
 blanked_seen outcome = seen hidden as_is outcome

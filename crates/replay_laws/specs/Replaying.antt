@@ -46,6 +46,7 @@ pub record Replay : Type 0 where
   pub recording : Recording
   pub last_port : ℕ
 
+-- a record's run before its first event
 abbrev pub first_replay : Settings → Replay
 first_replay settings = record { state = first_state settings; recording = first_recording; last_port = 0 }
 
@@ -76,7 +77,7 @@ recording_of replay (timed ∷ later) = recording_of (replayed timed replay) lat
 
 -- ---- the law
 
--- the same ports are open, every client is owed the same bytes, the same jobs wait to be started,
+-- in both states the same ports are open, every client is owed the same bytes, the same jobs wait to be started,
 -- and as many helpers were lost by a fault
 pub record LooksAlike (one other : State) : Type 0 where
   pub ports : numbers one.ports ≡ numbers other.ports
@@ -102,6 +103,7 @@ IsRead (Started job ticket) = Unit {0}
 IsRead (StartFailed job) = Unit {0}
 IsRead Tick = Unit {0}
 
+-- each piece of these events is what one read brings
 abbrev pub AreRead : List Timed → Type 0
 AreRead [] = Unit {0}
 AreRead (timed ∷ later) = IsRead timed.event × AreRead later

@@ -20,6 +20,7 @@ abbrev pub told_from : Replay → List Timed → List (List Happening)
 told_from replay [] = []
 told_from replay (timed ∷ later) = events_of (told_of timed replay).steps ∷ told_from (replayed timed replay) later
 
+-- the events of the lines of each event, from the first state on
 abbrev pub told : Settings → List Timed → List (List Happening)
 told settings events = told_from (first_replay settings) events
 
@@ -31,6 +32,7 @@ sight state = numbers state.ports ∷ owed_of 1 state ∷ []
 abbrev pub seen : Settings → List Timed → List (List ℕ)
 seen settings events = sight (run (first_state settings) events)
 
+-- the open ports and what client 1 is owed after the run of the record of these events
 abbrev pub seen_again : Settings → List Timed → List (List ℕ)
 seen_again settings events = sight (replayed_all (first_replay settings) events).state
 
@@ -44,6 +46,7 @@ all_at_5 events = map (on 5) events
 abbrev pub locked : List Happening
 locked = Joined Clients ∷ Heard 1 (lock (codes "pw")) ∷ Took 1 5 ∷ Heard 1 (unlock (codes "no")) ∷ []
 
+-- behind the wrong passphrase the client has the right one
 abbrev pub unlocked : List Happening
 unlocked = locked ++ Took 1 5 ∷ Heard 1 (unlock (codes "pw")) ∷ []
 

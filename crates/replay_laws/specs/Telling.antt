@@ -15,6 +15,7 @@ use Rattle.replay_laws.specs.Redacting.{blanked_seen, blanked_state, redacted_se
 abbrev pub told_split : (List ℕ → List ℕ) → Split → List ℕ
 told_split rename cut = frames (map (renamed rename) cut.bodies) ++ rest_bytes (front longest_body cut.rest) cut.rest
 
+-- what is told of the bytes of a stream: each whole frame renamed, and zeros for a frame that has begun
 abbrev pub told_bytes : (List ℕ → List ℕ) → List ℕ → List ℕ
 told_bytes rename bytes = told_split rename (split longest_body bytes)
 
@@ -23,6 +24,7 @@ abbrev pub AreShort : (List ℕ → List ℕ) → List (List ℕ) → Type 0
 AreShort rename [] = Unit {0}
 AreShort rename (body ∷ bodies) = (length (renamed rename body) ≤ longest_body) × AreShort rename bodies
 
+-- what is told of these bytes, frame by frame, is at most as long as they are
 abbrev pub IsShort : (List ℕ → List ℕ) → List ℕ → Type 0
 IsShort rename bytes = AreShort rename (split longest_body bytes).bodies
 
@@ -34,8 +36,8 @@ IsShort rename bytes = AreShort rename (split longest_body bytes).bodies
 abbrev pub AreToldAlike : (List ℕ → List ℕ) → State → State → Type 0
 AreToldAlike rename one other = redacted_state rename (told_bytes rename) one ≡ blanked_state other
 
--- so are the states that both events lead to; both close the same ports, and put the same to the
--- helper but for private fields
+-- the states that both events lead to are those of the run and of the run of what is told of it; both
+-- close the same ports, and put the same to the helper but for private fields
 abbrev pub BringsAlike : (List ℕ → List ℕ) → Outcome → Outcome → Type 0
 BringsAlike rename one other = redacted_seen rename (told_bytes rename) one ≡ blanked_seen other
 
