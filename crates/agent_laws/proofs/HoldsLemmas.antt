@@ -9,13 +9,13 @@ use Rattle.identity_table.specs.Identities.{HaveOwnBlobs, HaveOwnNumbers, HeldKe
 use Rattle.identity_table.proofs.FindLemmas.{found_has, find-alive, if_alive, own_blobs-alive}
 use Rattle.identity_table.proofs.NumberLaws.{find_number-alive, number_of_found, unless_blob}
 use Rattle.identity_table.proofs.NumberLemmas.{own_numbers-alive}
-use Rattle.identity_table.proofs.SpendLemmas.{only_uses}
+use Rattle.identity_table.proofs.SpendLemmas.{only_uses, own_blobs-spend, own_numbers-spend}
 use Rattle.agent_model.specs.Actions.{Action}
 use Rattle.agent_model.specs.KeyStates.{KeyState, after_use, expired, no_keys}
 use Rattle.agent_model.specs.Runs.{Stamped}
 use Rattle.agent_laws.specs.Grants.{WasHeld}
 use Rattle.agent_laws.specs.Past.{DidUse, Done, PastAddition, added_by, addition_count, counted_by, done_of, has_uses, held_by, is_alive, last_addition, locked_by, used_again, was_locked}
-use Rattle.agent_laws.proofs.UseLemmas.{find-used, own_blobs-used, own_numbers-used, was_held, was_held-used}
+use Rattle.agent_laws.proofs.UseLemmas.{find-used, was_held, was_held-used}
 
 -- what the past tells: whether the agent is locked, how many additions succeeded, and the last addition of each blob
 pub record Facts : Type 0 where
@@ -306,8 +306,8 @@ used-holds life second facts held blob key found holds = record {
   locked = holds.locked;
   count = holds.count;
   default = holds.default;
-  own = own_blobs-used key.number held.table.identities holds.own;
-  numbers = own_numbers-used key.number held.table.last held.table.identities holds.numbers;
+  own = own_blobs-spend key.number held.table.identities holds.own;
+  numbers = own_numbers-spend key.number held.table.last held.table.identities holds.numbers;
   found = λ other later after.
       let its_number = number_of_found blob held.table.last held.table.identities key holds.numbers found in
       ap (if_alive later) (find-used other key.number key held.table.identities holds.own its_number.1

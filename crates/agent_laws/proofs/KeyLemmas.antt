@@ -8,6 +8,7 @@ use Rattle.identity_table.specs.Identities.{HaveOwnBlobs, HaveOwnNumbers, HeldKe
 use Rattle.identity_table.proofs.FindLemmas.{own_blobs-alive, own_blobs-put, own_blobs-remove}
 use Rattle.identity_table.proofs.NumberLaws.{find_number-alive, find_number-put, find_number-remove, unless_blob}
 use Rattle.identity_table.proofs.NumberLemmas.{own_numbers-alive, own_numbers-put, own_numbers-remove}
+use Rattle.identity_table.proofs.SpendLemmas.{own_blobs-spend, own_numbers-spend}
 use Rattle.wire_text.specs.Frames.{front_body}
 use Rattle.helper_link.specs.Telling.{telling}
 use Rattle.helper_link.specs.declared.fault.LinkFault.{LinkFault}
@@ -26,7 +27,7 @@ use Rattle.agent_model.specs.Time.{at_moment, taken_in}
 use Rattle.agent_model.proofs.MakeLemmas.{Makes, alters, by_event, closes, first, goes_on, grants, links, loses, names, overs, serves, stays, tells}
 use Rattle.agent_model.proofs.TimeLemmas.{at_moment-keeps}
 use Rattle.agent_laws.proofs.HoldsLemmas.{none_numbered, of_alive, of_unless}
-use Rattle.agent_laws.proofs.UseLemmas.{own_blobs-used, own_numbers-used, used_in_turn, was_held, was_held-used}
+use Rattle.agent_laws.proofs.UseLemmas.{used_in_turn, was_held, was_held-used}
 use Rattle.agent_model.proofs.ServeLemmas.{Serves, adds, confirms, denies, empties, lists, locks, removes, serves-any, signs, unlocks, verifies}
 
 -- the numbers that were given find what they found, or nothing; and identities have parts of their own yet
@@ -106,7 +107,7 @@ pub kept-used : (used : Option ℕ) (held : KeyState) → HaveOwnParts held.tabl
     → KeysKept held.table (after_use used held).table
 kept-used None held own = kept-same held.table own
 kept-used (Some addition) held own = record {
-  own = record { blobs = own_blobs-used addition held.table.identities own.blobs; numbers = own_numbers-used addition held.table.last held.table.identities own.numbers };
+  own = record { blobs = own_blobs-spend addition held.table.identities own.blobs; numbers = own_numbers-spend addition held.table.last held.table.identities own.numbers };
   last = omega arith;
   found = λ number key within is. was_held-used addition number held.table.last held.table.identities key own.numbers is;
 }

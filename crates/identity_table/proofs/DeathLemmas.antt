@@ -21,7 +21,7 @@ both_ahead now None b ahead = (tt, ahead)
 both_ahead now (Some a) None ahead = (ahead, tt)
 both_ahead now (Some a) (Some b) ahead = (omega arith, omega arith)
 
--- the same by the test of the clock
+-- what is still to come is alive, by the test whether the clock comes to it
 lives_by : (now death : ℕ) (reached : Bool) → ltb death (2 ^ 64) ≡ reached → now < 2 ^ 64 →
     IsAhead now (cond reached (Some death) None) → ltb now death ≡ true
 lives_by now death true reached small ahead = (Decides-ltb now death).1 ahead

@@ -129,7 +129,7 @@ entry_of_found records indexed blob one found =
       taken,
     )
 
--- the same of what stands at a place
+-- what stands at a place is what is found by its blob
 pub entry_at : (records : Records) → IsIndexed records → (place : ℕ) (one : HeldKey) →
     held_at records place ≡ Some one → find_identity one.blob (held records) ≡ Some one
 unfolding find_identity
@@ -150,7 +150,7 @@ entry_within records indexed place one at =
     let entry = entry_of_found records indexed one.blob one (entry_at records indexed place one at) in
     (entry.0, entry.1)
 
--- so does what is to be added
+-- what is to be added takes a part of the answer too
 pub entry_of_put : (one : HeldKey) (keys : List HeldKey) → answer_len (put_identity one keys) ≤ max_answer →
     entry_len one ≤ max_answer
 entry_of_put one keys fits =

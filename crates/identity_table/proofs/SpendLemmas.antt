@@ -98,7 +98,8 @@ find_number-spend number last (first ∷ keys) key own found =
 
 -- ---- tables stay sound
 
-own_numbers-spend : (number last : ℕ) (keys : List HeldKey) → HaveOwnNumbers last keys →
+-- a use leaves numbers each one's own
+pub own_numbers-spend : (number last : ℕ) (keys : List HeldKey) → HaveOwnNumbers last keys →
     HaveOwnNumbers last (spend_identity number keys)
 unfolding spend_identity HaveOwnNumbers
 own_numbers-spend number last [] own = tt
@@ -147,7 +148,8 @@ find_identity-spend_none number blob (key ∷ keys) none =
     by_blob true other none later = absurd cc
     by_blob false other none later = by_test (eqb key.number number) other none (later none)
 
-own_blobs-spend : (number : ℕ) (keys : List HeldKey) → HaveOwnBlobs keys → HaveOwnBlobs (spend_identity number keys)
+-- a use leaves blobs each one's own
+pub own_blobs-spend : (number : ℕ) (keys : List HeldKey) → HaveOwnBlobs keys → HaveOwnBlobs (spend_identity number keys)
 unfolding spend_identity HaveOwnBlobs
 own_blobs-spend number [] own = tt
 own_blobs-spend number (key ∷ keys) own =
@@ -238,7 +240,7 @@ one_less key uses some =
     let test : (suc uses == 0) ≡ false = grind (arith, nat_tests) in
     ap (λ u. used_by u key) some ∙ rw (rest, test) refl
 
--- the same in other words
+-- one with a number of uses and one more has that number afterwards
 pub used_left : (uses : ℕ) (key : HeldKey) → key.uses ≡ Some (uses + 1) → 1 ≤ uses →
     used key ≡ Some (record key { uses = Some uses })
 used_left zero key is some = absurd (omega (arith, some))

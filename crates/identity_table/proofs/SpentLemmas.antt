@@ -49,7 +49,7 @@ values-spent at number (e ∷ es) one after only there passes is =
     by_tests false false has behind found later rest =
         ap (λ (keys : List HeldKey). e.1 ∷ keys) (rest found)
 
--- the same of records
+-- a use of what stands at a place leaves the records with what is left of it there
 pub held-spent : (old : Records) (new : BTreeMap ℕ HeldKey) (place : ℕ) (one after : HeldKey) → IsIndexed old →
     held_at old place ≡ Some one → used one ≡ Some after →
     new.entries ≡ set_value (is_at (nat_cmp place)) old.places.entries after →

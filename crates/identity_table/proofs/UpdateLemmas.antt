@@ -75,7 +75,7 @@ undone told old first last key value put taken new one = by_key (told_some told 
     by_key (inl is) = taken.here one is ∙ sym (new one is)
     by_key (inr differs) = taken.apart one differs ∙ put.apart one differs
 
--- the same functions undo one another
+-- functions that agree with two that undo one another undo one another
 pub IsInverse-same : {K : Type 0} (f f' : ℕ → Option K) (g g' : K → Option ℕ) →
     ((place : ℕ) → f' place ≡ f place) → ((key : K) → g' key ≡ g key) → IsInverse f g → IsInverse f' g'
 IsInverse-same f f' g g' same_f same_g inverse = record {

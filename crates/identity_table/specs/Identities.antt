@@ -73,7 +73,7 @@ abbrev pub used_by : Option ℕ → HeldKey → Option HeldKey
 used_by None key = Some key
 used_by (Some uses) key = with_uses (uses - 1) key
 
--- the same by the number that it has left
+-- an identity after one more use, by the number that it has left
 abbrev pub used : HeldKey → Option HeldKey
 used key = used_by key.uses key
 

@@ -29,11 +29,12 @@ blob_key one = Some one.blob
 abbrev pub number_key : HeldKey → Option ℕ
 number_key one = Some one.number
 
--- its death, where the clock comes to it, and of those with one death the number
+-- a death, where the clock comes to it, and of those with one death the number
 abbrev pub death_by : Option ℕ → ℕ → Option (ℕ × ℕ)
 death_by None number = None
 death_by (Some death) number = Some (death, number)
 
+-- the key of an identity by its death
 abbrev pub death_key : HeldKey → Option (ℕ × ℕ)
 death_key one = death_by (on_clock one.death) one.number
 

@@ -1,4 +1,6 @@
-ghost use Rattle.std.specs.Prelude.{◌≡◌, Some, nat_lt};
+//! When identities end.
+
+ghost use Rattle.std.specs.Prelude.{◌≡◌, Some};
 ghost use Rattle.identity_table.specs.Deaths.{death_of, on_clock};
 
 use std::marker::Model;
@@ -28,16 +30,6 @@ impl Deadline {
         match (life, default) {
             (Some(life), _) | (None, Some(life)) => Some(Deadline { added: now, life }),
             (None, None) => None,
-        }
-    }
-
-    /// Whether it has not come at second `now`, which is not before the addition.
-    pub fn is_ahead(&self, now: u64) -> bool
-        ensures { result ≡ nat_lt now self.now }
-    {
-        match self.added.checked_add(self.life as u64) {
-            Some(death) => now < death,
-            None => true,
         }
     }
 

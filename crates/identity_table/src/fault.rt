@@ -1,3 +1,5 @@
+//! Why an identity isn't added.
+
 ghost use Rattle.std.specs.Prelude.{◌≡◌};
 ghost use Rattle.identity_table.specs.declared.fault.AddFault.TheVariants.{Memory};
 

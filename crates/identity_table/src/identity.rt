@@ -1,6 +1,8 @@
+//! A private key that is held, with its constraints.
+
 ghost use Rattle.std.specs.Prelude.{◌≡◌, Some, IfOk};
 ghost use Rattle.identity_table.specs.Identities.{identity_of};
-ghost use Rattle.identity_table.specs.Deaths.{lives_at, on_clock};
+ghost use Rattle.identity_table.specs.Deaths.{on_clock};
 
 use crate::deadline::Deadline;
 use constraint_rec::{Constraint, Terms};
@@ -137,16 +139,6 @@ impl Identity {
         ensures { result.now ≡ self.now.rules }
     {
         self.held.rules.as_slice()
-    }
-
-    /// Whether its lifetime has not run out at second `now`.
-    pub(crate) fn is_alive(&self, now: u64) -> bool
-        ensures { result ≡ lives_at now self.now.death }
-    {
-        match &self.held.deadline {
-            Some(deadline) => deadline.is_ahead(now),
-            None => true,
-        }
     }
 
     /// The second from which it is dead, where the clock comes to it.

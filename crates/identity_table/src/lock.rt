@@ -1,3 +1,5 @@
+//! The lock: a passphrase that is held until it is told again.
+
 ghost use Rattle.std.specs.Prelude.{◌≡◌, ◌≤◌, Some, None, is_some, length};
 ghost use Rattle.std.specs.Bool.{OnTrue, OnFalse};
 ghost use Rattle.identity_table.specs.Lock.{HasShort, can_lock, can_unlock, longest_passphrase};

@@ -1,7 +1,9 @@
+//! The table of identities.
+
 ghost use Rattle.std.specs.Prelude.{◌≡◌, ◌+◌, ◌≤◌, ◌↔◌, IsSome, IsTrue, IfOk, IfSome, MatchResult, None, OnOk, OnErr, length, slice_get};
 ghost use Rattle.std.specs.Option.{option_copied};
 ghost use Rattle.std.specs.Map.Iter.{ShowsInOrder, deref};
-ghost use Rattle.identity_table.specs.Identities.{HeldKey, IsSound, added, answer_len, find_identity, find_number, longest_private, next_death};
+ghost use Rattle.identity_table.specs.Identities.{HeldKey, IsSound, added, find_identity, find_number, longest_private, next_death};
 ghost use Rattle.identity_table.specs.Tables.{IsRefusedWith, add_fault, emptied, empty_table, expired, spent, without};
 
 use crate::deadline::Deadline;
@@ -120,13 +122,6 @@ impl Table {
         self.records.places.values().nth(place)
     }
 
-    /// How many seconds identities live that come without a lifetime.
-    pub fn default_life(&self) -> Option<u32>
-        ensures { result ≡ self.now.life }
-    {
-        self.life
-    }
-
     /// The identities, one after another. One message lists them all.
     pub fn iter(&self) -> Values<'_, u64, Identity>
         ensures value { result ≡ self.now.identities }
@@ -134,13 +129,6 @@ impl Table {
         ensures sound { IsSound self.now.identities self.now.last }
     {
         self.records.places.values()
-    }
-
-    /// How many bytes the body of the answer has that lists all.
-    pub fn listed_len(&self) -> usize
-        ensures { result ≡ answer_len self.now.identities }
-    {
-        self.records.listed
     }
 
     /// The greatest second so far.
