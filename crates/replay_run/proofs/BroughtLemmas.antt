@@ -30,23 +30,29 @@ IsCourse state (Came line before timed ∷ later) end =
     (state ≡ before) × IsCourse (step before timed.moment timed.event).state later end
 IsCourse state (Barred line fault ∷ later) end = IsCourse state later end
 
-course-then : (start : State) (some more : List Told) (mid end : State) → IsCourse start some mid → IsCourse mid more end → IsCourse start (some ++ more) end
-course-then start [] more mid end first later = subst (λ (s : State). IsCourse s more end) (sym first) later
+course-then : (start : State) (some more : List Told) (mid end : State) → IsCourse start some mid
+    → IsCourse mid more end → IsCourse start (some ++ more) end
+course-then start [] more mid end first later =
+    subst (λ (s : State). IsCourse s more end) (sym first) later
 course-then start (Came line before timed ∷ some) more mid end first later =
     (first.0, course-then (step before timed.moment timed.event).state some more mid end first.1 later)
-course-then start (Barred line fault ∷ some) more mid end first later = course-then start some more mid end first later
+course-then start (Barred line fault ∷ some) more mid end first later =
+    course-then start some more mid end first later
 
 -- they are its events
-course-run : (state : State) (told : List Told) (end : State) → IsCourse state told end → run state (events_in told) ≡ end
+course-run : (state : State) (told : List Told) (end : State) → IsCourse state told end
+    → run state (events_in told) ≡ end
 course-run state [] end is = is
 course-run state (Came line before timed ∷ later) end is =
     ap (λ (s : State). run (step s timed.moment timed.event).state (events_in later)) is.0
     ∙ course-run (step before timed.moment timed.event).state later end is.1
 course-run state (Barred line fault ∷ later) end is = course-run state later end is
 
-told-course : (line : ℕ) (state : State) (events : List Timed) → IsCourse state (told_from line state events) (run state events)
+told-course : (line : ℕ) (state : State) (events : List Timed)
+    → IsCourse state (told_from line state events) (run state events)
 told-course line state [] = refl
-told-course line state (timed ∷ later) = (refl, told-course line (step state timed.moment timed.event).state later)
+told-course line state (timed ∷ later) =
+    (refl, told-course line (step state timed.moment timed.event).state later)
 
 -- ---- a line
 
@@ -59,40 +65,48 @@ abbrev FindsAgent : Brought → Run → Type 0
 FindsAgent (Brings found events) before = before.agent ≡ found.agent
 FindsAgent (Refuses fault) before = Unit {0}
 
-led-brought : (brought : Brought) (size : ℕ) (before : Run) → FindsAgent brought before → IsLed (brought_turned brought size before) before.agent
+led-brought : (brought : Brought) (size : ℕ) (before : Run) → FindsAgent brought before
+    → IsLed (brought_turned brought size before) before.agent
 led-brought (Brings found events) size before same =
     subst (λ (s : State). IsCourse s (told_from (suc before.line) found.agent events) (run found.agent events)) (sym same)
     (told-course (suc before.line) found.agent events)
 led-brought (Refuses fault) size before same = refl
 
-finds-port : (found : Option Port) (brought : Brought) (before : Run) → FindsAgent brought before → FindsAgent (at_port found brought) before
+finds-port : (found : Option Port) (brought : Brought) (before : Run) → FindsAgent brought before
+    → FindsAgent (at_port found brought) before
 finds-port None brought before is = tt
 finds-port (Some port) brought before is = is
 
-finds-job : (found : Option Job) (brought : Brought) (before : Run) → FindsAgent brought before → FindsAgent (at_job found brought) before
+finds-job : (found : Option Job) (brought : Brought) (before : Run) → FindsAgent brought before
+    → FindsAgent (at_job found brought) before
 finds-job None brought before is = tt
 finds-job (Some job) brought before is = is
 
-finds-if : (test : Bool) (one other : Brought) (before : Run) → FindsAgent one before → FindsAgent other before → FindsAgent (if test then one else other) before
+finds-if : (test : Bool) (one other : Brought) (before : Run) → FindsAgent one before
+    → FindsAgent other before → FindsAgent (if test then one else other) before
 finds-if true one other before is also = is
 finds-if false one other before is also = also
 
-finds-peer : (found : Option Port) (number : ℕ) (brought : Brought) (before : Run) → FindsAgent brought before → FindsAgent (at_peer found number brought before) before
+finds-peer : (found : Option Port) (number : ℕ) (brought : Brought) (before : Run)
+    → FindsAgent brought before → FindsAgent (at_peer found number brought before) before
 finds-peer None number brought before is =
     finds-if (list_any (λ other. other == number) before.closed) (skips before) (Refuses UnknownPort) before refl tt
 finds-peer (Some port) number brought before is = is
 
-finds-later : (first : Bool) (begun : Brought) (before : Run) → first ≡ false → FindsAgent (if first then begun else Refuses Word) before
+finds-later : (first : Bool) (begun : Brought) (before : Run) → first ≡ false
+    → FindsAgent (if first then begun else Refuses Word) before
 finds-later true begun before later = absurd cc
 finds-later false begun before later = tt
 
-finds-step : (step : Step) (before : Run) → (is_format step && (before.line == 0)) ≡ false → FindsAgent (step_brings step before) before
+finds-step : (step : Step) (before : Run) → (is_format step && (before.line == 0)) ≡ false
+    → FindsAgent (step_brings step before) before
 finds-step Skip before plain = refl
 finds-step Format2 before plain = finds-later (before.line == 0) _ before plain
 finds-step (At moment) before plain = refl
 finds-step (Join door) before plain = refl
 finds-step (Hear port bytes) before plain = finds-peer (find_port port before.agent.ports) port (happens (Heard port bytes) before) before refl
-finds-step (End port) before plain = finds-peer (find_port port before.agent.ports) port (happens (Ended port) before) before refl
+finds-step (End port) before plain =
+    finds-peer (find_port port before.agent.ports) port (happens (Ended port) before) before refl
 finds-step (Hold port) before plain = finds-port (find_port port before.agent.ports) (settles (record before { held = hold_port port before.held })) before refl
 finds-step (Free port) before plain = finds-port (find_port port before.agent.ports) (settles (record before { held = free_port port before.held })) before refl
 finds-step (Take port count) before plain =
@@ -101,23 +115,30 @@ finds-step (Take port count) before plain =
 finds-step (Started job ticket) before plain = finds-job (find_to_start job (starts before.agent)) (happens (JobStarted job ticket) before) before refl
 finds-step (Failed job) before plain = finds-job (find_to_start job (starts before.agent)) (happens (StartFailed job) before) before refl
 
-finds-line : (read : Result Step LineFault) (before : Run) → (names_format read && (before.line == 0)) ≡ false → FindsAgent (line_brings read before) before
+finds-line : (read : Result Step LineFault) (before : Run)
+    → (names_format read && (before.line == 0)) ≡ false
+    → FindsAgent (line_brings read before) before
 finds-line (Ok step) before plain = finds-step step before plain
 finds-line (Err fault) before plain = tt
 
-led-by : (refused : Option LineFault) (line : List ℕ) (size : ℕ) (before : Run) → before.refused ≡ refused → IsPlain line before → IsLed (turned_by refused line size before) before.agent
+led-by : (refused : Option LineFault) (line : List ℕ) (size : ℕ) (before : Run)
+    → before.refused ≡ refused → IsPlain line before
+    → IsLed (turned_by refused line size before) before.agent
 led-by None line size before is plain =
     led-brought (line_brings (step_at (before.read + size) line) before) size before
     (finds-line (step_at (before.read + size) line) before (plain_at (nat_lt longest_schedule (before.read + size)) line (before.line == 0) (plain is)))
 led-by (Some fault) line size before is plain = refl
 
-led-turned : (line : List ℕ) (size : ℕ) (before : Run) → IsPlain line before → IsLed (turned line size before) before.agent
+led-turned : (line : List ℕ) (size : ℕ) (before : Run) → IsPlain line before
+    → IsLed (turned line size before) before.agent
 unfolding turned
 led-turned line size before plain = led-by before.refused line size before refl plain
 
-led-last : (part : List ℕ) (before : Run) → IsPlain part before → IsLed (last_turned part before) before.agent
+led-last : (part : List ℕ) (before : Run) → IsPlain part before
+    → IsLed (last_turned part before) before.agent
 led-last [] before plain = refl
-led-last (byte ∷ bytes) before plain = led-turned (byte ∷ bytes) (length (byte ∷ bytes)) before plain
+led-last (byte ∷ bytes) before plain =
+    led-turned (byte ∷ bytes) (length (byte ∷ bytes)) before plain
 
 -- ---- a schedule
 
@@ -127,7 +148,8 @@ BeginPlain [] run = Unit {0}
 BeginPlain (line ∷ lines) run = IsPlain line run
 
 -- a whole line, and the parts behind it
-led-whole : (start : State) (line next : List ℕ) (parts : List (List ℕ)) (before : Run) → IsLed (whole_turned line before) start
+led-whole : (start : State) (line next : List ℕ) (parts : List (List ℕ)) (before : Run)
+    → IsLed (whole_turned line before) start
     → IsLed (course true (whole_turned line before).run (next ∷ parts)) (whole_turned line before).run.agent
     → IsLed (course true before (line ∷ next ∷ parts)) start
 unfolding course
@@ -140,7 +162,8 @@ behind-plain : (line next : List ℕ) (before : Run) → IsPlain next (whole_tur
 behind-plain line next before =
     plain_later next (whole_turned line before).run (begun-turned line (length line + 1) before)
 
-led-parts : (before : Run) (parts : List (List ℕ)) → BeginPlain parts before → IsLed (course true before parts) before.agent
+led-parts : (before : Run) (parts : List (List ℕ)) → BeginPlain parts before
+    → IsLed (course true before parts) before.agent
 unfolding course
 led-parts before [] plain = refl
 led-parts before (part ∷ []) plain = led-last part before plain
@@ -149,36 +172,46 @@ led-parts before (line ∷ next ∷ parts) plain =
     (led-parts (whole_turned line before).run (next ∷ parts) (behind-plain line next before))
 
 -- line 1 of a schedule of format 2 leaves the agent with limits, and brings nothing
-led-second : (life : Option ℕ) (line : List ℕ) (size : ℕ) → step_of line ≡ Ok Format2 → size ≤ length line + 1 → IsLed (turned line size (start_run life)) (first_state (settings_by true life))
+led-second : (life : Option ℕ) (line : List ℕ) (size : ℕ) → step_of line ≡ Ok Format2
+    → size ≤ length line + 1
+    → IsLed (turned line size (start_run life)) (first_state (settings_by true life))
 led-second life line size asked most =
     let short = asked_is_short line Format2 asked in
     let within : (start_run life).read + size ≤ longest_schedule = omega arith in
     subst (λ (t : Turned). IsLed t (first_state (settings_by true life))) (sym (turned-step line size (start_run life) Format2 refl within asked)) refl
 
-led-format : (life : Option ℕ) (line : List ℕ) (parts : List (List ℕ)) → step_of line ≡ Ok Format2 → IsLed (course true (start_run life) (line ∷ parts)) (first_state (settings_by true life))
+led-format : (life : Option ℕ) (line : List ℕ) (parts : List (List ℕ)) → step_of line ≡ Ok Format2
+    → IsLed (course true (start_run life) (line ∷ parts)) (first_state (settings_by true life))
 unfolding course
 led-format life [] [] asked = let no : Ok Skip ≡ Ok Format2 = sym step_of-empty ∙ asked in absurd cc
-led-format life (byte ∷ bytes) [] asked = led-second life (byte ∷ bytes) (length (byte ∷ bytes)) asked (omega arith)
+led-format life (byte ∷ bytes) [] asked =
+    led-second life (byte ∷ bytes) (length (byte ∷ bytes)) asked (omega arith)
 led-format life line (next ∷ parts) asked =
     led-whole (first_state (settings_by true life)) line next parts (start_run life) (led-second life line (length line + 1) asked (omega arith))
     (led-parts (whole_turned line (start_run life)).run (next ∷ parts) (behind-plain line next (start_run life)))
 
 -- by whether line 1 names format 2
-led-begun : (life : Option ℕ) (parts : List (List ℕ)) → IsLed (course true (start_run life) parts) (first_state (settings_by (is_second parts) life))
+led-begun : (life : Option ℕ) (parts : List (List ℕ))
+    → IsLed (course true (start_run life) parts) (first_state (settings_by (is_second parts) life))
 unfolding course
 led-begun life [] = refl
 led-begun life (line ∷ parts) = by_test (names_format (step_of line)) refl
   where
-    by_test : (second : Bool) → names_format (step_of line) ≡ second → IsLed (course true (start_run life) (line ∷ parts)) (first_state (settings_by second life))
+    by_test : (second : Bool) → names_format (step_of line) ≡ second
+        → IsLed (course true (start_run life) (line ∷ parts)) (first_state (settings_by second life))
     by_test true is = led-format life line parts (names_the_format (step_of line) is)
-    by_test false is = led-parts (start_run life) (line ∷ parts) (λ accepted. ap (λ test. test && true) is)
+    by_test false is =
+        led-parts (start_run life) (line ∷ parts) (λ accepted. ap (λ test. test && true) is)
 
 -- what is told of a schedule are the events of its run
-pub schedule-course : (life : Option ℕ) (text : List ℕ) → IsCourse (first_state (settings_of life text)) (course true (start_run life) (parts_of text)).told (run_of life text).agent
+pub schedule-course : (life : Option ℕ) (text : List ℕ)
+    → IsCourse (first_state (settings_of life text)) (course true (start_run life) (parts_of text)).told (run_of life text).agent
 schedule-course life text = led-begun life (parts_of text)
 
-pub run-schedule : (life : Option ℕ) (text : List ℕ) → (run_of life text).agent ≡ run (first_state (settings_of life text)) (events_of life text)
+pub run-schedule : (life : Option ℕ) (text : List ℕ)
+    → (run_of life text).agent ≡ run (first_state (settings_of life text)) (events_of life text)
 run-schedule life text = sym (course-run (first_state (settings_of life text)) (course true (start_run life) (parts_of text)).told (run_of life text).agent (schedule-course life text))
 
-pub schedule-lawful : (life : Option ℕ) (text : List ℕ) → HasNumbers (run_of life text).agent → IsLawful life [] (history (first_state (settings_of life text)) (events_of life text))
+pub schedule-lawful : (life : Option ℕ) (text : List ℕ) → HasNumbers (run_of life text).agent
+    → IsLawful life [] (history (first_state (settings_of life text)) (events_of life text))
 schedule-lawful life text numbers = first-lawful (settings_of life text) (events_of life text) (subst HasNumbers (run-schedule life text) numbers)

@@ -20,30 +20,37 @@ use Rattle.replay_run.proofs.SettlingLemmas.{delivered-steady, delivered_lowers,
 -- ---- takings
 
 -- no port is held: the next one that is owed bytes takes them
-next_taking : (state : State) (port : ℕ) → next_owed 0 state ≡ Some port → next_to_take [] state ≡ Some port
+next_taking : (state : State) (port : ℕ) → next_owed 0 state ≡ Some port
+    → next_to_take [] state ≡ Some port
 next_taking state port next = unheld_some state.under_way 0 [] state.ports port next refl
 
 -- it is owed some
-pub next_owed_some : (state : State) (port : ℕ) → IsSteady state → next_owed 0 state ≡ Some port → 0 < length (owed_of port state)
+pub next_owed_some : (state : State) (port : ℕ) → IsSteady state → next_owed 0 state ≡ Some port
+    → 0 < length (owed_of port state)
 next_owed_some state port steady next = owed_some [] port state steady (next_taking state port next)
 
 -- a taking lowers the budget
-pub taking_lowers : (moment : Moment) (port : ℕ) (drill : Drilled) → IsSteady drill.agent → next_owed 0 drill.agent ≡ Some port
+pub taking_lowers : (moment : Moment) (port : ℕ) (drill : Drilled) → IsSteady drill.agent
+    → next_owed 0 drill.agent ≡ Some port
     → budget (taking moment port drill).agent < budget drill.agent
 unfolding taking
-taking_lowers moment port drill steady next = delivered_lowers moment [] port drill.agent steady (next_taking drill.agent port next)
+taking_lowers moment port drill steady next =
+    delivered_lowers moment [] port drill.agent steady (next_taking drill.agent port next)
 
 -- and keeps steady numbers
-taking-steady : (moment : Moment) (port : ℕ) (drill : Drilled) → IsSteady drill.agent → IsSteady (taking moment port drill).agent
+taking-steady : (moment : Moment) (port : ℕ) (drill : Drilled) → IsSteady drill.agent
+    → IsSteady (taking moment port drill).agent
 unfolding taking
 taking-steady moment port drill steady = delivered-steady moment port drill.agent steady
 
 -- nothing is taken where nothing is owed
-takings_by-none : (moment : Moment) (fuel : ℕ) (drill : Drilled) → next_owed 0 drill.agent ≡ None → takings_by moment fuel drill ≡ drill
+takings_by-none : (moment : Moment) (fuel : ℕ) (drill : Drilled) → next_owed 0 drill.agent ≡ None
+    → takings_by moment fuel drill ≡ drill
 takings_by-none moment zero drill none = refl
-takings_by-none moment (suc fuel) drill none = ap (takings_from moment (takings_by moment fuel) drill) none
+takings_by-none moment (suc fuel) drill none =
+    ap (takings_from moment (takings_by moment fuel) drill) none
 
--- the same at the port that is found
+-- more fuel than the budget changes nothing, at the port that takes next
 fuel_from : (moment : Moment) (fuel more : ℕ) (drill : Drilled) (found : Option ℕ)
     → next_owed 0 drill.agent ≡ found → IsSteady drill.agent → budget drill.agent ≤ suc fuel → budget drill.agent ≤ suc more
     → ((port : ℕ) → budget (taking moment port drill).agent ≤ fuel → budget (taking moment port drill).agent ≤ more
@@ -55,7 +62,8 @@ fuel_from moment fuel more drill (Some port) next steady enough plenty later =
     later port (omega arith) (omega arith)
 
 -- where the budget is used up, no port takes
-spent_owes_nothing : (drill : Drilled) (found : Option ℕ) → next_owed 0 drill.agent ≡ found → IsSteady drill.agent
+spent_owes_nothing : (drill : Drilled) (found : Option ℕ) → next_owed 0 drill.agent ≡ found
+    → IsSteady drill.agent
     → budget drill.agent ≤ 0 → next_owed 0 drill.agent ≡ None
 spent_owes_nothing drill None next steady spent = next
 spent_owes_nothing drill (Some port) next steady spent =
@@ -73,12 +81,14 @@ takings_by-fuel moment (suc fuel) (suc more) drill steady enough plenty =
     (λ port h l. takings_by-fuel moment fuel more (taking moment port drill) (taking-steady moment port drill steady) h l)
 
 -- where nothing is owed, settling does nothing
-pub drill_settled_none : (moment : Moment) (drill : Drilled) → next_owed 0 drill.agent ≡ None → drill_settled moment drill ≡ drill
+pub drill_settled_none : (moment : Moment) (drill : Drilled) → next_owed 0 drill.agent ≡ None
+    → drill_settled moment drill ≡ drill
 unfolding drill_settled
 drill_settled_none moment drill none = takings_by-none moment (budget drill.agent) drill none
 
 -- else the next port takes all that it is owed, and the rest is settled
-pub drill_settled_some : (moment : Moment) (port : ℕ) (drill : Drilled) → IsSteady drill.agent → next_owed 0 drill.agent ≡ Some port
+pub drill_settled_some : (moment : Moment) (port : ℕ) (drill : Drilled) → IsSteady drill.agent
+    → next_owed 0 drill.agent ≡ Some port
     → drill_settled moment drill ≡ drill_settled moment (taking moment port drill)
 unfolding drill_settled
 drill_settled_some moment port drill steady next =
@@ -90,9 +100,11 @@ drill_settled_some moment port drill steady next =
 
 -- ---- how many ports joined
 
-taking-last_port : (moment : Moment) (port : ℕ) (drill : Drilled) → (taking moment port drill).agent.last_port ≡ drill.agent.last_port
+taking-last_port : (moment : Moment) (port : ℕ) (drill : Drilled)
+    → (taking moment port drill).agent.last_port ≡ drill.agent.last_port
 unfolding taking
-taking-last_port moment port drill = step-last_port drill.agent moment (Took port (length (owed_of port drill.agent)))
+taking-last_port moment port drill =
+    step-last_port drill.agent moment (Took port (length (owed_of port drill.agent)))
 
 takings_from-last_port : (moment : Moment) (later : Drilled → Drilled) (drill : Drilled) (found : Option ℕ)
     → ((port : ℕ) → (later (taking moment port drill)).agent.last_port ≡ drill.agent.last_port)
@@ -100,7 +112,8 @@ takings_from-last_port : (moment : Moment) (later : Drilled → Drilled) (drill 
 takings_from-last_port moment later drill None same = refl
 takings_from-last_port moment later drill (Some port) same = same port
 
-takings_by-last_port : (moment : Moment) (fuel : ℕ) (drill : Drilled) → (takings_by moment fuel drill).agent.last_port ≡ drill.agent.last_port
+takings_by-last_port : (moment : Moment) (fuel : ℕ) (drill : Drilled)
+    → (takings_by moment fuel drill).agent.last_port ≡ drill.agent.last_port
 takings_by-last_port moment zero drill = refl
 takings_by-last_port moment (suc fuel) drill =
     takings_from-last_port moment (takings_by moment fuel) drill (next_owed 0 drill.agent)
@@ -122,7 +135,8 @@ heard_by-last_port false moment port body drill = refl
 pub heard-last_port : (moment : Moment) (port : ℕ) (body : List ℕ) (drill : Drilled)
     → (heard moment port body drill).agent.last_port ≡ drill.agent.last_port
 unfolding heard
-heard-last_port moment port body drill = heard_by-last_port (is_some (find_port port drill.agent.ports)) moment port body drill
+heard-last_port moment port body drill =
+    heard_by-last_port (is_some (find_port port drill.agent.ports)) moment port body drill
 
 helped_by-last_port : (waits : Bool) (moment : Moment) (drill : Drilled)
     → (helped_by waits moment drill).agent.last_port ≤ suc drill.agent.last_port
@@ -137,9 +151,11 @@ helped_by-last_port true moment drill =
     )
 helped_by-last_port false moment drill = omega arith
 
-helped-last_port : (moment : Moment) (drill : Drilled) → (helped moment drill).agent.last_port ≤ suc drill.agent.last_port
+helped-last_port : (moment : Moment) (drill : Drilled)
+    → (helped moment drill).agent.last_port ≤ suc drill.agent.last_port
 unfolding helped
-helped-last_port moment drill = helped_by-last_port (is_some (find_to_start 1 (starts drill.agent))) moment drill
+helped-last_port moment drill =
+    helped_by-last_port (is_some (find_to_start 1 (starts drill.agent))) moment drill
 
 signed_by-last_port : (ask : Option ℕ) (moment : Moment) (round : ℕ) (drill : Drilled)
     → (signed_by ask moment round drill).agent.last_port ≡ drill.agent.last_port
@@ -147,7 +163,8 @@ signed_by-last_port None moment round drill = refl
 signed_by-last_port (Some ask) moment round drill =
     heard-last_port moment helper_port (from_child_body (Signed ask (uint64 round))) (record drill { ask = None })
 
-signed-last_port : (moment : Moment) (round : ℕ) (drill : Drilled) → (signed moment round drill).agent.last_port ≡ drill.agent.last_port
+signed-last_port : (moment : Moment) (round : ℕ) (drill : Drilled)
+    → (signed moment round drill).agent.last_port ≡ drill.agent.last_port
 unfolding signed
 signed-last_port moment round drill = signed_by-last_port drill.ask moment round drill
 
@@ -165,7 +182,8 @@ round_by-last_port moment round draws drill =
       signed-last_port moment round (helped moment after),
     )
 
-round_of-last_port : (round : ℕ) (drill : Drilled) → (round_of round drill).agent.last_port ≤ suc drill.agent.last_port
+round_of-last_port : (round : ℕ) (drill : Drilled)
+    → (round_of round drill).agent.last_port ≤ suc drill.agent.last_port
 unfolding round_of
 round_of-last_port round drill =
     let timed = lined (moment_of round) Tick drill in
@@ -175,7 +193,8 @@ round_of-last_port round drill =
       round_by-last_port (moment_of round) round (draws_of 8 64 8 timed.number) timed,
     )
 
-pub joined-last_port : (count : ℕ) (drill : Drilled) → (joined count drill).agent.last_port ≡ drill.agent.last_port + count
+pub joined-last_port : (count : ℕ) (drill : Drilled)
+    → (joined count drill).agent.last_port ≡ drill.agent.last_port + count
 joined-last_port zero drill = omega arith
 joined-last_port (suc count) drill =
     omega (arith, lined-last_port (moment_of 0) (Joined Clients) (joined count drill), joined-last_port count drill)
@@ -209,19 +228,22 @@ not_there : {A : Type 0} (found : Option A) → ¬ (IsSome found) → is_some fo
 not_there None none = refl
 not_there (Some a) none = absurd (none (search rules))
 
-pub heard_there : (moment : Moment) (port : ℕ) (body piece : List ℕ) (old new : Drilled) → IsSome (find_port port old.agent.ports)
+pub heard_there : (moment : Moment) (port : ℕ) (body piece : List ℕ) (old new : Drilled)
+    → IsSome (find_port port old.agent.ports)
     → piece ≡ string body → new ≡ lined moment (Heard port piece) old → new ≡ heard moment port body old
 unfolding heard
 heard_there moment port body piece old new some piece_is new_is =
     new_is ∙ ap (λ (p : List ℕ). lined moment (Heard port p) old) piece_is
     ∙ sym (ap (λ (t : Bool). heard_by t moment port body old) (there (find_port port old.agent.ports) some))
 
-pub heard_not : (moment : Moment) (port : ℕ) (body : List ℕ) (old : Drilled) → ¬ (IsSome (find_port port old.agent.ports))
+pub heard_not : (moment : Moment) (port : ℕ) (body : List ℕ) (old : Drilled)
+    → ¬ (IsSome (find_port port old.agent.ports))
     → old ≡ heard moment port body old
 unfolding heard
 heard_not moment port body old none = sym (ap (λ (t : Bool). heard_by t moment port body old) (not_there (find_port port old.agent.ports) none))
 
-pub helped_started : (moment : Moment) (body : List ℕ) (old one two new : Drilled) → is_some (find_to_start 1 (starts old.agent)) ≡ true
+pub helped_started : (moment : Moment) (body : List ℕ) (old one two new : Drilled)
+    → is_some (find_to_start 1 (starts old.agent)) ≡ true
     → one ≡ lined moment (Started 1 ticket) old → two ≡ lined moment (Joined Children) one
     → body ≡ from_child_body (Hello 1 ticket) → new ≡ heard moment helper_port body two → new ≡ helped moment old
 unfolding helped
@@ -230,7 +252,8 @@ helped_started moment body old one two new waits one_is two_is body_is new_is =
     ∙ ap (heard moment helper_port (from_child_body (Hello 1 ticket))) (two_is ∙ ap (lined moment (Joined Children)) one_is)
     ∙ sym (ap (λ (t : Bool). helped_by t moment old) waits)
 
-pub helped_not : (moment : Moment) (old : Drilled) → is_some (find_to_start 1 (starts old.agent)) ≡ false → old ≡ helped moment old
+pub helped_not : (moment : Moment) (old : Drilled)
+    → is_some (find_to_start 1 (starts old.agent)) ≡ false → old ≡ helped moment old
 unfolding helped
 helped_not moment old none = sym (ap (λ (t : Bool). helped_by t moment old) none)
 

@@ -11,10 +11,15 @@ use Rattle.replay_run.proofs.GoesOnLemmas.{printed-last, ran-last}
 
 -- nothing was written of a text
 pub nothing_left : (all : List ℕ) (seen : StreamView) → WritesPart all seen seen
-nothing_left all seen = (all, record { front = []; whole = refl; written = Appends-nil seen.written })
+nothing_left all seen =
+    (all, record { front = []; whole = refl; written = Appends-nil seen.written })
 
 -- the last line and `end` were printed
-pub ends_text : (old mid new : Feeding) → IsReady old → mid.run ≡ (last_turned old.pending old.run).run → mid.out ≡ old.out ++ output (last_turned old.pending old.run) → new.run ≡ mid.run → new.out ≡ mid.out ++ ending true mid.run.refused → (new.run ≡ ending_run old) × (new.out ≡ ending_text old)
+pub ends_text : (old mid new : Feeding) → IsReady old
+    → mid.run ≡ (last_turned old.pending old.run).run
+    → mid.out ≡ old.out ++ output (last_turned old.pending old.run) → new.run ≡ mid.run
+    → new.out ≡ mid.out ++ ending true mid.run.refused
+    → (new.run ≡ ending_run old) × (new.out ≡ ending_text old)
 ends_text old mid new ready mid_run mid_out new_run new_out =
     let last = last_turned old.pending old.run in (
       new_run ∙ mid_run ∙ sym (ran-last old.run old.pending ready.begun.part),
@@ -26,7 +31,9 @@ ends_text old mid new ready mid_run mid_out new_run new_out =
     )
 
 -- by whether the last line was refused
-finished_by : (refused : Option LineFault) (old new : Feeding) (before after : StreamView) → new.run.refused ≡ refused → new.run ≡ ending_run old → Wrote before after (ending_text old) → Finishes (end_by new.run.line refused) old new.run before after
+finished_by : (refused : Option LineFault) (old new : Feeding) (before after : StreamView)
+    → new.run.refused ≡ refused → new.run ≡ ending_run old → Wrote before after (ending_text old)
+    → Finishes (end_by new.run.line refused) old new.run before after
 finished_by None old new before after is run_is wrote = record {
   run_is = run_is;
   wrote = wrote;
@@ -40,12 +47,16 @@ finished_by (Some fault) old new before after is run_is wrote = record {
 }
 
 -- all of it was written
-pub finished : (old new : Feeding) (before after : StreamView) → new.run ≡ ending_run old → new.out ≡ ending_text old → Wrote before after new.out → Finishes (end_of new.run) old new.run before after
+pub finished : (old new : Feeding) (before after : StreamView) → new.run ≡ ending_run old
+    → new.out ≡ ending_text old → Wrote before after new.out
+    → Finishes (end_of new.run) old new.run before after
 finished old new before after run_is out_is wrote =
     finished_by new.run.refused old new before after refl run_is (subst (λ (o : List ℕ). Wrote before after o) out_is wrote)
 
 -- some of it was written
-pub finishes_at_write_fault : (old new : Feeding) (before after : StreamView) → new.out ≡ ending_text old → WritesPart new.out before after → Rose before.write_faults after.write_faults → FinishesAtWriteFault old before after
+pub finishes_at_write_fault : (old new : Feeding) (before after : StreamView)
+    → new.out ≡ ending_text old → WritesPart new.out before after
+    → Rose before.write_faults after.write_faults → FinishesAtWriteFault old before after
 finishes_at_write_fault old new before after out_is some cause = record {
   front = subst (λ (o : List ℕ). WritesPart o before after) out_is some;
   cause = cause;

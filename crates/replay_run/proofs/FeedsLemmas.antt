@@ -17,18 +17,22 @@ use Rattle.replay_run.proofs.GoesOnLemmas.{goes_on-same, goes_on-then, goes_on-m
 pub Wrote-nil : (seen : StreamView) → Wrote seen seen []
 Wrote-nil seen = record { written = Appends-nil seen.written; kept = refl }
 
-pub Wrote-then : {w0 w1 w2 : StreamView} {a b : List ℕ} → Wrote w0 w1 a → Wrote w1 w2 b → Wrote w0 w2 (a ++ b)
+pub Wrote-then : {w0 w1 w2 : StreamView} {a b : List ℕ} → Wrote w0 w1 a → Wrote w1 w2 b
+    → Wrote w0 w2 (a ++ b)
 Wrote-then {w0} {w1} {w2} {a} {b} first second = record {
   written = Appends-trans w0.written w1.written w2.written a b first.written second.written;
   kept = second.kept ∙ first.kept;
 }
 
 -- what was printed and isn't written yet
-pub feeds_by : {old new : Feeding} {bytes : List ℕ} (seen : StreamView) → GoesOn old.out old.run (old.pending ++ bytes) new.out new.run new.pending → Feeds old bytes new seen seen
+pub feeds_by : {old new : Feeding} {bytes : List ℕ} (seen : StreamView)
+    → GoesOn old.out old.run (old.pending ++ bytes) new.out new.run new.pending
+    → Feeds old bytes new seen seen
 feeds_by seen goes = record { text = []; wrote = Wrote-nil seen; goes = goes }
 
 -- two pieces
-pub feeds_then : {old mid new : Feeding} {a b : List ℕ} {w0 w1 w2 : StreamView} → Feeds old a mid w0 w1 → Feeds mid b new w1 w2 → Feeds old (a ++ b) new w0 w2
+pub feeds_then : {old mid new : Feeding} {a b : List ℕ} {w0 w1 w2 : StreamView}
+    → Feeds old a mid w0 w1 → Feeds mid b new w1 w2 → Feeds old (a ++ b) new w0 w2
 feeds_then {old} {mid} {new} {a} {b} {w0} {w1} {w2} first second = record {
   text = first.text ++ second.text;
   wrote = Wrote-then first.wrote second.wrote;
@@ -37,7 +41,8 @@ feeds_then {old} {mid} {new} {a} {b} {w0} {w1} {w2} first second = record {
 }
 
 -- a piece, and then a front
-feeds_front : {old mid : Feeding} {a b : List ℕ} {w0 w1 w2 : StreamView} → Feeds old a mid w0 w1 → WritesFront mid b w1 w2 → WritesFront old (a ++ b) w0 w2
+feeds_front : {old mid : Feeding} {a b : List ℕ} {w0 w1 w2 : StreamView} → Feeds old a mid w0 w1
+    → WritesFront mid b w1 w2 → WritesFront old (a ++ b) w0 w2
 feeds_front {old} {mid} {a} {b} {w0} {w1} {w2} first second = record {
   text = first.text ++ second.text;
   wrote = Appends-trans w0.written w1.written w2.written first.text second.text first.wrote.written second.wrote;
@@ -57,7 +62,9 @@ feeds_front {old} {mid} {a} {b} {w0} {w1} {w2} first second = record {
 }
 
 -- a piece, and then a refusal
-feeds_refusal : {old mid : Feeding} {a b : List ℕ} {line : ℕ} {fault : LineFault} {run : Run} {w0 w1 w2 : StreamView} → Feeds old a mid w0 w1 → WritesRefusal mid b line fault run w1 w2 → WritesRefusal old (a ++ b) line fault run w0 w2
+feeds_refusal : {old mid : Feeding} {a b : List ℕ} {line : ℕ} {fault : LineFault} {run : Run} {w0 w1 w2 : StreamView}
+    → Feeds old a mid w0 w1 → WritesRefusal mid b line fault run w1 w2
+    → WritesRefusal old (a ++ b) line fault run w0 w2
 feeds_refusal {old} {mid} {a} {b} {line} {fault} {run} {w0} {w1} {w2} first second = record {
   text = first.text ++ second.text;
   wrote = Wrote-then first.wrote second.wrote;
@@ -67,7 +74,8 @@ feeds_refusal {old} {mid} {a} {b} {line} {fault} {run} {w0} {w1} {w2} first seco
 }
 
 -- a piece, and then the end of the run
-pub feeds_halts : (end : RunEnd) (old mid : Feeding) (a b : List ℕ) (run : Run) (w0 w1 w2 : StreamView) → Feeds old a mid w0 w1 → Halts end mid b run w1 w2 → Halts end old (a ++ b) run w0 w2
+pub feeds_halts : (end : RunEnd) (old mid : Feeding) (a b : List ℕ) (run : Run) (w0 w1 w2 : StreamView)
+    → Feeds old a mid w0 w1 → Halts end mid b run w1 w2 → Halts end old (a ++ b) run w0 w2
 feeds_halts Done old mid a b run w0 w1 w2 first halts = halts
 feeds_halts (Refused line fault) old mid a b run w0 w1 w2 first halts = feeds_refusal first halts
 feeds_halts Memory old mid a b run w0 w1 w2 first halts = feeds_front first halts
@@ -75,7 +83,8 @@ feeds_halts ReadFault old mid a b run w0 w1 w2 first halts = halts
 feeds_halts WriteFault old mid a b run w0 w1 w2 first halts = record { front = feeds_front first halts.front; cause = subst (λ (n : ℕ). Rose n w2.write_faults) first.wrote.kept halts.cause }
 
 -- the end of the run before all was fed
-front_more : {old : Feeding} {a : List ℕ} {w0 w1 : StreamView} (b : List ℕ) → WritesFront old a w0 w1 → WritesFront old (a ++ b) w0 w1
+front_more : {old : Feeding} {a : List ℕ} {w0 w1 : StreamView} (b : List ℕ)
+    → WritesFront old a w0 w1 → WritesFront old (a ++ b) w0 w1
 front_more {old} {a} {w0} {w1} b writes = record {
   text = writes.text;
   wrote = writes.wrote;
@@ -85,7 +94,8 @@ front_more {old} {a} {w0} {w1} b writes = record {
       record { more = all.more; is = all.is ∙ sym (ap (λ (t : List ℕ). old.out ++ printed ended old.run (parts_of t)) texts) };
 }
 
-refusal_more : {old : Feeding} {a : List ℕ} {line : ℕ} {fault : LineFault} {run : Run} {w0 w1 : StreamView} (b : List ℕ) → WritesRefusal old a line fault run w0 w1 → WritesRefusal old (a ++ b) line fault run w0 w1
+refusal_more : {old : Feeding} {a : List ℕ} {line : ℕ} {fault : LineFault} {run : Run} {w0 w1 : StreamView} (b : List ℕ)
+    → WritesRefusal old a line fault run w0 w1 → WritesRefusal old (a ++ b) line fault run w0 w1
 refusal_more {old} {a} {line} {fault} {run} {w0} {w1} b writes = record {
   text = writes.text;
   wrote = writes.wrote;
@@ -94,12 +104,14 @@ refusal_more {old} {a} {line} {fault} {run} {w0} {w1} b writes = record {
   number = writes.number;
 }
 
-pub halts_more : (end : RunEnd) (old : Feeding) (a b : List ℕ) (run : Run) (w0 w1 : StreamView) → Halts end old a run w0 w1 → Halts end old (a ++ b) run w0 w1
+pub halts_more : (end : RunEnd) (old : Feeding) (a b : List ℕ) (run : Run) (w0 w1 : StreamView)
+    → Halts end old a run w0 w1 → Halts end old (a ++ b) run w0 w1
 halts_more Done old a b run w0 w1 halts = halts
 halts_more (Refused line fault) old a b run w0 w1 halts = refusal_more b halts
 halts_more Memory old a b run w0 w1 halts = front_more b halts
 halts_more ReadFault old a b run w0 w1 halts = halts
-halts_more WriteFault old a b run w0 w1 halts = record { front = front_more b halts.front; cause = halts.cause }
+halts_more WriteFault old a b run w0 w1 halts =
+    record { front = front_more b halts.front; cause = halts.cause }
 
 -- ---- at one place
 
@@ -108,7 +120,8 @@ pub feeds_same : (feeding : Feeding) (seen : StreamView) → Feeds feeding [] fe
 feeds_same feeding seen = feeds_by seen (rw (append-nil feeding.pending) (goes_on-same feeding.out feeding.run feeding.pending))
 
 -- some of it is written
-pub front_written : (feeding : Feeding) (bytes : List ℕ) (before after : StreamView) → WritesPart feeding.out before after → WritesFront feeding bytes before after
+pub front_written : (feeding : Feeding) (bytes : List ℕ) (before after : StreamView)
+    → WritesPart feeding.out before after → WritesFront feeding bytes before after
 front_written feeding bytes before after some = record {
   text = some.1.front;
   wrote = some.1.written;
@@ -118,7 +131,9 @@ front_written feeding bytes before after some = record {
 }
 
 -- a run that was refused, with all of it written
-pub refusal_written : (feeding : Feeding) (fault : LineFault) (before after : StreamView) → Some fault ≡ feeding.run.refused → Wrote before after feeding.out → WritesRefusal feeding [] feeding.run.line fault feeding.run before after
+pub refusal_written : (feeding : Feeding) (fault : LineFault) (before after : StreamView)
+    → Some fault ≡ feeding.run.refused → Wrote before after feeding.out
+    → WritesRefusal feeding [] feeding.run.line fault feeding.run before after
 refusal_written feeding fault before after refused wrote = record {
   text = feeding.out;
   wrote = wrote;
@@ -130,12 +145,17 @@ refusal_written feeding fault before after refused wrote = record {
 -- ---- through an answer
 
 -- what an answer says of bytes that were fed
-abbrev pub Answers : Option RunEnd → Feeding → List ℕ → Feeding → ℕ → StreamView → StreamView → Type 0
+abbrev pub Answers : Option RunEnd → Feeding → List ℕ → Feeding → ℕ → StreamView → StreamView
+    → Type 0
 Answers result old bytes new most w0 w1 =
     MatchOption result (GoesOnFed old bytes new w0 w1 × (length new.out ≤ most)) (λ end. Halts end old bytes new.run w0 w1)
 
 -- after a line, or the front of one
-pub fed_then : (result : Option RunEnd) (old mid new : Feeding) (bytes : List ℕ) (most : ℕ) (w0 w1 : StreamView) → old.run.refused ≡ None → GoesOn old.out old.run (old.pending ++ bytes) mid.out mid.run mid.pending → (mid.run.refused ≡ None → fed_so_far mid ≡ fed_so_far old + length bytes) → Answers result mid [] new most w0 w1 → Answers result old bytes new most w0 w1
+pub fed_then : (result : Option RunEnd) (old mid new : Feeding) (bytes : List ℕ) (most : ℕ) (w0 w1 : StreamView)
+    → old.run.refused ≡ None
+    → GoesOn old.out old.run (old.pending ++ bytes) mid.out mid.run mid.pending
+    → (mid.run.refused ≡ None → fed_so_far mid ≡ fed_so_far old + length bytes)
+    → Answers result mid [] new most w0 w1 → Answers result old bytes new most w0 w1
 fed_then None old mid new bytes most w0 w1 accepted goes size answer = (
   record {
     accepted = accepted;
@@ -151,20 +171,25 @@ fed_then (Some end) old mid new bytes most w0 w1 accepted goes size answer =
 -- ---- the lines of a piece
 
 -- a line at the front of what is left of a piece
-line_of_piece : (front line tail rest piece : List ℕ) → front ++ rest ≡ piece → line ++ 10 ∷ tail ≡ rest → (front ++ (line ++ 10 ∷ [])) ++ tail ≡ piece
+line_of_piece : (front line tail rest piece : List ℕ) → front ++ rest ≡ piece
+    → line ++ 10 ∷ tail ≡ rest → (front ++ (line ++ 10 ∷ [])) ++ tail ≡ piece
 line_of_piece front line tail rest piece is cut =
     let texts : (front ++ (line ++ 10 ∷ [])) ++ tail ≡ front ++ (line ++ 10 ∷ tail) = simp append_assoc in
     texts ∙ ap (λ (r : List ℕ). front ++ r) cut ∙ is
 
 -- the end of the run at that line
-pub piece_halts : (end : RunEnd) (old mid : Feeding) (front line tail rest piece : List ℕ) (run : Run) (w0 w1 w2 : StreamView) → GoesOnFed old front mid w0 w1 → front ++ rest ≡ piece → line ++ 10 ∷ tail ≡ rest → Halts end mid (line ++ 10 ∷ []) run w1 w2 → Halts end old piece run w0 w2
+pub piece_halts : (end : RunEnd) (old mid : Feeding) (front line tail rest piece : List ℕ) (run : Run) (w0 w1 w2 : StreamView)
+    → GoesOnFed old front mid w0 w1 → front ++ rest ≡ piece → line ++ 10 ∷ tail ≡ rest
+    → Halts end mid (line ++ 10 ∷ []) run w1 w2 → Halts end old piece run w0 w2
 piece_halts end old mid front line tail rest piece run w0 w1 w2 fed is cut halts =
     subst (λ (b : List ℕ). Halts end old b run w0 w2) (line_of_piece front line tail rest piece is cut)
     (halts_more end old (front ++ (line ++ 10 ∷ [])) tail run w0 w2
     (feeds_halts end old mid front (line ++ 10 ∷ []) run w0 w1 w2 fed.feeds halts))
 
 -- the run goes on behind that line
-pub piece_fed : (old mid new : Feeding) (front line tail rest piece : List ℕ) (w0 w1 w2 : StreamView) → GoesOnFed old front mid w0 w1 → front ++ rest ≡ piece → line ++ 10 ∷ tail ≡ rest → GoesOnFed mid (line ++ 10 ∷ []) new w1 w2 → FedSoFar old piece tail new w0 w2
+pub piece_fed : (old mid new : Feeding) (front line tail rest piece : List ℕ) (w0 w1 w2 : StreamView)
+    → GoesOnFed old front mid w0 w1 → front ++ rest ≡ piece → line ++ 10 ∷ tail ≡ rest
+    → GoesOnFed mid (line ++ 10 ∷ []) new w1 w2 → FedSoFar old piece tail new w0 w2
 piece_fed old mid new front line tail rest piece w0 w1 w2 fed is cut next = record {
   front = front ++ (line ++ 10 ∷ []);
   is = line_of_piece front line tail rest piece is cut;
@@ -177,7 +202,9 @@ piece_fed old mid new front line tail rest piece w0 w1 w2 fed is cut next = reco
 }
 
 -- what stands behind the last line of a piece
-pub last_fed : (result : Option RunEnd) (old mid new : Feeding) (front rest piece : List ℕ) (most : ℕ) (w0 w1 w2 : StreamView) → GoesOnFed old front mid w0 w1 → front ++ rest ≡ piece → Answers result mid rest new most w1 w2 → Answers result old piece new most w0 w2
+pub last_fed : (result : Option RunEnd) (old mid new : Feeding) (front rest piece : List ℕ) (most : ℕ) (w0 w1 w2 : StreamView)
+    → GoesOnFed old front mid w0 w1 → front ++ rest ≡ piece → Answers result mid rest new most w1 w2
+    → Answers result old piece new most w0 w2
 last_fed None old mid new front rest piece most w0 w1 w2 fed is answer = (
   record {
     accepted = fed.accepted;
@@ -191,7 +218,8 @@ last_fed (Some end) old mid new front rest piece most w0 w1 w2 fed is answer =
     subst (λ (b : List ℕ). Halts end old b new.run w0 w2) is (feeds_halts end old mid front rest new.run w0 w1 w2 fed.feeds answer)
 
 -- a line and what stands behind it, as slices
-pub line_cut : (rest : List ℕ) (place : ℕ) → IsLineEnd rest place → take place rest ++ 10 ∷ take (length rest - (place + 1)) (drop (place + 1) rest) ≡ rest
+pub line_cut : (rest : List ℕ) (place : ℕ) → IsLineEnd rest place
+    → take place rest ++ 10 ∷ take (length rest - (place + 1)) (drop (place + 1) rest) ≡ rest
 line_cut rest place end =
     let all : take (length rest - (place + 1)) (drop (place + 1) rest) ≡ drop (place + 1) rest = take_all (length rest - (place + 1)) (drop (place + 1) rest) (omega (arith, length-drop (place + 1) rest)) in
     rw all end.split

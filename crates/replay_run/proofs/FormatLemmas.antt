@@ -44,17 +44,20 @@ asked_is_short line step asked = by_test (nat_lt 65536 (length line)) refl
 abbrev pub HasBegun : Run → Type 0
 HasBegun run = run.refused ≡ None → (run.line == 0) ≡ false
 
-begun-brought : (brought : Brought) (size : ℕ) (run : Run) → HasBegun (brought_turned brought size run).run
+begun-brought : (brought : Brought) (size : ℕ) (run : Run)
+    → HasBegun (brought_turned brought size run).run
 begun-brought (Brings found events) size run accepted = grind (arith, nat_tests)
 begun-brought (Refuses fault) size run accepted = absurd cc
 
-begun-by : (refused : Option LineFault) (line : List ℕ) (size : ℕ) (run : Run) → run.refused ≡ refused →
+begun-by : (refused : Option LineFault) (line : List ℕ) (size : ℕ) (run : Run)
+    → run.refused ≡ refused →
     HasBegun (turned_by refused line size run).run
-begun-by None line size run is = begun-brought (line_brings (step_at (run.read + size) line) run) size run
+begun-by None line size run is =
+    begun-brought (line_brings (step_at (run.read + size) line) run) size run
 begun-by (Some fault) line size run is = λ accepted.
     let no : Some fault ≡ None = sym is ∙ accepted in absurd cc
 
--- so is each run behind a line
+-- a run behind a line has begun
 pub begun-turned : (line : List ℕ) (size : ℕ) (run : Run) → HasBegun (turned line size run).run
 unfolding turned
 begun-turned line size run = begun-by run.refused line size run refl
@@ -73,7 +76,8 @@ plain_later line run begun accepted =
     ap (λ test. names_format (step_of line) && test) (begun accepted) ∙ and_false (names_format (step_of line))
 
 -- also where the schedule is too long at its end
-pub plain_at : (late : Bool) (line : List ℕ) (first : Bool) → (names_format (step_of line) && first) ≡ false →
+pub plain_at : (late : Bool) (line : List ℕ) (first : Bool)
+    → (names_format (step_of line) && first) ≡ false →
     (names_format (if late then Err TooLong else step_of line) && first) ≡ false
 plain_at true line first plain = refl
 plain_at false line first plain = plain

@@ -21,7 +21,8 @@ pub with_key : (port : ℕ) (held : List ℕ) → insert_key nat_cmp held port �
 with_key port [] = refl
 with_key port (other ∷ others) = grind (arith, nat_tests, with_key port others)
 
-pub without_key : (port : ℕ) (held : List ℕ) → remove_key (is_at (nat_cmp port)) held ≡ free_port port held
+pub without_key : (port : ℕ) (held : List ℕ)
+    → remove_key (is_at (nat_cmp port)) held ≡ free_port port held
 without_key port [] = refl
 without_key port (other ∷ others) = grind (arith, nat_tests, without_key port others)
 
@@ -37,20 +38,24 @@ lt_is : (a b : ℕ) → nat_lt a b ≡ true → a < b
 lt_is a b is = grind (arith, nat_tests)
 
 -- a choice that gives nothing
-none_of : (test : Bool) (n : ℕ) (rest : Option ℕ) → (if test then Some n else rest) ≡ None → (test ≡ false) × (rest ≡ None)
+none_of : (test : Bool) (n : ℕ) (rest : Option ℕ) → (if test then Some n else rest) ≡ None
+    → (test ≡ false) × (rest ≡ None)
 none_of true n rest none = absurd (cc)
 none_of false n rest none = (refl, none)
 
 -- a port is passed over where it is no higher, where it is owed nothing, or where it is held
-pass_low : (a b c : Bool) (n : ℕ) (rest : Option ℕ) → a ≡ false → (if a && (b && c) then Some n else rest) ≡ rest
+pass_low : (a b c : Bool) (n : ℕ) (rest : Option ℕ) → a ≡ false
+    → (if a && (b && c) then Some n else rest) ≡ rest
 pass_low a b c n rest is = ap (λ t. if t && (b && c) then Some n else rest) is
 
-pass_unowed : (a b c : Bool) (n : ℕ) (rest : Option ℕ) → (a && b) ≡ false → (if a && (b && c) then Some n else rest) ≡ rest
+pass_unowed : (a b c : Bool) (n : ℕ) (rest : Option ℕ) → (a && b) ≡ false
+    → (if a && (b && c) then Some n else rest) ≡ rest
 pass_unowed true true c n rest is = absurd (cc)
 pass_unowed true false c n rest is = refl
 pass_unowed false b c n rest is = refl
 
-pass_held : (a b c : Bool) (n : ℕ) (rest : Option ℕ) → c ≡ false → (if a && (b && c) then Some n else rest) ≡ rest
+pass_held : (a b c : Bool) (n : ℕ) (rest : Option ℕ) → c ≡ false
+    → (if a && (b && c) then Some n else rest) ≡ rest
 pass_held true true c n rest is = ap (λ t. if t then Some n else rest) is
 pass_held true false c n rest is = refl
 pass_held false b c n rest is = refl
@@ -65,15 +70,17 @@ none_by true false c n owed unheld none later = later none
 none_by false b c n owed unheld none later = later none
 
 -- where no port is owed bytes, none takes
-pub unheld_none : (u : UnderWay) (after : ℕ) (held : List ℕ) (ports : List Port) → next_owed_in after ports u ≡ None
+pub unheld_none : (u : UnderWay) (after : ℕ) (held : List ℕ) (ports : List Port)
+    → next_owed_in after ports u ≡ None
     → next_unheld u after held ports ≡ None
 unheld_none u after held [] none = refl
 unheld_none u after held (first ∷ ports) none =
     none_by (nat_lt after first.number) (is_some_bytes (owed_by_port first u)) (not (is_held first.number held)) first.number
     (next_owed_in after ports u) (next_unheld u after held ports) none (λ h. unheld_none u after held ports h)
 
--- the same, where it is the one
-some_by : (a b c : Bool) (n port : ℕ) (owed unheld : Option ℕ) → (if a && b then Some n else owed) ≡ Some port
+-- a port that is owed bytes and isn't held takes next, by whether it is this one or a later one
+some_by : (a b c : Bool) (n port : ℕ) (owed unheld : Option ℕ)
+    → (if a && b then Some n else owed) ≡ Some port
     → (n ≡ port → c ≡ true) → (owed ≡ Some port → unheld ≡ Some port)
     → (if a && (b && c) then Some n else unheld) ≡ Some port
 some_by true true true n port owed unheld is loose later = is
@@ -85,7 +92,8 @@ some_by true false c n port owed unheld is loose later = later is
 some_by false b c n port owed unheld is loose later = later is
 
 -- the next port that is owed bytes takes them where it isn't held
-pub unheld_some : (u : UnderWay) (after : ℕ) (held : List ℕ) (ports : List Port) (port : ℕ) → next_owed_in after ports u ≡ Some port
+pub unheld_some : (u : UnderWay) (after : ℕ) (held : List ℕ) (ports : List Port) (port : ℕ)
+    → next_owed_in after ports u ≡ Some port
     → is_held port held ≡ false → next_unheld u after held ports ≡ Some port
 unheld_some u after held [] port is loose = absurd (cc)
 unheld_some u after held (first ∷ ports) port is loose =
@@ -117,7 +125,8 @@ bound_by u after high port first ports false is rising found later =
     (rest.0, omega (arith, rest.1), rest.2)
 
 -- the next port that is owed bytes stands above, and among the ports
-pub next_bound : (u : UnderWay) (after low high port : ℕ) (ports : List Port) → IsRising low high ports → next_owed_in after ports u ≡ Some port
+pub next_bound : (u : UnderWay) (after low high port : ℕ) (ports : List Port)
+    → IsRising low high ports → next_owed_in after ports u ≡ Some port
     → (after < port) × (low < port) × (port ≤ high)
 next_bound u after low high port [] rising found = absurd (cc)
 next_bound u after low high port (first ∷ ports) rising found =
@@ -126,7 +135,8 @@ next_bound u after low high port (first ∷ ports) rising found =
     (bound.0, omega (arith, bound.1, rising.0), bound.2)
 
 -- below all ports it is the same from where one looks
-unheld_same : (u : UnderWay) (low high a b : ℕ) (held : List ℕ) (ports : List Port) → IsRising low high ports → a ≤ low → b ≤ low
+unheld_same : (u : UnderWay) (low high a b : ℕ) (held : List ℕ) (ports : List Port)
+    → IsRising low high ports → a ≤ low → b ≤ low
     → next_unheld u a held ports ≡ next_unheld u b held ports
 unheld_same u low high a b held [] rising below_a below_b = refl
 unheld_same u low high a b held (first ∷ ports) rising below_a below_b =
@@ -160,7 +170,8 @@ held_by u low high after port held first ports false is rising found there later
     (next_unheld u port held ports) (lt_false port first.number (omega arith)))
 
 -- and is passed over where it is held
-pub unheld_later : (u : UnderWay) (low high after port : ℕ) (held : List ℕ) (ports : List Port) → IsRising low high ports
+pub unheld_later : (u : UnderWay) (low high after port : ℕ) (held : List ℕ) (ports : List Port)
+    → IsRising low high ports
     → next_owed_in after ports u ≡ Some port → is_held port held ≡ true
     → next_unheld u after held ports ≡ next_unheld u port held ports
 unheld_later u low high after port held [] rising found there = absurd (cc)
@@ -188,7 +199,8 @@ found_by u low after number held first ports false is above found later =
     (p.0, grind (arith, nat_tests), p.2, omega arith)
 
 -- where numbers rise, the port that takes next is the one of its number, and owed bytes
-pub found_unheld : (u : UnderWay) (low high after number : ℕ) (held : List ℕ) (ports : List Port) → IsRising low high ports
+pub found_unheld : (u : UnderWay) (low high after number : ℕ) (held : List ℕ) (ports : List Port)
+    → IsRising low high ports
     → next_unheld u after held ports ≡ Some number
     → (port : Port) × (find_port number ports ≡ Some port) × (is_some_bytes (owed_by_port port u) ≡ true) × (low < number)
 found_unheld u low high after number held [] rising found = absurd (cc)
@@ -210,7 +222,8 @@ unowed true true false none above loose = absurd (cc)
 unowed false true c none above loose = absurd (cc)
 
 -- by whether it is the first
-nothing_by : (u : UnderWay) (number : ℕ) (held : List ℕ) (first : Port) (ports : List Port) (test : Bool) → (first.number == number) ≡ test
+nothing_by : (u : UnderWay) (number : ℕ) (held : List ℕ) (first : Port) (ports : List Port) (test : Bool)
+    → (first.number == number) ≡ test
     → 0 < first.number → (nat_lt 0 first.number && is_due u held first) ≡ false → is_held number held ≡ false
     → owed_by (find_port number ports) u ≡ [] → owed_by (if test then Some first else find_port number ports) u ≡ []
 nothing_by u number held first ports true is above none loose later =
@@ -220,7 +233,8 @@ nothing_by u number held first ports true is above none loose later =
 nothing_by u number held first ports false is above none loose later = later
 
 -- nothing is owed to a port that isn't held
-pub nothing_unheld : (u : UnderWay) (low high number : ℕ) (held : List ℕ) (ports : List Port) → IsRising low high ports
+pub nothing_unheld : (u : UnderWay) (low high number : ℕ) (held : List ℕ) (ports : List Port)
+    → IsRising low high ports
     → next_unheld u 0 held ports ≡ None → is_held number held ≡ false → owed_by (find_port number ports) u ≡ []
 nothing_unheld u low high number held [] rising none loose = refl
 nothing_unheld u low high number held (first ∷ ports) rising none loose =

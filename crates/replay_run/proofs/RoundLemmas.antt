@@ -19,24 +19,31 @@ use Rattle.replay_run.proofs.FeedsLemmas.{feeds_by, feeds_then, feeds_halts}
 
 -- ---- claims of the input
 
-some_of : (left : Option (List ℕ)) (P : List ℕ → Type 0) → ((rest : List ℕ) → P rest) → IfSome left P
+-- what holds of all bytes holds of those that are left
+pub some_of : (left : Option (List ℕ)) (P : List ℕ → Type 0) → ((rest : List ℕ) → P rest)
+    → IfSome left P
 some_of None P holds = tt
 some_of (Some rest) P holds = holds rest
 
 -- what holds whatever follows
-holds_of : (left : Option (List ℕ)) (bytes : List ℕ) (P : List ℕ → Type 0) → ((more : List ℕ) → P (bytes ++ more)) → HoldsOfInput left bytes P
+holds_of : (left : Option (List ℕ)) (bytes : List ℕ) (P : List ℕ → Type 0)
+    → ((more : List ℕ) → P (bytes ++ more)) → HoldsOfInput left bytes P
 holds_of left bytes P holds = record {
   read = subst P (append-nil bytes) (holds []);
   whole = some_of left (λ rest. P (bytes ++ rest)) holds;
 }
 
-end_of_input : (left : Option (List ℕ)) (bytes : List ℕ) (P : List ℕ → Type 0) → IsAtEnd left → P bytes → IfSome left (λ rest. P (bytes ++ rest))
+end_of_input : (left : Option (List ℕ)) (bytes : List ℕ) (P : List ℕ → Type 0) → IsAtEnd left
+    → P bytes → IfSome left (λ rest. P (bytes ++ rest))
 end_of_input None bytes P end holds = tt
-end_of_input (Some rest) bytes P end holds = subst (λ (r : List ℕ). P (bytes ++ r)) (sym end) (subst P (sym (append-nil bytes)) holds)
+end_of_input (Some rest) bytes P end holds =
+    subst (λ (r : List ℕ). P (bytes ++ r)) (sym end) (subst P (sym (append-nil bytes)) holds)
 
 -- what holds of bytes behind which nothing follows
-holds_at_end : (left : Option (List ℕ)) (bytes : List ℕ) (P : List ℕ → Type 0) → IsAtEnd left → P bytes → HoldsOfInput left bytes P
-holds_at_end left bytes P end holds = record { read = holds; whole = end_of_input left bytes P end holds }
+holds_at_end : (left : Option (List ℕ)) (bytes : List ℕ) (P : List ℕ → Type 0) → IsAtEnd left
+    → P bytes → HoldsOfInput left bytes P
+holds_at_end left bytes P end holds =
+    record { read = holds; whole = end_of_input left bytes P end holds }
 
 -- ---- before the first read
 
@@ -58,7 +65,11 @@ hands-start life seen = refl
 
 -- ---- a read that brought bytes
 
-pub round_fed : (life : Option ℕ) (start mid new : Seen) (old feeding : Feeding) (bytes : List ℕ) → IsUnderWay life start mid old → GoesOnFed old bytes feeding mid.output new.output → length feeding.out ≤ 0 → Appends mid.input.taken new.input.taken bytes → Consumes mid.input.left new.input.left bytes → new.input.read_faults ≡ mid.input.read_faults → 0 < length bytes → IsUnderWay life start new feeding × IsLonger old feeding
+pub round_fed : (life : Option ℕ) (start mid new : Seen) (old feeding : Feeding) (bytes : List ℕ)
+    → IsUnderWay life start mid old → GoesOnFed old bytes feeding mid.output new.output
+    → length feeding.out ≤ 0 → Appends mid.input.taken new.input.taken bytes
+    → Consumes mid.input.left new.input.left bytes → new.input.read_faults ≡ mid.input.read_faults
+    → 0 < length bytes → IsUnderWay life start new feeding × IsLonger old feeding
 round_fed life start mid new old feeding bytes under fed empty taken left reads some = (
   record {
     bytes = under.bytes ++ bytes;
@@ -75,7 +86,9 @@ round_fed life start mid new old feeding bytes under fed empty taken left reads 
 )
 
 -- the run ended, and all that was read was fed
-ends_by : (life : Option ℕ) (end : RunEnd) (start new : Seen) (bytes : List ℕ) (run : Run) → HasRead start new bytes → new.input.read_faults ≡ start.input.read_faults → Halts end (start_feeding life) bytes run start.output new.output → Ends life end start new
+ends_by : (life : Option ℕ) (end : RunEnd) (start new : Seen) (bytes : List ℕ) (run : Run)
+    → HasRead start new bytes → new.input.read_faults ≡ start.input.read_faults
+    → Halts end (start_feeding life) bytes run start.output new.output → Ends life end start new
 unfolding Ends
 ends_by life Done start new bytes run read reads halts = absurd halts
 ends_by life (Refused line fault) start new bytes run read reads halts = record {
@@ -116,7 +129,9 @@ ends_by life WriteFault start new bytes run read reads halts = record {
 }
 
 -- the agent of a run that stopped at a refused line
-agent_of_halt : (life : Option ℕ) (end : RunEnd) (start new : Seen) (bytes : List ℕ) (run : Run) → HasRead start new bytes → Halts end (start_feeding life) bytes run start.output new.output → HandsBack life end (agent_at end run) start new
+agent_of_halt : (life : Option ℕ) (end : RunEnd) (start new : Seen) (bytes : List ℕ) (run : Run)
+    → HasRead start new bytes → Halts end (start_feeding life) bytes run start.output new.output
+    → HandsBack life end (agent_at end run) start new
 unfolding HandsBack
 agent_of_halt life Done start new bytes run read halts = absurd halts
 agent_of_halt life (Refused line fault) start new bytes run read halts = record {
@@ -129,7 +144,11 @@ agent_of_halt life Memory start new bytes run read halts = refl
 agent_of_halt life ReadFault start new bytes run read halts = refl
 agent_of_halt life WriteFault start new bytes run read halts = refl
 
-pub round_halts : (life : Option ℕ) (end : RunEnd) (start mid new : Seen) (old : Feeding) (bytes : List ℕ) (run : Run) → IsUnderWay life start mid old → Halts end old bytes run mid.output new.output → Appends mid.input.taken new.input.taken bytes → Consumes mid.input.left new.input.left bytes → new.input.read_faults ≡ mid.input.read_faults → Ends life end start new × HandsBack life end (agent_at end run) start new
+pub round_halts : (life : Option ℕ) (end : RunEnd) (start mid new : Seen) (old : Feeding) (bytes : List ℕ) (run : Run)
+    → IsUnderWay life start mid old → Halts end old bytes run mid.output new.output
+    → Appends mid.input.taken new.input.taken bytes → Consumes mid.input.left new.input.left bytes
+    → new.input.read_faults ≡ mid.input.read_faults
+    → Ends life end start new × HandsBack life end (agent_at end run) start new
 round_halts life end start mid new old bytes run under halts taken left reads =
     let read : HasRead start new (under.bytes ++ bytes) = record {
       taken = Appends-trans start.input.taken mid.input.taken new.input.taken under.bytes bytes under.read.taken taken;
@@ -141,7 +160,12 @@ round_halts life end start mid new old bytes run under halts taken left reads =
     )
 
 -- the answer of a piece
-pub round_answer : (life : Option ℕ) (result : Option RunEnd) (start mid new : Seen) (old feeding : Feeding) (bytes : List ℕ) → IsUnderWay life start mid old → MatchOption result (GoesOnFed old bytes feeding mid.output new.output × (length feeding.out ≤ 0)) (λ end. Halts end old bytes feeding.run mid.output new.output) → Appends mid.input.taken new.input.taken bytes → Consumes mid.input.left new.input.left bytes → new.input.read_faults ≡ mid.input.read_faults → 0 < length bytes → MatchOption result (IsUnderWay life start new feeding × IsLonger old feeding) (λ end. Ends life end start new × HandsBack life end (agent_at end feeding.run) start new)
+pub round_answer : (life : Option ℕ) (result : Option RunEnd) (start mid new : Seen) (old feeding : Feeding) (bytes : List ℕ)
+    → IsUnderWay life start mid old
+    → MatchOption result (GoesOnFed old bytes feeding mid.output new.output × (length feeding.out ≤ 0)) (λ end. Halts end old bytes feeding.run mid.output new.output)
+    → Appends mid.input.taken new.input.taken bytes → Consumes mid.input.left new.input.left bytes
+    → new.input.read_faults ≡ mid.input.read_faults → 0 < length bytes
+    → MatchOption result (IsUnderWay life start new feeding × IsLonger old feeding) (λ end. Ends life end start new × HandsBack life end (agent_at end feeding.run) start new)
 round_answer life None start mid new old feeding bytes under answer taken left reads some =
     round_fed life start mid new old feeding bytes under answer.0 answer.1 taken left reads some
 round_answer life (Some end) start mid new old feeding bytes under answer taken left reads some =
@@ -150,26 +174,33 @@ round_answer life (Some end) start mid new old feeding bytes under answer taken 
 -- ---- a read that found the end
 
 -- nothing more was read
-read_kept : (life : Option ℕ) (start mid new : Seen) (old : Feeding) (under : IsUnderWay life start mid old) → Keeps mid.input.taken new.input.taken → Keeps mid.input.left new.input.left → HasRead start new under.bytes
+read_kept : (life : Option ℕ) (start mid new : Seen) (old : Feeding) (under : IsUnderWay life start mid old)
+    → Keeps mid.input.taken new.input.taken → Keeps mid.input.left new.input.left
+    → HasRead start new under.bytes
 read_kept life start mid new old under taken left = record {
   taken = Appends-kept start.input.taken mid.input.taken new.input.taken under.bytes under.read.taken taken;
-  left = Consumes-kept start.input.left mid.input.left new.input.left under.bytes under.read.left left;
+  left =
+      Consumes-kept start.input.left mid.input.left new.input.left under.bytes under.read.left left;
 }
 
 -- all that the schedule prints
-all_text : (life : Option ℕ) (bytes : List ℕ) (old : Feeding) (w0 w1 : StreamView) (feeds : Feeds (start_feeding life) bytes old w0 w1) → output_of life bytes ≡ feeds.text ++ ending_text old
+all_text : (life : Option ℕ) (bytes : List ℕ) (old : Feeding) (w0 w1 : StreamView) (feeds : Feeds (start_feeding life) bytes old w0 w1)
+    → output_of life bytes ≡ feeds.text ++ ending_text old
 all_text life bytes old w0 w1 feeds =
     sym (ap (output_of life) (append-nil bytes))
     ∙ feeds.goes.printed_same true []
     ∙ ap (λ (p : List ℕ). (feeds.text ++ old.out) ++ printed true old.run (parts_of p)) (append-nil old.pending)
     ∙ append_assoc feeds.text old.out (printed true old.run (parts_of old.pending))
 
-all_run : (life : Option ℕ) (bytes : List ℕ) (old : Feeding) (w0 w1 : StreamView) (feeds : Feeds (start_feeding life) bytes old w0 w1) → run_of life bytes ≡ ending_run old
+all_run : (life : Option ℕ) (bytes : List ℕ) (old : Feeding) (w0 w1 : StreamView) (feeds : Feeds (start_feeding life) bytes old w0 w1)
+    → run_of life bytes ≡ ending_run old
 all_run life bytes old w0 w1 feeds =
     sym (ap (run_of life) (append-nil bytes)) ∙ feeds.goes.ran_same true [] ∙ ap (λ (p : List ℕ). ran true old.run (parts_of p)) (append-nil old.pending)
 
 -- a front of it was written
-early_at_end : (life : Option ℕ) (start mid new : Seen) (old : Feeding) (under : IsUnderWay life start mid old) → HasRead start new under.bytes → IsAtEnd new.input.left → WritesPart (ending_text old) mid.output new.output → EndsEarly life start new
+early_at_end : (life : Option ℕ) (start mid new : Seen) (old : Feeding) (under : IsUnderWay life start mid old)
+    → HasRead start new under.bytes → IsAtEnd new.input.left
+    → WritesPart (ending_text old) mid.output new.output → EndsEarly life start new
 early_at_end life start mid new old under read end some = record {
   bytes = under.bytes;
   read = read;
@@ -185,12 +216,18 @@ early_at_end life start mid new old under read end some = record {
 }
 
 -- all of it was written
-all_wrote : (life : Option ℕ) (start mid new : Seen) (old : Feeding) (under : IsUnderWay life start mid old) → Appends mid.output.written new.output.written (ending_text old) → Appends start.output.written new.output.written (output_of life under.bytes)
+all_wrote : (life : Option ℕ) (start mid new : Seen) (old : Feeding) (under : IsUnderWay life start mid old)
+    → Appends mid.output.written new.output.written (ending_text old)
+    → Appends start.output.written new.output.written (output_of life under.bytes)
 all_wrote life start mid new old under wrote =
     subst (λ (t : List ℕ). Appends start.output.written new.output.written t) (sym (all_text life under.bytes old start.output mid.output under.feeds))
     (Appends-trans start.output.written mid.output.written new.output.written under.feeds.text (ending_text old) under.feeds.wrote.written wrote)
 
-ends_at_end : (life : Option ℕ) (end : RunEnd) (start mid new : Seen) (old : Feeding) (run : Run) → IsUnderWay life start mid old → Finishes end old run mid.output new.output → Keeps mid.input.taken new.input.taken → Keeps mid.input.left new.input.left → IsAtEnd new.input.left → new.input.read_faults ≡ mid.input.read_faults → Ends life end start new
+ends_at_end : (life : Option ℕ) (end : RunEnd) (start mid new : Seen) (old : Feeding) (run : Run)
+    → IsUnderWay life start mid old → Finishes end old run mid.output new.output
+    → Keeps mid.input.taken new.input.taken → Keeps mid.input.left new.input.left
+    → IsAtEnd new.input.left → new.input.read_faults ≡ mid.input.read_faults
+    → Ends life end start new
 unfolding Ends
 ends_at_end life Done start mid new old run under finishes taken left end reads =
     record {
@@ -217,7 +254,8 @@ ends_at_end life (Refused line fault) start mid new old run under finishes taken
     }
 ends_at_end life Memory start mid new old run under finishes taken left end reads =
     early_at_end life start mid new old under (read_kept life start mid new old under taken left) end finishes
-ends_at_end life ReadFault start mid new old run under finishes taken left end reads = absurd finishes
+ends_at_end life ReadFault start mid new old run under finishes taken left end reads =
+    absurd finishes
 ends_at_end life WriteFault start mid new old run under finishes taken left end reads = record {
   early = early_at_end life start mid new old under (read_kept life start mid new old under taken left) end finishes.front;
   cause = subst (λ (n : ℕ). Rose n new.output.write_faults) under.feeds.wrote.kept finishes.cause;
@@ -225,7 +263,10 @@ ends_at_end life WriteFault start mid new old run under finishes taken left end 
 }
 
 -- the agent after the last line
-agent_of_end : (life : Option ℕ) (start mid new : Seen) (old : Feeding) (run : Run) (under : IsUnderWay life start mid old) → run ≡ ending_run old → Keeps mid.input.taken new.input.taken → Keeps mid.input.left new.input.left → IsAtEnd new.input.left → IsAgentOf life (Some run.agent) start new
+agent_of_end : (life : Option ℕ) (start mid new : Seen) (old : Feeding) (run : Run) (under : IsUnderWay life start mid old)
+    → run ≡ ending_run old → Keeps mid.input.taken new.input.taken
+    → Keeps mid.input.left new.input.left → IsAtEnd new.input.left
+    → IsAgentOf life (Some run.agent) start new
 agent_of_end life start mid new old run under run_is taken left end = record {
   bytes = under.bytes;
   read = read_kept life start mid new old under taken left;
@@ -233,15 +274,24 @@ agent_of_end life start mid new old run under run_is taken left end = record {
       (ap (λ (r : Run). Some r.agent) (run_is ∙ sym (all_run life under.bytes old start.output mid.output under.feeds)));
 }
 
-agent_at_end : (life : Option ℕ) (end : RunEnd) (start mid new : Seen) (old : Feeding) (run : Run) → IsUnderWay life start mid old → Finishes end old run mid.output new.output → Keeps mid.input.taken new.input.taken → Keeps mid.input.left new.input.left → IsAtEnd new.input.left → HandsBack life end (agent_at end run) start new
+agent_at_end : (life : Option ℕ) (end : RunEnd) (start mid new : Seen) (old : Feeding) (run : Run)
+    → IsUnderWay life start mid old → Finishes end old run mid.output new.output
+    → Keeps mid.input.taken new.input.taken → Keeps mid.input.left new.input.left
+    → IsAtEnd new.input.left → HandsBack life end (agent_at end run) start new
 unfolding HandsBack
-agent_at_end life Done start mid new old run under finishes taken left end = agent_of_end life start mid new old run under finishes.run_is taken left end
-agent_at_end life (Refused line fault) start mid new old run under finishes taken left end = agent_of_end life start mid new old run under finishes.run_is taken left end
+agent_at_end life Done start mid new old run under finishes taken left end =
+    agent_of_end life start mid new old run under finishes.run_is taken left end
+agent_at_end life (Refused line fault) start mid new old run under finishes taken left end =
+    agent_of_end life start mid new old run under finishes.run_is taken left end
 agent_at_end life Memory start mid new old run under finishes taken left end = refl
 agent_at_end life ReadFault start mid new old run under finishes taken left end = refl
 agent_at_end life WriteFault start mid new old run under finishes taken left end = refl
 
-pub round_finishes : (life : Option ℕ) (end : RunEnd) (start mid new : Seen) (old : Feeding) (run : Run) → IsUnderWay life start mid old → Finishes end old run mid.output new.output → Keeps mid.input.taken new.input.taken → Keeps mid.input.left new.input.left → IsAtEnd new.input.left → new.input.read_faults ≡ mid.input.read_faults → Ends life end start new × HandsBack life end (agent_at end run) start new
+pub round_finishes : (life : Option ℕ) (end : RunEnd) (start mid new : Seen) (old : Feeding) (run : Run)
+    → IsUnderWay life start mid old → Finishes end old run mid.output new.output
+    → Keeps mid.input.taken new.input.taken → Keeps mid.input.left new.input.left
+    → IsAtEnd new.input.left → new.input.read_faults ≡ mid.input.read_faults
+    → Ends life end start new × HandsBack life end (agent_at end run) start new
 round_finishes life end start mid new old run under finishes taken left at_end reads = (
   ends_at_end life end start mid new old run under finishes taken left at_end reads,
   agent_at_end life end start mid new old run under finishes taken left at_end,
@@ -249,7 +299,10 @@ round_finishes life end start mid new old run under finishes taken left at_end r
 
 -- ---- a read that failed
 
-ends_at_read_fault : (life : Option ℕ) (start mid new : Seen) (old : Feeding) → IsUnderWay life start mid old → Keeps mid.input.taken new.input.taken → Keeps mid.input.left new.input.left → new.output ≡ mid.output → Rose mid.input.read_faults new.input.read_faults → Ends life ReadFault start new
+ends_at_read_fault : (life : Option ℕ) (start mid new : Seen) (old : Feeding)
+    → IsUnderWay life start mid old → Keeps mid.input.taken new.input.taken
+    → Keeps mid.input.left new.input.left → new.output ≡ mid.output
+    → Rose mid.input.read_faults new.input.read_faults → Ends life ReadFault start new
 unfolding Ends
 ends_at_read_fault life start mid new old under taken left output cause =
     let goes = under.feeds.goes in
@@ -275,11 +328,16 @@ ends_at_read_fault life start mid new old under taken left output cause =
       writes = rw output under.feeds.wrote.kept;
     }
 
-no_agent_at_read_fault : (life : Option ℕ) (run : Run) (start new : Seen) → HandsBack life ReadFault (agent_at ReadFault run) start new
+no_agent_at_read_fault : (life : Option ℕ) (run : Run) (start new : Seen)
+    → HandsBack life ReadFault (agent_at ReadFault run) start new
 unfolding HandsBack
 no_agent_at_read_fault life run start new = refl
 
-pub round_at_read_fault : (life : Option ℕ) (start mid new : Seen) (old : Feeding) (run : Run) → IsUnderWay life start mid old → Keeps mid.input.taken new.input.taken → Keeps mid.input.left new.input.left → new.output ≡ mid.output → Rose mid.input.read_faults new.input.read_faults → Ends life ReadFault start new × HandsBack life ReadFault (agent_at ReadFault run) start new
+pub round_at_read_fault : (life : Option ℕ) (start mid new : Seen) (old : Feeding) (run : Run)
+    → IsUnderWay life start mid old → Keeps mid.input.taken new.input.taken
+    → Keeps mid.input.left new.input.left → new.output ≡ mid.output
+    → Rose mid.input.read_faults new.input.read_faults
+    → Ends life ReadFault start new × HandsBack life ReadFault (agent_at ReadFault run) start new
 round_at_read_fault life start mid new old run under taken left output cause =
     (ends_at_read_fault life start mid new old under taken left output cause, no_agent_at_read_fault life run start new)
 

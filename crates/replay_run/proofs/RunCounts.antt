@@ -34,10 +34,12 @@ last_after-most Tick last = omega arith
 
 -- it lets at most one port join
 abbrev IsSmall : Brought → Run → Type 0
-IsSmall (Brings found events) run = (runs.run found.agent events).last_port ≤ suc run.agent.last_port
+IsSmall (Brings found events) run =
+    (runs.run found.agent events).last_port ≤ suc run.agent.last_port
 IsSmall (Refuses fault) run = Unit {0}
 
-brought-next : (brought : Brought) (size : ℕ) (run : Run) → 0 < size → run.read + size ≤ longest_schedule → IsCounted run → IsSmall brought run
+brought-next : (brought : Brought) (size : ℕ) (run : Run) → 0 < size
+    → run.read + size ≤ longest_schedule → IsCounted run → IsSmall brought run
     → (brought_turned brought size run).run.refused ≡ None → IsNext run size (brought_turned brought size run).run
 brought-next (Brings found events) size run some within counted small accepted = record {
   counted = record {
@@ -51,28 +53,34 @@ brought-next (Brings found events) size run some within counted small accepted =
 brought-next (Refuses fault) size run some within counted small accepted = absurd cc
 
 -- a settling
-small-settled : (moment : Moment) (held : List ℕ) (state : State) (most : ℕ) → state.last_port ≤ most → (settled moment held state).last_port ≤ most
+small-settled : (moment : Moment) (held : List ℕ) (state : State) (most : ℕ)
+    → state.last_port ≤ most → (settled moment held state).last_port ≤ most
 small-settled moment held state most is = omega (arith, settled-last_port moment held state, is)
 
 -- an event, and the settling after it
-small-comes : (event : Happening) (run : Run) → (runs.run run.agent (comes event run)).last_port ≤ suc run.agent.last_port
+small-comes : (event : Happening) (run : Run)
+    → (runs.run run.agent (comes event run)).last_port ≤ suc run.agent.last_port
 small-comes event run =
     small-settled run.moment run.held (after_event run.moment run.agent event) (suc run.agent.last_port)
     (omega (arith, step-last_port run.agent run.moment event, last_after-most event run.agent.last_port))
 
-small-port : (found : Option Port) (brought : Brought) (run : Run) → IsSmall brought run → IsSmall (at_port found brought) run
+small-port : (found : Option Port) (brought : Brought) (run : Run) → IsSmall brought run
+    → IsSmall (at_port found brought) run
 small-port None brought run is = tt
 small-port (Some port) brought run is = is
 
-small-job : (found : Option Job) (brought : Brought) (run : Run) → IsSmall brought run → IsSmall (at_job found brought) run
+small-job : (found : Option Job) (brought : Brought) (run : Run) → IsSmall brought run
+    → IsSmall (at_job found brought) run
 small-job None brought run is = tt
 small-job (Some job) brought run is = is
 
-small-if : (test : Bool) (one other : Brought) (run : Run) → IsSmall one run → IsSmall other run → IsSmall (if test then one else other) run
+small-if : (test : Bool) (one other : Brought) (run : Run) → IsSmall one run → IsSmall other run
+    → IsSmall (if test then one else other) run
 small-if true one other run is also = is
 small-if false one other run is also = also
 
-small-peer : (found : Option Port) (number : ℕ) (brought : Brought) (run : Run) → IsSmall brought run → IsSmall (at_peer found number brought run) run
+small-peer : (found : Option Port) (number : ℕ) (brought : Brought) (run : Run)
+    → IsSmall brought run → IsSmall (at_peer found number brought run) run
 small-peer None number brought run is =
     small-if (list_any (λ other. other == number) run.closed) (skips run) (Refuses UnknownPort) run (omega arith) tt
 small-peer (Some port) number brought run is = is
@@ -81,7 +89,8 @@ small-step : (step : Step) (run : Run) → IsSmall (step_brings step run) run
 small-step Skip run = omega arith
 small-step Format2 run =
     small-if (run.line == 0) (skips (record run { agent = first_state (settings_by true run.life) })) (Refuses Word) run (omega arith) tt
-small-step (At moment) run = small-comes Tick (record run { moment = moment; closed = closed_at moment run.agent Tick })
+small-step (At moment) run =
+    small-comes Tick (record run { moment = moment; closed = closed_at moment run.agent Tick })
 small-step (Join door) run = small-comes (Joined door) run
 small-step (Hear port bytes) run =
     small-peer (find_port port run.agent.ports) port (happens (Heard port bytes) run) run (small-comes (Heard port bytes) run)
@@ -104,20 +113,27 @@ small-step (Failed job) run =
 -- ---- a line
 
 -- what a line asks for
-line-next : (asked : Result Step LineFault) (size : ℕ) (run : Run) → 0 < size → run.read + size ≤ longest_schedule → IsCounted run → (brought_turned (line_brings asked run) size run).run.refused ≡ None → IsNext run size (brought_turned (line_brings asked run) size run).run
+line-next : (asked : Result Step LineFault) (size : ℕ) (run : Run) → 0 < size
+    → run.read + size ≤ longest_schedule → IsCounted run
+    → (brought_turned (line_brings asked run) size run).run.refused ≡ None
+    → IsNext run size (brought_turned (line_brings asked run) size run).run
 line-next (Ok step) size run some within counted accepted =
     brought-next (step_brings step run) size run some within counted (small-step step run) accepted
 line-next (Err fault) size run some within counted accepted = absurd (cc)
 
 -- by whether the schedule goes on too long
-line_by-next : (line : List ℕ) (size : ℕ) (run : Run) (test : Bool) → nat_lt longest_schedule (run.read + size) ≡ test → 0 < size → IsCounted run → (brought_turned (line_brings (if test then Err TooLong else step_of line) run) size run).run.refused ≡ None → IsNext run size (brought_turned (line_brings (if test then Err TooLong else step_of line) run) size run).run
+line_by-next : (line : List ℕ) (size : ℕ) (run : Run) (test : Bool)
+    → nat_lt longest_schedule (run.read + size) ≡ test → 0 < size → IsCounted run
+    → (brought_turned (line_brings (if test then Err TooLong else step_of line) run) size run).run.refused ≡ None
+    → IsNext run size (brought_turned (line_brings (if test then Err TooLong else step_of line) run) size run).run
 line_by-next line size run true is some counted accepted = absurd (cc)
 line_by-next line size run false is some counted accepted =
     let within : run.read + size ≤ longest_schedule = grind (arith, nat_tests) in
     line-next (step_of line) size run some within counted accepted
 
 -- a line that isn't refused
-pub turned-next : (line : List ℕ) (size : ℕ) (run : Run) → 0 < size → IsCounted run → (turned line size run).run.refused ≡ None → IsNext run size (turned line size run).run
+pub turned-next : (line : List ℕ) (size : ℕ) (run : Run) → 0 < size → IsCounted run
+    → (turned line size run).run.refused ≡ None → IsNext run size (turned line size run).run
 unfolding turned
 turned-next line size run some counted accepted =
     let same = ap (λ (r : Option LineFault). (turned_by r line size run).run) counted.accepted in

@@ -21,21 +21,26 @@ delivered_lowers moment held port state steady next =
     taking_lowers port found.0 moment state steady found.1 found.2
 
 -- a taking keeps steady numbers
-pub delivered-steady : (moment : Moment) (port : ℕ) (state : State) → IsSteady state → IsSteady (delivered moment port state)
-delivered-steady moment port state = step_keeps-steady state moment (Took port (length (owed_of port state)))
+pub delivered-steady : (moment : Moment) (port : ℕ) (state : State) → IsSteady state
+    → IsSteady (delivered moment port state)
+delivered-steady moment port state =
+    step_keeps-steady state moment (Took port (length (owed_of port state)))
 
 -- nothing is taken where nothing is owed
-takings_by-none : (moment : Moment) (held : List ℕ) (fuel : ℕ) (state : State) → next_to_take held state ≡ None
+takings_by-none : (moment : Moment) (held : List ℕ) (fuel : ℕ) (state : State)
+    → next_to_take held state ≡ None
     → takings_by moment held fuel state ≡ []
 takings_by-none moment held zero state none = refl
-takings_by-none moment held (suc fuel) state none = ap (takings_from moment (takings_by moment held fuel) state) none
+takings_by-none moment held (suc fuel) state none =
+    ap (takings_from moment (takings_by moment held fuel) state) none
 
 -- where a port takes next, there is a budget
 some_budget : (moment : Moment) (held : List ℕ) (port : ℕ) (state : State) → IsSteady state
     → next_to_take held state ≡ Some port → 0 < budget state
-some_budget moment held port state steady next = omega (arith, delivered_lowers moment held port state steady next)
+some_budget moment held port state steady next =
+    omega (arith, delivered_lowers moment held port state steady next)
 
--- the same at the port that is found
+-- more fuel than the budget changes nothing, at the port that takes next
 fuel_from : (moment : Moment) (held : List ℕ) (fuel more : ℕ) (state : State) (found : Option ℕ)
     → next_to_take held state ≡ found → IsSteady state → budget state ≤ suc fuel → budget state ≤ suc more
     → ((port : ℕ) → budget (delivered moment port state) ≤ fuel → budget (delivered moment port state) ≤ more
@@ -54,7 +59,8 @@ spent_owes_nothing moment held state (Some port) next steady spent =
     absurd (omega (arith, some_budget moment held port state steady next))
 
 -- more fuel than the budget changes nothing
-pub takings_by-fuel : (moment : Moment) (held : List ℕ) (fuel more : ℕ) (state : State) → IsSteady state
+pub takings_by-fuel : (moment : Moment) (held : List ℕ) (fuel more : ℕ) (state : State)
+    → IsSteady state
     → budget state ≤ fuel → budget state ≤ more → takings_by moment held fuel state ≡ takings_by moment held more state
 takings_by-fuel moment held zero more state steady enough plenty =
     sym (takings_by-none moment held more state
@@ -67,7 +73,8 @@ takings_by-fuel moment held (suc fuel) (suc more) state steady enough plenty =
     (λ port h l. takings_by-fuel moment held fuel more (delivered moment port state) (delivered-steady moment port state steady) h l)
 
 -- where nothing is owed, nothing is taken
-pub takings_none : (moment : Moment) (held : List ℕ) (state : State) → next_to_take held state ≡ None
+pub takings_none : (moment : Moment) (held : List ℕ) (state : State)
+    → next_to_take held state ≡ None
     → takings moment held state ≡ []
 unfolding takings
 takings_none moment held state none = takings_by-none moment held (budget state) state none
@@ -90,7 +97,8 @@ takings_some moment held port state steady next =
     (takings_by-fuel moment held (budget state) (budget after) after (delivered-steady moment port state steady) (omega arith) (omega arith))
 
 -- by whether a port takes
-kept_from : (P : State → Type 0) (moment : Moment) → (later : State → List Timed) (state : State) (found : Option ℕ) → P state
+kept_from : (P : State → Type 0) (moment : Moment)
+    → (later : State → List Timed) (state : State) (found : Option ℕ) → P state
     → ((port : ℕ) → P (run (delivered moment port state) (later (delivered moment port state)))) → P (run state (takings_from moment later state found))
 kept_from P moment later state None here rest = here
 kept_from P moment later state (Some port) here rest = rest port
@@ -105,12 +113,15 @@ kept_by P moment held keeps (suc fuel) state here =
     (λ port. kept_by P moment held keeps fuel (delivered moment port state) (keeps port state here))
 
 -- a settling keeps steady numbers
-pub settled-steady : (moment : Moment) (held : List ℕ) (state : State) → IsSteady state → IsSteady (settled moment held state)
+pub settled-steady : (moment : Moment) (held : List ℕ) (state : State) → IsSteady state
+    → IsSteady (settled moment held state)
 unfolding takings
-settled-steady moment held state steady = kept_by IsSteady moment held (delivered-steady moment) (budget state) state steady
+settled-steady moment held state steady =
+    kept_by IsSteady moment held (delivered-steady moment) (budget state) state steady
 
 -- a settling gives out no number
-pub settled-last_port : (moment : Moment) (held : List ℕ) (state : State) → (settled moment held state).last_port ≡ state.last_port
+pub settled-last_port : (moment : Moment) (held : List ℕ) (state : State)
+    → (settled moment held state).last_port ≡ state.last_port
 unfolding takings
 settled-last_port moment held state =
     kept_by (λ s. s.last_port ≡ state.last_port) moment held
@@ -129,7 +140,8 @@ nothing_from moment held fuel state (Some port) next steady enough later =
     later port (omega arith)
 
 -- with fuel for the budget no port takes next
-nothing_by : (moment : Moment) (held : List ℕ) (fuel : ℕ) (state : State) → IsSteady state → budget state ≤ fuel
+nothing_by : (moment : Moment) (held : List ℕ) (fuel : ℕ) (state : State) → IsSteady state
+    → budget state ≤ fuel
     → next_to_take held (run state (takings_by moment held fuel state)) ≡ None
 nothing_by moment held zero state steady enough =
     spent_owes_nothing moment held state (next_to_take held state) refl steady enough
@@ -141,7 +153,8 @@ nothing_by moment held (suc fuel) state steady enough =
 settled-next : (moment : Moment) (held : List ℕ) (state : State) → IsSteady state
     → next_to_take held (settled moment held state) ≡ None
 unfolding takings
-settled-next moment held state steady = nothing_by moment held (budget state) state steady (omega arith)
+settled-next moment held state steady =
+    nothing_by moment held (budget state) state steady (omega arith)
 
 -- and nothing is owed to a port that isn't held
 pub nothing_is_owed : (moment : Moment) (held : List ℕ) (state : State) (port : ℕ) → IsSteady state
@@ -156,7 +169,8 @@ bytes_some : (bytes : List ℕ) → is_some_bytes bytes ≡ true → 0 < length 
 bytes_some bytes some = grind (arith, nat_tests)
 
 -- the port that takes next is owed some bytes
-pub owed_some : (held : List ℕ) (port : ℕ) (state : State) → IsSteady state → next_to_take held state ≡ Some port
+pub owed_some : (held : List ℕ) (port : ℕ) (state : State) → IsSteady state
+    → next_to_take held state ≡ Some port
     → 0 < length (owed_of port state)
 owed_some held port state steady next =
     let found = found_unheld state.under_way 0 state.last_port 0 port held state.ports steady.rising next in

@@ -16,7 +16,8 @@ use Rattle.replay_run.specs.Drill.{ticket}
 
 -- ---- short requests
 
-short_if : (test : Bool) (a b : List ℕ) → length a < 2 ^ 32 → length b < 2 ^ 32 → length (if test then a else b) < 2 ^ 32
+short_if : (test : Bool) (a b : List ℕ) → length a < 2 ^ 32 → length b < 2 ^ 32
+    → length (if test then a else b) < 2 ^ 32
 short_if true a b first second = first
 short_if false a b first second = second
 
@@ -34,7 +35,8 @@ key_of-short key round small =
 short_key : (number key round : ℕ) → round < 2 ^ 64 → length (number ∷ key_of key round) < 2 ^ 32
 short_key number key round small = omega (arith, key_of-short key round small)
 
-short_constrained : (key round number : ℕ) → round < 2 ^ 64 → length (constrained key round number).body < 2 ^ 32
+short_constrained : (key round number : ℕ) → round < 2 ^ 64
+    → length (constrained key round number).body < 2 ^ 32
 short_constrained key round number small =
     let digits = length-digits round small in
     simp (wire_lengths, length-append) (omega arith)
@@ -46,12 +48,14 @@ plain_short kind key round small =
     (short_if (kind == 4) _ _ (omega arith)
     (short_if (nat_lt kind 7) _ _ (simp (wire_lengths, length-append) (omega arith)) (omega arith))))
 
-asking_short : (test : Bool) (key round number : ℕ) (other : Asking) → round < 2 ^ 64 → length other.body < 2 ^ 32
+asking_short : (test : Bool) (key round number : ℕ) (other : Asking) → round < 2 ^ 64
+    → length other.body < 2 ^ 32
     → length (if test then constrained key round number else other).body < 2 ^ 32
 asking_short true key round number other small short = short_constrained key round number small
 asking_short false key round number other small short = short
 
-pub asking_of-short : (kind key round number : ℕ) → round < 2 ^ 64 → length (asking_of kind key round number).body < 2 ^ 32
+pub asking_of-short : (kind key round number : ℕ) → round < 2 ^ 64
+    → length (asking_of kind key round number).body < 2 ^ 32
 unfolding asking_of
 asking_of-short kind key round number small =
     asking_short (kind == 2) key round number (record { body = plain_body kind key round; number = number }) small (plain_short kind key round small)
@@ -104,4 +108,5 @@ some_string body = omega (arith, length-string body)
 
 -- nothing was written of a text
 pub nothing_told : (all : List ℕ) (seen : StreamView) → WritesPart all seen seen
-nothing_told all seen = (all, record { front = []; whole = refl; written = Appends-nil seen.written })
+nothing_told all seen =
+    (all, record { front = []; whole = refl; written = Appends-nil seen.written })

@@ -19,6 +19,7 @@ pub record Draws : Type 0 where
   pub three : ℕ
   pub number : ℕ
 
+-- three draws below these numbers, one after another, and the number that they leave
 unfoldable pub draws_of : ℕ → ℕ → ℕ → ℕ → Draws
 draws_of one two three number =
     let first = next_number number in

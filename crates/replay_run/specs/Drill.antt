@@ -116,6 +116,7 @@ abbrev pub heard_by : Bool → Moment → ℕ → List ℕ → Drilled → Drill
 heard_by true moment port body drill = lined moment (Heard port (string body)) drill
 heard_by false moment port body drill = drill
 
+-- the line `hear` with the frame of this body at the port, which does nothing where that one is closed
 unfoldable pub heard : Moment → ℕ → List ℕ → Drilled → Drilled
 heard moment port body drill = heard_by (is_some (find_port port drill.agent.ports)) moment port body drill
 
@@ -136,6 +137,7 @@ helped_by true moment drill =
     (lined moment (Joined Children) (lined moment (Started 1 ticket) drill))
 helped_by false moment drill = drill
 
+-- the lines that start the helper and let it say hello, where job 1 waits to be started
 unfoldable pub helped : Moment → Drilled → Drilled
 helped moment drill = helped_by (is_some (find_to_start 1 (starts drill.agent))) moment drill
 
@@ -145,6 +147,7 @@ signed_by None moment round drill = drill
 signed_by (Some ask) moment round drill =
     heard moment helper_port (from_child_body (Signed ask (uint64 round))) (record drill { ask = None })
 
+-- the line by which the helper signs, where it was asked
 unfoldable pub signed : Moment → ℕ → Drilled → Drilled
 signed moment round drill = signed_by drill.ask moment round drill
 
@@ -157,6 +160,7 @@ asked moment round asking client drill =
 abbrev pub drawn_asking : ℕ → Draws → Asking
 drawn_asking round draws = asking_of draws.three draws.two round draws.number
 
+-- the round of these draws, behind the moment's line
 abbrev pub round_by : Moment → ℕ → Draws → Drilled → Drilled
 round_by moment round draws drill = asked moment round (drawn_asking round draws) (1 + draws.one) drill
 
@@ -168,6 +172,7 @@ moment_of round = record { mono = round; wall = 0 }
 abbrev pub round_at : Moment → ℕ → Drilled → Drilled
 round_at moment round drill = round_by moment round (draws_of 8 64 8 drill.number) drill
 
+-- the round of this number: the line of its moment, and then its request and all that comes of it
 unfoldable pub round_of : ℕ → Drilled → Drilled
 round_of round drill = round_at (moment_of round) round (lined (moment_of round) Tick drill)
 
@@ -195,5 +200,6 @@ summary_of rounds seed drill =
     ++ told (codes ", lists ") drill.counts.lists ++ told (codes ", signatures ") drill.counts.signatures
     ++ told (codes ", held ") (length drill.agent.held.table.identities) ++ codes "\n"
 
+-- the line that sums up the drill of so many rounds from this seed
 abbrev pub summary : ℕ → ℕ → List ℕ
 summary rounds seed = summary_of rounds seed (drilled rounds seed)

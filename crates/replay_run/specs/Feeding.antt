@@ -42,7 +42,7 @@ pub record Feeds
 abbrev pub fed_so_far : Feeding → ℕ
 fed_so_far feeding = feeding.run.read + length feeding.pending
 
--- the same of a run that was ready and is ready for more
+-- a run that was ready was fed these bytes, and is ready for more
 pub record GoesOnFed
     (old : Feeding) (bytes : List ℕ) (new : Feeding) (before after : StreamView) : Type 0 where
   pub accepted : old.run.refused ≡ None
@@ -68,7 +68,7 @@ pub record WritesRefusal
   pub refused : run.refused ≡ Some fault
   pub number : run.line ≡ line
 
--- the same as a front, where writing failed
+-- what was written is a front of what the run prints, since a write failed
 pub record WritesUntilFault
     (old : Feeding) (bytes : List ℕ) (before after : StreamView) : Type 0 where
   pub front : WritesFront old bytes before after

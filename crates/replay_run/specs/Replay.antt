@@ -67,6 +67,7 @@ abbrev pub comes : Happening → Run → List Timed
 comes event run =
     at_moment run.moment event ∷ takings run.moment run.held (after_event run.moment run.agent event)
 
+-- the event alone, and the settling after it
 abbrev pub happens : Happening → Run → Brought
 happens event run = Brings (record run { closed = [] }) (comes event run)
 
@@ -140,10 +141,11 @@ brought_turned (Brings found events) size run = record {
 }
 brought_turned (Refuses fault) size run = refuse fault run
 
--- the most bytes of a line, without its LF, and of a schedule
+-- the most bytes of a line, without its LF
 abbrev pub longest_line : ℕ
 longest_line = 65536
 
+-- the most bytes of a schedule
 abbrev pub longest_schedule : ℕ
 longest_schedule = 268435456
 

@@ -1,4 +1,5 @@
-// A schedule that is made as it is run, of requests that a seed draws.
+//! A schedule that is made as it is run, of requests that a seed draws.
+
 ghost use Rattle.std.specs.Prelude.{◌≡◌, ◌≤◌};
 ghost use Rattle.replay_run.specs.Drill.{drilled, start_drill};
 ghost use Rattle.replay_run.specs.DrillClaims.{DrillEnds, left_at};

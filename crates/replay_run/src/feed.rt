@@ -1,4 +1,5 @@
-// A run that is fed with pieces.
+//! A run that is fed with pieces.
+
 ghost use Rattle.std.specs.Prelude.{◌≡◌, ◌∷◌, [], ◌++◌, ◌≤◌, ◌+◌, length, true};
 ghost use Rattle.std.specs.Prelude.{MatchOption, None, OnErr, OnOk};
 ghost use Rattle.world_ports.specs.Causes.{HasCause};

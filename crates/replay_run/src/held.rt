@@ -1,4 +1,5 @@
-// The ports that take bytes only by `take`.
+//! The ports that take bytes only by `take`.
+
 ghost use Rattle.std.specs.Prelude.{◌≡◌, OnOk, []};
 ghost use Rattle.replay_run.specs.Holding.{free_port, hold_port, is_held};
 

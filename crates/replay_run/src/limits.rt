@@ -1,4 +1,4 @@
-// The limits of a schedule (ours).
+//! The limits of a schedule (ours).
 
 /// The most bytes of a line, without its LF.
 pub const LONGEST_LINE: usize = 65_536;

@@ -1,4 +1,5 @@
-// The loop over reads.
+//! The loop over reads.
+
 ghost use Rattle.std.specs.Prelude.{◌≡◌, ◌<◌, ℕ, IfOk, MatchOption, Option, length, vec_len};
 ghost use Rattle.replay_run.specs.Claims.{Seen, Ends, HandsBack};
 ghost use Rattle.replay_run.specs.Feeding.{IsReady};

@@ -1,3 +1,5 @@
+//! How the run of a schedule ends.
+
 use schedule_text::LineFault;
 
 /// How the run of a schedule ended.

@@ -1,4 +1,5 @@
-// The settling after an event.
+//! The settling after an event.
+
 ghost use Rattle.std.specs.Prelude.{◌≡◌, ◌++◌, OnOk};
 ghost use Rattle.std.specs.List.{flat_map};
 ghost use Rattle.agent_model.specs.Sound.{IsSteady};

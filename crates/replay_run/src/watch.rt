@@ -1,4 +1,5 @@
-// Who watches the run of a schedule: what is told of it, and the text that it prints.
+//! Who watches the run of a schedule: what is told of it, and the text that it prints.
+
 ghost use Rattle.std.specs.Prelude.{◌≡◌, ◌≢◌, ◌++◌, ℕ, List, OnOk, is_some};
 ghost use Rattle.agent_core.specs.Happenings.{happening};
 ghost use Rattle.agent_model.specs.State.{Fits, find_to_start};

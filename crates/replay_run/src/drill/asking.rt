@@ -1,4 +1,5 @@
-// The requests of a drill.
+//! The requests of a drill.
+
 ghost use Rattle.std.specs.Prelude.{◌≡◌, ◌+◌, ◌<◌, ◌++◌, ◌^◌, IfOk, OnOk, length, replicate, decimal};
 ghost use Rattle.replay_run.specs.Draws.{asking_of, blob_of, key_of, signing_of};
 ghost use Rattle.child_msg.specs.ChildFrames.{from_child_body};

@@ -1,4 +1,5 @@
-// What clients took, and what the helper is asked.
+//! What clients took, and what the helper is asked.
+
 ghost use Rattle.std.specs.Prelude.{◌≡◌, ◌+◌, ◌∷◌, ◌<◌, [], IfOk, IfSome, OnOk, MatchOption, length};
 ghost use Rattle.wire_text.specs.Bounds.{longest_to_child};
 ghost use Rattle.wire_text.specs.Frames.{split, then_split, unsplit};

@@ -1,4 +1,5 @@
-// Numbers that a seed draws.
+//! Numbers that a seed draws.
+
 ghost use Rattle.std.specs.Prelude.{◌≡◌, ◌<◌};
 ghost use Rattle.replay_run.specs.Draws.{Draws as Drawn, draw_of, draws_of, next_number};
 

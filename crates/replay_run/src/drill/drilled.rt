@@ -1,4 +1,5 @@
-// A drill: requests that are drawn, and an agent that takes them.
+//! A drill: requests that are drawn, and an agent that takes them.
+
 ghost use Rattle.std.specs.Prelude.{◌≡◌, ◌↔◌, ◌+◌, ◌-◌, ◌<◌, ◌≤◌, ◌^◌, IfOk, IsSome, IsTrue, OnOk, is_some, length};
 ghost use Rattle.agent_core.specs.Happenings.{happening};
 ghost use Rattle.agent_core.specs.Owing.{is_client_at};

@@ -1,4 +1,5 @@
-// Words with numbers.
+//! Words with numbers.
+
 ghost use Rattle.std.specs.Prelude.{◌≡◌, ◌++◌, OnOk};
 ghost use Rattle.replay_run.specs.Drill.{told};
 

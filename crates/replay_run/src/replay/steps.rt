@@ -1,4 +1,5 @@
-// What single lines ask for: those of the clock, of ports, and of jobs.
+//! What single lines ask for: those of the clock, of ports, and of jobs.
+
 ghost use Rattle.std.specs.Prelude.{◌≡◌, ◌+◌, ◌<◌, ◌≤◌, ◌++◌, IsSome, None, OnOk};
 ghost use Rattle.std.specs.List.{flat_map};
 ghost use Rattle.agent_core.specs.Happenings.{happening};

@@ -8,7 +8,8 @@ use Rattle.replay_run.proofs.drill.drill_to_end.Goals as goal
 
 pub returns-in_default-clause-ends : goal.returns-in_default-clause-ends
 unfolding DrillEnds
-returns-in_default-clause-ends g c = nothing_told (summary c.args.rounds c.args.seed) (g.O.Stream.seen c.args.output.now)
+returns-in_default-clause-ends g c =
+    nothing_told (summary c.args.rounds c.args.seed) (g.O.Stream.seen c.args.output.now)
 
 pub returns-in-Ok-write_all-clause-ends : goal.returns-in-Ok-write_all-clause-ends
 unfolding DrillEnds

@@ -8,7 +8,8 @@ use Rattle.agent_model.specs.State.{find_to_start}
 use Rattle.replay_run.proofs.watch.is_among.Goals as goal
 
 -- the test of the standard library
-finds : (number : ℕ) (jobs : List Job) → list_any (λ (job : Job). job.number == number) jobs ≡ is_some (find_to_start number jobs)
+finds : (number : ℕ) (jobs : List Job)
+    → list_any (λ (job : Job). job.number == number) jobs ≡ is_some (find_to_start number jobs)
 finds number [] = refl
 finds number (job ∷ jobs) = grind (arith, nat_tests, finds number jobs)
 

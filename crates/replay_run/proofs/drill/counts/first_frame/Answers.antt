@@ -13,7 +13,9 @@ returns-in-Whole-clause-smaller c =
     first_shorter c.args.bytes.now c.in-Whole.body.now c.in-Whole.rest.now c.in-Whole.ensures.exact c.in-Whole.ensures.cut
 
 pub returns-in-Bad-clause-split : goal.returns-in-Bad-clause-split
-returns-in-Bad-clause-split c = split-bad longest_to_child c.args.bytes.now c.in-Bad.announced (sym c.in-Bad.ensures.exact)
+returns-in-Bad-clause-split c =
+    split-bad longest_to_child c.args.bytes.now c.in-Bad.announced (sym c.in-Bad.ensures.exact)
 
 pub returns-in-More-clause-split : goal.returns-in-More-clause-split
-returns-in-More-clause-split c = split-more longest_to_child c.args.bytes.now (sym c.in-More.ensures.exact)
+returns-in-More-clause-split c =
+    split-more longest_to_child c.args.bytes.now (sym c.in-More.ensures.exact)

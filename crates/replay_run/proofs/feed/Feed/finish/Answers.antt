@@ -5,10 +5,12 @@ use Rattle.replay_run.proofs.EndLemmas.{nothing_left, ends_text, finished, finis
 use Rattle.replay_run.proofs.feed.Feed.finish.Goals as goal
 
 pub returns-in_default-clause-ends : goal.returns-in_default-clause-ends
-returns-in_default-clause-ends g c = nothing_left (ending_text c.args.self.now) (g.O.Stream.seen c.args.output.now)
+returns-in_default-clause-ends g c =
+    nothing_left (ending_text c.args.self.now) (g.O.Stream.seen c.args.output.now)
 
 pub returns-in_default-put_end-clause-ends : goal.returns-in_default-put_end-clause-ends
-returns-in_default-put_end-clause-ends g c = nothing_left (ending_text c.args.self.now) (g.O.Stream.seen c.args.output.now)
+returns-in_default-put_end-clause-ends g c =
+    nothing_left (ending_text c.args.self.now) (g.O.Stream.seen c.args.output.now)
 
 pub returns-in-Ok-write_out-clause-ends : goal.returns-in-Ok-write_out-clause-ends
 returns-in-Ok-write_out-clause-ends g c =

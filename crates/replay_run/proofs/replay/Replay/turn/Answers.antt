@@ -20,7 +20,8 @@ returns-then-self-size-gt-LONGEST_SCHEDULE-clause-notes g c =
     rw (turned-too_long c.args.line.now c.args.size c.args.self.now c.requires.counted.accepted (inr late)) c.refuse.ensures.notes
 
 pub take_step-requires-clause-says : goal.take_step-requires-clause-says
-take_step-requires-clause-says g c = step_says_some c.args.line.now c.in-Ok.step c.in-Ok.ensures.found
+take_step-requires-clause-says g c =
+    step_says_some c.args.line.now c.in-Ok.step c.in-Ok.ensures.found
 
 pub returns-in-Ok-clause-run : goal.returns-in-Ok-clause-run
 returns-in-Ok-clause-run g c =
