@@ -11,7 +11,8 @@ use Rattle.agent_top.specs.Program.{status_of}
 use Rattle.agent_top.specs.Words.{Drilling, drill_words, replay_life}
 
 -- each end says what its status says
-pub drills_by : (rounds seed : ℕ) (end : RunEnd) (old new : StreamView) → DrillEnds rounds seed end old new
+pub drills_by : (rounds seed : ℕ) (end : RunEnd) (old new : StreamView)
+    → DrillEnds rounds seed end old new
     → DrillsExactly (record { rounds = rounds; seed = seed }) (status_of end) old new
 unfolding DrillEnds
 drills_by rounds seed Done old new ends = ends
@@ -21,7 +22,8 @@ drills_by rounds seed ReadFault old new ends = ends
 drills_by rounds seed WriteFault old new ends = ends
 
 -- a fault is answered only where one was counted
-pub drill_completes_by : (rounds seed : ℕ) (end : RunEnd) (old new : StreamView) → DrillEnds rounds seed end old new
+pub drill_completes_by : (rounds seed : ℕ) (end : RunEnd) (old new : StreamView)
+    → DrillEnds rounds seed end old new
     → DrillCompletes (status_of end) old new
 unfolding DrillEnds
 drill_completes_by rounds seed Done old new ends = λ none. tt
@@ -42,7 +44,8 @@ drill_is word true asked some is drills = refl
 drill_is word false asked some is drills = absurd (cc)
 
 -- words of a drill ask for no schedule
-pub drill_is_no_replay : (words : List (List ℕ)) (asked : Drilling) → drill_words words ≡ Some asked → replay_life words ≡ None
+pub drill_is_no_replay : (words : List (List ℕ)) (asked : Drilling) → drill_words words ≡ Some asked
+    → replay_life words ≡ None
 drill_is_no_replay [] asked is = refl
 drill_is_no_replay (word ∷ []) asked is = absurd (cc)
 drill_is_no_replay (word ∷ option ∷ []) asked is = refl
@@ -53,7 +56,8 @@ drill_is_no_replay (word ∷ rounds ∷ seed ∷ more ∷ words) asked is = refl
 none_found : (found : Option (Option ℕ)) (life : Option ℕ) → found ≡ None → found ≡ Some life → ⊥
 none_found found life none some = cc
 
-pub no_drill_replays : (words : List (List ℕ)) (asked : Drilling) (life : Option ℕ) → drill_words words ≡ Some asked
+pub no_drill_replays : (words : List (List ℕ)) (asked : Drilling) (life : Option ℕ)
+    → drill_words words ≡ Some asked
     → replay_life words ≡ Some life → ⊥
 no_drill_replays words asked life is replays =
     none_found (replay_life words) life (drill_is_no_replay words asked is) replays

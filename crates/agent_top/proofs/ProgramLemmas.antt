@@ -7,11 +7,13 @@ use Rattle.replay_run.specs.declared.run_end.RunEnd.TheVariants.{Done, Refused, 
 use Rattle.agent_laws.proofs.AnsweredLemmas.{first-answered}
 use Rattle.replay_run.specs.Replay.{events_of, run_of, settings_of}
 use Rattle.replay_run.specs.Claims.{Seen, IsRefused, Ends}
+use Rattle.replay_run.proofs.RoundLemmas.{some_of}
 use Rattle.replay_run.proofs.BroughtLemmas.{run-schedule, schedule-lawful}
 use Rattle.agent_top.specs.Program.{status_of, ReplaysExactly, IsComplete, IsFinished, IsLawfulRun, HasNoFault, Completes, RunsLawfully}
 
 -- each end says what its status says
-pub replays_by : (life : Option ℕ) (end : RunEnd) (old new : Seen) → Ends life end old new → ReplaysExactly life (status_of end) old new
+pub replays_by : (life : Option ℕ) (end : RunEnd) (old new : Seen) → Ends life end old new
+    → ReplaysExactly life (status_of end) old new
 unfolding Ends
 replays_by life Done old new ends = ends
 replays_by life (Refused line fault) old new ends = ends
@@ -20,7 +22,8 @@ replays_by life ReadFault old new ends = ends
 replays_by life WriteFault old new ends = ends
 
 -- a fault is answered only where one was counted
-complete_by : (life : Option ℕ) (end : RunEnd) (old new : Seen) → Ends life end old new → HasNoFault old new → IsComplete (status_of end)
+complete_by : (life : Option ℕ) (end : RunEnd) (old new : Seen) → Ends life end old new
+    → HasNoFault old new → IsComplete (status_of end)
 unfolding Ends
 complete_by life Done old new ends none = tt
 complete_by life (Refused line fault) old new ends none = tt
@@ -29,19 +32,20 @@ complete_by life ReadFault old new ends none = absurd (none.reads ends.cause)
 complete_by life WriteFault old new ends none = absurd (none.writes ends.cause)
 
 -- the whole input isn't both refused and accepted
-refused_input : (life : Option ℕ) (left new_left : Option (List ℕ)) (bytes text : List ℕ) (line : ℕ) (fault : LineFault) → Consumes left new_left bytes → IfSome new_left (λ rest. IsRefused life line fault text (bytes ++ rest)) → IfSome left (λ input. (run_of life input).refused ≡ None → ⊥)
+refused_input : (life : Option ℕ) (left new_left : Option (List ℕ)) (bytes text : List ℕ) (line : ℕ) (fault : LineFault)
+    → Consumes left new_left bytes
+    → IfSome new_left (λ rest. IsRefused life line fault text (bytes ++ rest))
+    → IfSome left (λ input. (run_of life input).refused ≡ None → ⊥)
 refused_input life None new_left bytes text line fault consumed refused = tt
 refused_input life (Some input) None bytes text line fault consumed refused = absurd consumed
 refused_input life (Some input) (Some rest) bytes text line fault consumed refused = λ accepted.
     let same : Some fault ≡ None = sym refused.refused ∙ sym (ap (λ (i : List ℕ). (run_of life i).refused) consumed) ∙ accepted in
     cc
 
-some_of : (left : Option (List ℕ)) (P : List ℕ → Type 0) → ((input : List ℕ) → P input) → IfSome left P
-some_of None P holds = tt
-some_of (Some input) P holds = holds input
-
 -- an input of which no line is refused is run to its end
-finished_by : (life : Option ℕ) (end : RunEnd) (old new : Seen) → Ends life end old new → HasNoFault old new → IfSome old.input.left (λ input. (run_of life input).refused ≡ None → IsFinished (status_of end))
+finished_by : (life : Option ℕ) (end : RunEnd) (old new : Seen) → Ends life end old new
+    → HasNoFault old new
+    → IfSome old.input.left (λ input. (run_of life input).refused ≡ None → IsFinished (status_of end))
 unfolding Ends
 finished_by life Done old new ends none = some_of old.input.left (λ input. (run_of life input).refused ≡ None → Unit {0}) (λ input accepted. tt)
 finished_by life (Refused line fault) old new ends none =
@@ -50,7 +54,8 @@ finished_by life Memory old new ends none = some_of old.input.left (λ input. (r
 finished_by life ReadFault old new ends none = absurd (none.reads ends.cause)
 finished_by life WriteFault old new ends none = absurd (none.writes ends.cause)
 
-pub completes_by : (life : Option ℕ) (end : RunEnd) (old new : Seen) → Ends life end old new → Completes life (status_of end) old new
+pub completes_by : (life : Option ℕ) (end : RunEnd) (old new : Seen) → Ends life end old new
+    → Completes life (status_of end) old new
 completes_by life end old new ends = record {
   complete = complete_by life end old new ends;
   finished = finished_by life end old new ends;

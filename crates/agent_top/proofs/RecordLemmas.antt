@@ -15,9 +15,11 @@ use Rattle.agent_top.specs.declared.status.Status.{Status}
 use Rattle.agent_top.specs.declared.status.Status.TheVariants as status
 
 -- the calls are those that the journal has more
-same_calls : (before : List Entry) (journal : Option (List Entry)) (one other : List Entry) → Grows (Some before) journal one → Grows (Some before) journal other → one ≡ other
+same_calls : (before : List Entry) (journal : Option (List Entry)) (one other : List Entry)
+    → Grows (Some before) journal one → Grows (Some before) journal other → one ≡ other
 same_calls before None one other first second = absurd first
-same_calls before (Some now) one other first second = append_cancel_left before one other (sym first ∙ second)
+same_calls before (Some now) one other first second =
+    append_cancel_left before one other (sym first ∙ second)
 
 -- what a recorder wrote of them, by how it stands at the end
 records_as : (short failed : Bool) (end : ServeEnd) (after : Recording) (calls : List Entry) (old new : StreamView) (text : List ℕ)
@@ -40,7 +42,8 @@ records_by short failed end after (Some before) later old new leads = λ calls g
     record { text = leads.writes.text; written = leads.writes.written; front = parts.0; whole = parts.1 }
 
 -- what a recorder wrote since it was made
-pub since_made : (journal begun later : Option (List Entry)) (old : StreamView) (first last : Taped) → begun ≡ journal → first ≡ taped old false false first_recording
+pub since_made : (journal begun later : Option (List Entry)) (old : StreamView) (first last : Taped)
+    → begun ≡ journal → first ≡ taped old false false first_recording
     → Leads begun later first last → Leads journal later (taped old false false first_recording) last
 since_made journal begun later old first last same made led =
     subst (λ (tape : Taped). Leads journal later tape last) made (subst (λ (calls : Option (List Entry)). Leads calls later first last) same led)
@@ -56,7 +59,8 @@ tells_write status.ReadFault = false
 tells_write status.WriteFault = true
 
 -- the status tells a failed write only where one failed
-pub failed_by : (short failed : Bool) (end : ServeEnd) → status_of_recorded short failed end ≡ status.WriteFault → failed ≡ true
+pub failed_by : (short failed : Bool) (end : ServeEnd)
+    → status_of_recorded short failed end ≡ status.WriteFault → failed ≡ true
 unfolding tells_write
 failed_by short true end is = refl
 failed_by true false end is = ap tells_write is

@@ -8,7 +8,7 @@ use Rattle.world_ports.specs.declared.entry.Entry.TheVariants as entry
 use Rattle.world_ports.specs.declared.events.Door.{Door}
 use Rattle.world_ports.specs.declared.events.Door.TheVariants.{Clients, Children}
 use Rattle.loop_model.specs.Fairness.{if_any, is_service, waits_on}
-use Rattle.loop_model.specs.LegalJournal.{LoopState, taken, turned}
+use Rattle.loop_model.specs.LegalJournal.{LoopState, after_entries, after_if_legal}
 use Rattle.loop_model.specs.Lines.{IsQuiet}
 use Rattle.loop_model.specs.Things.{same_door, same_thing}
 use Rattle.loop_model.specs.declared.thing.Thing.{Thing}
@@ -21,12 +21,14 @@ use Rattle.agent_top.specs.ServeFair.{IsFair, ServeTwice, ServesFairly}
 -- ---- one part after another
 
 -- what comes of two steps comes of the second after the first
-then_some : {A B : Type 0} (f : A → Option B) (found : Option A) (to : B) → option_and_then f found ≡ Some to
+then_some : {A B : Type 0} (f : A → Option B) (found : Option A) (to : B)
+    → option_and_then f found ≡ Some to
     → (mid : A) × (found ≡ Some mid) × (f mid ≡ Some to)
 then_some f None to is = cc
 then_some f (Some mid) to is = (mid, refl, is)
 
-ran-split : (setting : Setting) (from to : Stage) (first later : List Entry) → ran setting from (first ++ later) ≡ Some to
+ran-split : (setting : Setting) (from to : Stage) (first later : List Entry)
+    → ran setting from (first ++ later) ≡ Some to
     → (mid : Stage) × (ran setting from first ≡ Some mid) × (ran setting mid later ≡ Some to)
 ran-split setting from to first later legal =
     then_some (λ (after : Stage). ran setting after later) (ran setting from first) to
@@ -39,30 +41,33 @@ mapped : (found : Option LoopState) (to : Stage) → option_map Running found �
 mapped None to is = cc
 mapped (Some after) to is = let same : Running after ≡ to = cc in (after, refl, same)
 
-turns_by : (may : Bool) (from : LoopState) (next : Entry) (to : Stage) → running_if may from next ≡ Some to
-    → (after : LoopState) × (taken from next ≡ Some after) × (Running after ≡ to)
-turns_by true from next to is = mapped (taken from next) to is
+turns_by : (may : Bool) (from : LoopState) (next : Entry) (to : Stage)
+    → running_if may from next ≡ Some to
+    → (after : LoopState) × (after_if_legal from next ≡ Some after) × (Running after ≡ to)
+turns_by true from next to is = mapped (after_if_legal from next) to is
 turns_by false from next to is = cc
 
 -- a call of a loop that runs is one that comes in turn
-turns : (setting : Setting) (from : LoopState) (next : Entry) (to : Stage) → gone_on setting (Running from) next ≡ Some to
-    → (after : LoopState) × (taken from next ≡ Some after) × (Running after ≡ to)
+turns : (setting : Setting) (from : LoopState) (next : Entry) (to : Stage)
+    → gone_on setting (Running from) next ≡ Some to
+    → (after : LoopState) × (after_if_legal from next ≡ Some after) × (Running after ≡ to)
 turns setting from next to is = turns_by (may_come setting.until_idle from next) from next to is
 
 -- and so are all of them
-turned-all : (setting : Setting) (from : LoopState) (entries : List Entry) (to : Stage)
-    → ran setting (Running from) entries ≡ Some to → (after : LoopState) × (turned from entries ≡ Some after)
-turned-all setting from [] to legal = (from, refl)
-turned-all setting from (next ∷ later) to legal =
+after_entries-all : (setting : Setting) (from : LoopState) (entries : List Entry) (to : Stage)
+    → ran setting (Running from) entries ≡ Some to → (after : LoopState) × (after_entries from entries ≡ Some after)
+after_entries-all setting from [] to legal = (from, refl)
+after_entries-all setting from (next ∷ later) to legal =
     let step = then_some (λ (after : Stage). ran setting after later) (gone_on setting (Running from) next) to legal in
     let one = turns setting from next step.0 step.1 in
-    let rest = turned-all setting one.0 later to
+    let rest = after_entries-all setting one.0 later to
     (ap (λ (stage : Stage). ran setting stage later) one.2 ∙ step.2) in
-    (rest.0, ap (option_and_then (λ (after : LoopState). turned after later)) one.1 ∙ rest.1)
+    (rest.0, ap (option_and_then (λ (after : LoopState). after_entries after later)) one.1 ∙ rest.1)
 
 -- ---- a service comes of a loop that runs
 
-unbound : (door : Door) (path : List ℕ) (stage to : Stage) (thing : Thing) (next : Entry) → is_service thing next ≡ true
+unbound : (door : Door) (path : List ℕ) (stage to : Stage) (thing : Thing) (next : Entry)
+    → is_service thing next ≡ true
     → bound door path stage next ≡ Some to → ⊥
 unbound door path stage to thing (entry.Bind other at answer) service is = cc
 unbound door path stage to thing (entry.Poll wait items answer) service is = cc
@@ -73,7 +78,8 @@ unbound door path stage to thing (entry.Close port answer) service is = cc
 unbound door path stage to thing (entry.Start job answer) service is = cc
 unbound door path stage to thing (entry.Now answer) service is = cc
 
-serving-runs : (setting : Setting) (stage to : Stage) (thing : Thing) (next : Entry) → is_service thing next ≡ true
+serving-runs : (setting : Setting) (stage to : Stage) (thing : Thing) (next : Entry)
+    → is_service thing next ≡ true
     → gone_on setting stage next ≡ Some to → (from : LoopState) × (stage ≡ Running from)
 serving-runs setting Unbound to thing next service is =
     absurd (unbound Clients setting.path HalfBound to thing next service is)
@@ -87,7 +93,7 @@ serving-runs setting Refused to thing next service is = cc
 abbrev IsStill : Stage → Type 0
 IsStill Unbound = Unit {0}
 IsStill HalfBound = Unit {0}
-IsStill (Running turning) = IsQuiet turning.state turning.line
+IsStill (Running reading) = IsQuiet reading.state reading.line
 IsStill Refused = Unit {0}
 
 still_if : (test : Bool) (answer : Result Unit WorldFault) (stage to : Stage) → IsStill stage
@@ -108,7 +114,8 @@ still_bound door path stage to (entry.Close port answer) still is = cc
 still_bound door path stage to (entry.Start job answer) still is = cc
 still_bound door path stage to (entry.Now answer) still is = cc
 
-still_on : (setting : Setting) (stage to : Stage) (next : Entry) → IsStill stage → gone_on setting stage next ≡ Some to
+still_on : (setting : Setting) (stage to : Stage) (next : Entry) → IsStill stage
+    → gone_on setting stage next ≡ Some to
     → IsStill to
 still_on setting Unbound to next still is = still_bound Clients setting.path HalfBound to next tt is
 still_on setting HalfBound to next still is =
@@ -128,43 +135,45 @@ still-all setting stage to (next ∷ later) still legal =
 -- ---- two services
 
 -- the first of them leads there
-leads_there : (setting : Setting) (from turning : LoopState) (first : Entry)
-    → ran setting (Running from) (first ∷ []) ≡ Some (Running turning) → taken from first ≡ Some turning
-leads_there setting from turning first legal =
-    let step = then_some (λ (after : Stage). ran setting after []) (gone_on setting (Running from) first) (Running turning) legal in
+leads_there : (setting : Setting) (from reading : LoopState) (first : Entry)
+    → ran setting (Running from) (first ∷ []) ≡ Some (Running reading) → after_if_legal from first ≡ Some reading
+leads_there setting from reading first legal =
+    let step = then_some (λ (after : Stage). ran setting after []) (gone_on setting (Running from) first) (Running reading) legal in
     let one = turns setting from first step.0 step.1 in
-    let same : Running one.0 ≡ Running turning = one.2 ∙ (let here : step.0 ≡ Running turning = cc in here) in
-    let is : one.0 ≡ turning = cc in
+    let same : Running one.0 ≡ Running reading = one.2 ∙ (let here : step.0 ≡ Running reading = cc in here) in
+    let is : one.0 ≡ reading = cc in
     one.1 ∙ ap Some is
 
-fair_by : (setting : Setting) (from turning : LoopState) (to : Stage) (thing other : Thing) (between after : List Entry)
+fair_by : (setting : Setting) (from reading : LoopState) (to : Stage) (thing other : Thing) (between after : List Entry)
     (first last : Entry) → IsQuiet from.state from.line
     → ran setting (Running from) (first ∷ (between ++ last ∷ after)) ≡ Some to
-    → ran setting (Running from) (first ∷ []) ≡ Some (Running turning)
+    → ran setting (Running from) (first ∷ []) ≡ Some (Running reading)
     → is_service thing first ≡ true → is_service thing last ≡ true → same_thing thing other ≡ false
-    → waits_on other turning between ≡ true → list_any (is_service other) between ≡ true
-fair_by setting from turning to thing other between after first last quiet legal reached service again apart waits =
+    → waits_on other reading between ≡ true → list_any (is_service other) between ≡ true
+fair_by setting from reading to thing other between after first last quiet legal reached service again apart waits =
     let more : (first ∷ (between ++ last ∷ [])) ++ after ≡ first ∷ (between ++ last ∷ after) =
     ap (λ (es : List Entry). first ∷ es) (append_assoc between (last ∷ []) after) in
     let up_to = ran-split setting (Running from) to (first ∷ (between ++ last ∷ [])) after
     (ap (ran setting (Running from)) more ∙ legal) in
-    let front = turned-all setting from (first ∷ (between ++ last ∷ [])) up_to.0 up_to.1 in
+    let front = after_entries-all setting from (first ∷ (between ++ last ∷ [])) up_to.0 up_to.1 in
     served_between from front.0 thing other first last between quiet front.1 service again apart
-    (ap (if_any (λ (t : LoopState). waits_on other t between)) (leads_there setting from turning first reached) ∙ waits)
+    (ap (if_any (λ (t : LoopState). waits_on other t between)) (leads_there setting from reading first reached) ∙ waits)
 
-fair : (setting : Setting) (calls : List Entry) (to : Stage) → ran setting Unbound calls ≡ Some to → IsFair setting calls
-fair setting calls to legal = λ thing other before between after first last turning twice apart reached waits.
+fair : (setting : Setting) (calls : List Entry) (to : Stage) → ran setting Unbound calls ≡ Some to
+    → IsFair setting calls
+fair setting calls to legal = λ thing other before between after first last reading twice apart reached waits.
     let whole = ap (ran setting Unbound) (sym twice.split) ∙ legal in
     let start = ran-split setting Unbound to before (first ∷ (between ++ last ∷ after)) whole in
     let next = then_some (λ (stage : Stage). ran setting stage (between ++ last ∷ after)) (gone_on setting start.0 first) to start.2 in
     let runs = serving-runs setting start.0 next.0 thing first twice.once next.1 in
     let still = subst IsStill runs.1 (still-all setting Unbound start.0 before tt start.1) in
-    let there = ran-split setting Unbound (Running turning) before (first ∷ []) reached in
+    let there = ran-split setting Unbound (Running reading) before (first ∷ []) reached in
     let same : there.0 ≡ start.0 = (let both : Some there.0 ≡ Some start.0 = sym there.1 ∙ start.1 in cc) in
-    fair_by setting runs.0 turning to thing other between after first last still
+    fair_by setting runs.0 reading to thing other between after first last still
     (ap (λ (stage : Stage). ran setting stage (first ∷ (between ++ last ∷ after))) (sym runs.1) ∙ start.2)
     (ap (λ (stage : Stage). ran setting stage (first ∷ [])) (sym (same ∙ runs.1)) ∙ there.2)
     twice.once twice.again apart waits
 
-pub serves_fairly : (setting : Setting) (old new : Option (List Entry)) → ServesFairly setting old new
+pub serves_fairly : (setting : Setting) (old new : Option (List Entry))
+    → ServesFairly setting old new
 serves_fairly setting old new = λ calls to told legal. fair setting calls to legal

@@ -28,7 +28,9 @@ no_replay (word ∷ option ∷ life ∷ []) is = rw (not_both word is) refl
 no_replay (word ∷ option ∷ life ∷ more ∷ words) is = refl
 
 -- each end says what its status says
-pub serves_by : (is_recorded : Bool) (end : ServeEnd) (setting : Setting) (old new : Option (List Entry)) → Serves end setting Unbound old new → ServesExactly is_recorded setting (status_of_serving end) old new
+pub serves_by : (is_recorded : Bool) (end : ServeEnd) (setting : Setting) (old new : Option (List Entry))
+    → Serves end setting Unbound old new
+    → ServesExactly is_recorded setting (status_of_serving end) old new
 serves_by is_recorded ends.Over setting old new serves = inl serves
 serves_by is_recorded ends.Idle setting old new serves = inr serves
 serves_by is_recorded ends.BindFault setting old new serves = serves
@@ -51,12 +53,14 @@ serves_words is_recorded words setting path until_idle life state result old new
     (subst (λ (s : State). ServesExactly is_recorded (record { path = path; until_idle = until_idle; state = s }) result old new) begun serves)
 
 -- no call was made
-pub no_call : (setting : Setting) (journal : Option (List Entry)) → RunsOut setting Unbound journal journal
+pub no_call : (setting : Setting) (journal : Option (List Entry))
+    → RunsOut setting Unbound journal journal
 no_call setting journal = record {
   to = Unbound;
   calls = record {
     added = [];
-    told = elim journal as (λ j. Grows j j []) [ None ↦ tt | Some entries ↦ sym (append-nil entries) ];
+    told =
+        elim journal as (λ j. Grows j j []) [ None ↦ tt | Some entries ↦ sym (append-nil entries) ];
     legal = refl;
   };
 }

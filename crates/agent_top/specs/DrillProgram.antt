@@ -10,6 +10,7 @@ use Rattle.replay_run.specs.Drill.{summary}
 use Rattle.replay_run.specs.DrillClaims.{DrillEndsAtWriteFault}
 use Rattle.replay_run.specs.Feeding.{Wrote}
 
+-- what a drill of these words writes, by the status with which the program ends
 abbrev pub DrillsExactly : Drilling → Status → StreamView → StreamView → Type 0
 -- the summary is written, and no write failed
 DrillsExactly asked status.Done old new = Wrote old new (summary asked.rounds asked.seed)

@@ -19,12 +19,12 @@ pub record ServeTwice (thing : Thing) (calls before between after : List Entry) 
 
 -- between two services of one thing each other thing is served that is ready and can be served all the while
 abbrev pub IsFair : Setting → List Entry → Type 0
-IsFair setting calls = (thing other : Thing) (before between after : List Entry) (first last : Entry) (turning : LoopState)
+IsFair setting calls = (thing other : Thing) (before between after : List Entry) (first last : Entry) (reading : LoopState)
     → ServeTwice thing calls before between after first last → same_thing thing other ≡ false
-    → ran setting Unbound (before ++ first ∷ []) ≡ Some (Running turning) → waits_on other turning between ≡ true
+    → ran setting Unbound (before ++ first ∷ []) ≡ Some (Running reading) → waits_on other reading between ≡ true
     → list_any (is_service other) between ≡ true
 
--- so it is with the calls that were added
+-- the calls that were added are fair, from the start of the loop on
 abbrev pub ServesFairly : Setting → Option (List Entry) → Option (List Entry) → Type 0
 ServesFairly setting old new = (calls : List Entry) (to : Stage) → Grows old new calls
     → ran setting Unbound calls ≡ Some to → IsFair setting calls

@@ -18,7 +18,7 @@ use Rattle.ready_loop.specs.Serving.{Setting, Stage, Unbound, HalfBound, Running
 abbrev pub call_events : Stage → Entry → List Timed
 call_events Unbound next = []
 call_events HalfBound next = []
-call_events (Running turning) next = events_brought turning.due next
+call_events (Running reading) next = events_brought reading.due next
 call_events Refused next = []
 
 -- what later calls bring, where this one may come
@@ -36,7 +36,7 @@ calls_events setting stage (next ∷ later) =
 abbrev pub agent_at : Setting → Stage → State
 agent_at setting Unbound = setting.state
 agent_at setting HalfBound = setting.state
-agent_at setting (Running turning) = turning.state
+agent_at setting (Running reading) = reading.state
 agent_at setting Refused = setting.state
 
 -- the calls lead to the state of the events which they bring; and while neither the numbers of asks nor those of jobs are

@@ -23,7 +23,7 @@ status_of_serving ends.BindFault = status.BindFault
 status_of_serving ends.PollFault = status.PollFault
 status_of_serving ends.Memory = status.Memory
 
--- the same of a recorded loop, by whether memory ran out for the record, and whether a write of it failed
+-- the status of a recorded loop that came to its end, by whether a write of the record failed
 abbrev pub done_by : Bool → Status
 done_by true = status.WriteFault
 done_by false = status.Done

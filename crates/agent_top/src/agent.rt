@@ -1,4 +1,5 @@
-// The command `replay`.
+//! The command `replay`.
+
 ghost use Rattle.std.specs.Prelude.{◌≡◌, ◌≢◌, ◌↔◌, ℕ, None, Option};
 ghost use Rattle.agent_top.specs.Program.{ReplaysExactly, Completes, RunsLawfully, status_of};
 ghost use Rattle.agent_top.specs.Words.{IsReplay, replay_life, texts_of};

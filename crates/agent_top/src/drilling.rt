@@ -1,4 +1,5 @@
-// The command `drill`.
+//! The command `drill`.
+
 ghost use Rattle.std.specs.Prelude.{◌≡◌, ◌≢◌, ◌≤◌};
 ghost use Rattle.agent_top.specs.DrillProgram.{DrillCompletes, DrillsExactly};
 ghost use Rattle.world_ports.specs.Streams.{OnlyWrites};

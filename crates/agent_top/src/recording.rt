@@ -1,4 +1,5 @@
-// The command `serve` with a record of its calls.
+//! The command `serve` with a record of its calls.
+
 ghost use Rattle.std.specs.Prelude.{◌≡◌, ◌≤◌, true};
 ghost use Rattle.agent_top.specs.RecordProgram.{RecordsExactly};
 ghost use Rattle.agent_top.specs.ServeProgram.{ServesExactly, status_of_recorded};

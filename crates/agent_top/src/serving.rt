@@ -1,4 +1,5 @@
-// The command `serve`.
+//! The command `serve`.
+
 ghost use Rattle.std.specs.Prelude.{◌≡◌, ◌⊎◌, true, false};
 ghost use Rattle.ready_loop.specs.Serving.{Setting};
 ghost use Rattle.agent_top.specs.RecordProgram.{RecordsExactly};

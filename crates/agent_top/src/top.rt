@@ -1,4 +1,5 @@
-// The program over any input, output and world.
+//! The program over any input, output and world.
+
 ghost use Rattle.std.specs.Prelude.{◌≡◌, ◌⊎◌, ℕ, None, Option, true, false};
 ghost use Rattle.agent_top.specs.DrillProgram.{DrillCompletes, DrillsExactly};
 ghost use Rattle.agent_top.specs.Program.{ReplaysExactly, Completes, RunsLawfully};
@@ -48,6 +49,7 @@ pub fn agent_main<R: Wait, W: World, I: Source, O: Sink>(
     output: &mut O,
 ) -> Status
     requires { W.last_port world.old ≡ 0 }
+    // of `replay`
     ensures replays { (life : Option ℕ) → IsReplay words.now life → ReplaysExactly life result
         (record { input = I.seen input.old; output = O.seen output.old })
         (record { input = I.seen input.new; output = O.seen output.new }) }
@@ -57,33 +59,37 @@ pub fn agent_main<R: Wait, W: World, I: Source, O: Sink>(
     ensures lawful { (life : Option ℕ) → IsReplay words.now life → RunsLawfully life
         (record { input = I.seen input.old; output = O.seen output.old })
         (record { input = I.seen input.new; output = O.seen output.new }) }
+    ensures replay_alone { (life : Option ℕ) → IsReplay words.now life → world.new ≡ world.old }
+    // of `serve`
     ensures serves { (setting : Setting) → IsServe words.now setting
         → ServesExactly (is_recorded (texts_of words.now)) setting result (W.journal world.old) (W.journal world.new) }
-    ensures records { (setting : Setting) → IsServe words.now setting → is_recorded (texts_of words.now) ≡ true
-        → RecordsExactly result (W.journal world.old) (W.journal world.new) (O.seen output.old) (O.seen output.new) }
     ensures serves_lawfully { (setting : Setting) → IsServe words.now setting
         → ServesLawfully (life_in (texts_of words.now)) setting (W.journal world.old) (W.journal world.new) }
     ensures serves_fairly { (setting : Setting) → IsServe words.now setting
         → ServesFairly setting (W.journal world.old) (W.journal world.new) }
-    ensures usage { result ≡ Status.Usage → IsUsage words.now }
-    ensures refused { IsUsage words.now
-        → (result ≡ Status.Usage) ⊎ ((result ≡ Status.Memory) × BeginsServe words.now) }
-    ensures unused { IsUsage words.now
-        → (input.new ≡ input.old) × (output.new ≡ output.old) × (world.new ≡ world.old) }
-    ensures replay_alone { (life : Option ℕ) → IsReplay words.now life → world.new ≡ world.old }
+    ensures records { (setting : Setting) → IsServe words.now setting → is_recorded (texts_of words.now) ≡ true
+        → RecordsExactly result (W.journal world.old) (W.journal world.new) (O.seen output.old) (O.seen output.new) }
+    ensures write { (setting : Setting) → IsServe words.now setting → result ≡ Status.WriteFault
+        → Rose (O.seen output.old).write_faults (O.seen output.new).write_faults }
+    ensures serve_alone { replay_life (texts_of words.now) ≡ None
+        → (input.new ≡ input.old) × (drill_words (texts_of words.now) ≡ None
+        → is_recorded (texts_of words.now) ≡ false → output.new ≡ output.old) }
+    // of `drill`
     ensures drills { (asked : Drilling) → IsDrill words.now asked → DrillsExactly asked result
         (O.seen output.old) (O.seen output.new) }
     ensures drill_completes { (asked : Drilling) → IsDrill words.now asked
         → DrillCompletes result (O.seen output.old) (O.seen output.new) }
     ensures drill_alone { (asked : Drilling) → IsDrill words.now asked
         → (input.new ≡ input.old) × (world.new ≡ world.old) }
-    ensures serve_alone { replay_life (texts_of words.now) ≡ None
-        → (input.new ≡ input.old) × (drill_words (texts_of words.now) ≡ None
-        → is_recorded (texts_of words.now) ≡ false → output.new ≡ output.old) }
+    // of other words
+    ensures usage { result ≡ Status.Usage → IsUsage words.now }
+    ensures refused { IsUsage words.now
+        → (result ≡ Status.Usage) ⊎ ((result ≡ Status.Memory) × BeginsServe words.now) }
+    ensures unused { IsUsage words.now
+        → (input.new ≡ input.old) × (output.new ≡ output.old) × (world.new ≡ world.old) }
+    // of each object, whatever the words
     ensures bind { result ≡ Status.BindFault → Rose (W.faults world.old) (W.faults world.new) }
     ensures poll { result ≡ Status.PollFault → Rose (W.faults world.old) (W.faults world.new) }
-    ensures write { (setting : Setting) → IsServe words.now setting → result ≡ Status.WriteFault
-        → Rose (O.seen output.old).write_faults (O.seen output.new).write_faults }
     ensures input_only { OnlyReads (I.seen input.old) (I.seen input.new) }
     ensures output_only { OnlyWrites (O.seen output.old) (O.seen output.new) }
 {

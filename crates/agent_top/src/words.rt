@@ -1,4 +1,5 @@
-// The words of the command line.
+//! The words of the command line.
+
 ghost use Rattle.std.specs.Prelude.{◌≡◌, ◌≤◌, IfSome, option_map};
 ghost use Rattle.agent_top.specs.Words.{drill_words, replay_life, rounds_in, texts_of};
 ghost use Rattle.serve_words.specs.Serve.{some_life};

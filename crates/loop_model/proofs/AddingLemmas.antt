@@ -32,7 +32,8 @@ placed_by : (able : Bool) (thing : Thing) (line : Line)
 placed_by true thing line = record { news = thing ∷ []; queue = refl }
 placed_by false thing line = record { news = []; queue = sym (append-nil line.queue) }
 
-pub adds-placed : (state : State) (thing : Thing) (line : Line) → Adds line (placed state thing line)
+pub adds-placed : (state : State) (thing : Thing) (line : Line)
+    → Adds line (placed state thing line)
 adds-placed state thing line = placed_by (is_servable state thing) thing line
 
 queued_by_hot : (there : Bool) (state : State) (thing : Thing) (line : Line)
@@ -40,22 +41,26 @@ queued_by_hot : (there : Bool) (state : State) (thing : Thing) (line : Line)
 queued_by_hot true state thing line = adds-none line
 queued_by_hot false state thing line = adds-placed state thing line
 
-pub adds-queued : (state : State) (thing : Thing) (line : Line) → Adds line (queued state thing line)
+pub adds-queued : (state : State) (thing : Thing) (line : Line)
+    → Adds line (queued state thing line)
 adds-queued state thing line = queued_by_hot (hot_of line thing) state thing line
 
-adds-queued_if : (test : Bool) (state : State) (thing : Thing) (line : Line) → Adds line (queued_if test state thing line)
+adds-queued_if : (test : Bool) (state : State) (thing : Thing) (line : Line)
+    → Adds line (queued_if test state thing line)
 adds-queued_if true state thing line = adds-queued state thing line
 adds-queued_if false state thing line = adds-none line
 
 -- both directions of a connection
-pub adds-queued_port : (state : State) (port : ℕ) (line : Line) → Adds line (queued_port state port line)
+pub adds-queued_port : (state : State) (port : ℕ) (line : Line)
+    → Adds line (queued_port state port line)
 adds-queued_port state port line =
     adds_both line (queued state (Read port) line) (queued_port state port line)
     (adds-queued state (Read port) line) (adds-queued state (Write port) (queued state (Read port) line))
 
 adds-queued_by : (state : State) (at : Spot) (readable writable : Bool) (line : Line)
     → Adds line (queued_by state at readable writable line)
-adds-queued_by state (spot.Door door) readable writable line = adds-queued_if readable state (Accept door) line
+adds-queued_by state (spot.Door door) readable writable line =
+    adds-queued_if readable state (Accept door) line
 adds-queued_by state (spot.Port port) readable writable line =
     let mid = queued_if (readable && is_open port state) state (Read port) line in
     adds_both line mid (queued_if (writable && is_open port state) state (Write port) mid)
@@ -63,7 +68,8 @@ adds-queued_by state (spot.Port port) readable writable line =
     (adds-queued_if (writable && is_open port state) state (Write port) mid)
 
 -- what a poll tells of
-pub adds-queued_all : (state : State) (items : List Ready) (line : Line) → Adds line (queued_all state items line)
+pub adds-queued_all : (state : State) (items : List Ready) (line : Line)
+    → Adds line (queued_all state items line)
 adds-queued_all state [] line = adds-none line
 adds-queued_all state (item ∷ items) line =
     let mid = queued_by state item.spot item.readable item.writable line in
@@ -76,6 +82,7 @@ returned_by : (there : Bool) (state : State) (thing : Thing) (line : Line)
 returned_by true state thing line = adds-placed state thing line
 returned_by false state thing line = adds-none line
 
-pub adds-returned : (state : State) (hand : Option Thing) (line : Line) → Adds line (returned state hand line)
+pub adds-returned : (state : State) (hand : Option Thing) (line : Line)
+    → Adds line (returned state hand line)
 adds-returned state None line = adds-none line
 adds-returned state (Some thing) line = returned_by (stands thing state) state thing line

@@ -23,7 +23,8 @@ use Rattle.loop_model.proofs.ThingLemmas.{same_thing-true}
 use Rattle.loop_model.proofs.AheadLemmas.{ahead, ahead_alone, ahead_filter, ahead_left, ahead_more, gone_at, left_ahead, not_first}
 
 -- what becomes ready goes behind the other thing
-ahead_adds : (other thing : Thing) (line after : Line) → Adds line after → ahead other thing line.queue ≡ true
+ahead_adds : (other thing : Thing) (line after : Line) → Adds line after
+    → ahead other thing line.queue ≡ true
     → ahead other thing after.queue ≡ true
 ahead_adds other thing line after adds is =
     ap (ahead other thing) adds.queue ∙ ahead_more other thing line.queue adds.news is
@@ -70,7 +71,8 @@ ahead_after state left due closes (entry.Now (Err want)) other thing line apart 
 
 -- ---- a service takes the thing out of the queue
 
-lacks_more : (queue : List Thing) (thing third : Thing) → same_thing third thing ≡ false → set_of queue thing ≡ false
+lacks_more : (queue : List Thing) (thing third : Thing) → same_thing third thing ≡ false
+    → set_of queue thing ≡ false
     → set_of (queue ++ third ∷ []) thing ≡ false
 lacks_more queue thing third apart lacks =
     set_of-append queue (third ∷ []) thing
@@ -82,13 +84,15 @@ lacks_placed : (able : Bool) (thing third : Thing) (line : Line) → same_thing 
 lacks_placed true thing third line apart lacks = lacks_more line.queue thing third apart lacks
 lacks_placed false thing third line apart lacks = lacks
 
-lacks_queued : (hot : Bool) (state : State) (thing third : Thing) (line : Line) → same_thing third thing ≡ false
+lacks_queued : (hot : Bool) (state : State) (thing third : Thing) (line : Line)
+    → same_thing third thing ≡ false
     → set_of line.queue thing ≡ false → set_of (if hot then line else placed state third line).queue thing ≡ false
 lacks_queued true state thing third line apart lacks = lacks
 lacks_queued false state thing third line apart lacks =
     lacks_placed (is_servable state third) thing third line apart lacks
 
-lacks_port : (state : State) (port : ℕ) (thing : Thing) (line : Line) → same_thing (Read port) thing ≡ false
+lacks_port : (state : State) (port : ℕ) (thing : Thing) (line : Line)
+    → same_thing (Read port) thing ≡ false
     → same_thing (Write port) thing ≡ false → set_of line.queue thing ≡ false
     → set_of (queued_port state port line).queue thing ≡ false
 lacks_port state port thing line read write lacks =
@@ -99,8 +103,10 @@ lacks_port state port thing line read write lacks =
 pub ahead_of_served : (state left : State) (due : Due) (closes : List ℕ) (next : Entry) (other thing : Thing) (line : Line)
     → is_service thing next ≡ true → set_of (moved state due left closes next line).queue other ≡ true
     → ahead other thing (moved state due left closes next line).queue ≡ true
-ahead_of_served state left due closes (entry.Bind door path answer) other thing line service has = absurd (cc)
-ahead_of_served state left due closes (entry.Poll wait items answer) other thing line service has = absurd (cc)
+ahead_of_served state left due closes (entry.Bind door path answer) other thing line service has =
+    absurd (cc)
+ahead_of_served state left due closes (entry.Poll wait items answer) other thing line service has =
+    absurd (cc)
 ahead_of_served state left due closes (entry.Accept door (Ok (accepted.Port number))) other thing line service has =
     let base = in_hand (Accept door) line in
     let is : Accept door ≡ thing = same_thing-true (Accept door) thing service in
@@ -117,14 +123,17 @@ ahead_of_served state left due closes (entry.Read port room bytes answer) other 
     left_ahead other thing (Read port) line.queue service has
 ahead_of_served state left due closes (entry.Write port offered answer) other thing line service has =
     left_ahead other thing (Write port) line.queue service has
-ahead_of_served state left due closes (entry.Close port answer) other thing line service has = absurd (cc)
-ahead_of_served state left due closes (entry.Start job answer) other thing line service has = absurd (cc)
+ahead_of_served state left due closes (entry.Close port answer) other thing line service has =
+    absurd (cc)
+ahead_of_served state left due closes (entry.Start job answer) other thing line service has =
+    absurd (cc)
 ahead_of_served state left due closes (entry.Now answer) other thing line service has = absurd (cc)
 
 -- ---- what stands before it is served first
 
 -- a call that serves this thing isn't in turn
-pub out_of_turn : (state : State) (next : Entry) (other thing : Thing) (queue : List Thing) → is_service thing next ≡ true
+pub out_of_turn : (state : State) (next : Entry) (other thing : Thing) (queue : List Thing)
+    → is_service thing next ≡ true
     → is_servable state other ≡ true → same_thing thing other ≡ false → ahead other thing queue ≡ true
     → is_in_turn state queue next ≡ false
 out_of_turn state (entry.Bind door path answer) other thing queue service waits apart is = cc

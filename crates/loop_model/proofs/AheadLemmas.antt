@@ -17,7 +17,8 @@ ahead other thing (first ∷ queue) =
     if same_thing first other then true else (not (same_thing first thing) && ahead other thing queue)
 
 -- where this thing doesn't stand at all
-ahead_by : (here : Bool) (other thing first : Thing) (queue : List Thing) → (here || set_of queue other) ≡ true
+ahead_by : (here : Bool) (other thing first : Thing) (queue : List Thing)
+    → (here || set_of queue other) ≡ true
     → (same_thing first thing || set_of queue thing) ≡ false
     → (set_of queue other ≡ true → set_of queue thing ≡ false → ahead other thing queue ≡ true)
     → (if here then true else (not (same_thing first thing) && ahead other thing queue)) ≡ true
@@ -29,14 +30,16 @@ ahead_by false other thing first queue has lacks rest =
       | false ↦ λ later. rest has later
     ] lacks
 
-pub ahead_alone : (other thing : Thing) (queue : List Thing) → set_of queue other ≡ true → set_of queue thing ≡ false
+pub ahead_alone : (other thing : Thing) (queue : List Thing) → set_of queue other ≡ true
+    → set_of queue thing ≡ false
     → ahead other thing queue ≡ true
 ahead_alone other thing [] has lacks = cc
 ahead_alone other thing (first ∷ queue) has lacks =
     ahead_by (same_thing first other) other thing first queue has lacks (ahead_alone other thing queue)
 
 -- more behind it changes nothing
-ahead_more_by : (here this : Bool) (front all : Bool) → (if here then true else (not this && front)) ≡ true
+ahead_more_by : (here this : Bool) (front all : Bool)
+    → (if here then true else (not this && front)) ≡ true
     → (front ≡ true → all ≡ true) → (if here then true else (not this && all)) ≡ true
 ahead_more_by true this front all is rest = refl
 ahead_more_by false true front all is rest = cc
@@ -94,10 +97,13 @@ ahead_filter_by false true this test other thing first queue kept here_is this_i
     let also : test first ≡ true = ap test (same_thing-true first other here_is) ∙ able in
     let no : false ≡ true = sym kept ∙ also in
     absurd (cc)
-ahead_filter_by false false true test other thing first queue kept here_is this_is able is rest = absurd (cc)
-ahead_filter_by false false false test other thing first queue kept here_is this_is able is rest = rest is
+ahead_filter_by false false true test other thing first queue kept here_is this_is able is rest =
+    absurd (cc)
+ahead_filter_by false false false test other thing first queue kept here_is this_is able is rest =
+    rest is
 
-pub ahead_filter : (test : Thing → Bool) (other thing : Thing) (queue : List Thing) → test other ≡ true
+pub ahead_filter : (test : Thing → Bool) (other thing : Thing) (queue : List Thing)
+    → test other ≡ true
     → ahead other thing queue ≡ true → ahead other thing (filter test queue) ≡ true
 ahead_filter test other thing [] able is = absurd (cc)
 ahead_filter test other thing (first ∷ queue) able is =
@@ -121,9 +127,11 @@ left_ahead other thing third queue same has =
 -- ---- what stands before it is served first
 
 -- what is the same as one of two different things isn't the other
-apart_sym : (thing other first : Thing) → same_thing thing other ≡ false → same_thing first other ≡ true
+apart_sym : (thing other first : Thing) → same_thing thing other ≡ false
+    → same_thing first other ≡ true
     → same_thing thing first ≡ false
-apart_sym thing other first apart here = ap (same_thing thing) (same_thing-true first other here) ∙ apart
+apart_sym thing other first apart here =
+    ap (same_thing thing) (same_thing-true first other here) ∙ apart
 
 apart_flip : (thing first : Thing) → same_thing first thing ≡ false → same_thing thing first ≡ false
 apart_flip thing first apart = false_by (same_thing thing first) (λ same.
@@ -147,7 +155,8 @@ not_first_by false true state other thing first queue able here waits apart is r
 not_first_by false false state other thing first queue able here waits apart is rest =
     rest (and_both (not (same_thing first thing)) (ahead other thing queue) is).1
 
-pub not_first : (state : State) (other thing : Thing) (queue : List Thing) → is_servable state other ≡ true
+pub not_first : (state : State) (other thing : Thing) (queue : List Thing)
+    → is_servable state other ≡ true
     → same_thing thing other ≡ false → ahead other thing queue ≡ true
     → is_thing thing (first_servable state queue) ≡ false
 not_first state other thing [] waits apart is = cc

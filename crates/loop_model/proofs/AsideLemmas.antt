@@ -91,13 +91,15 @@ writes-read (other ∷ ports) port = writes-read ports port
 same_number : (a b : ℕ) → (a == b) ≡ (b == a)
 same_number a b = grind (arith, nat_tests)
 
-pub reads-read : (ports : List ℕ) (port : ℕ) → set_of (reads_of ports) (Read port) ≡ is_among port ports
+pub reads-read : (ports : List ℕ) (port : ℕ)
+    → set_of (reads_of ports) (Read port) ≡ is_among port ports
 reads-read [] port = refl
 reads-read (other ∷ ports) port =
     ap (λ (b : Bool). b || set_of (reads_of ports) (Read port)) (same_number other port)
     ∙ ap (λ (b : Bool). (port == other) || b) (reads-read ports port)
 
-pub writes-write : (ports : List ℕ) (port : ℕ) → set_of (writes_of ports) (Write port) ≡ is_among port ports
+pub writes-write : (ports : List ℕ) (port : ℕ)
+    → set_of (writes_of ports) (Write port) ≡ is_among port ports
 writes-write [] port = refl
 writes-write (other ∷ ports) port =
     ap (λ (b : Bool). b || set_of (writes_of ports) (Write port)) (same_number other port)
@@ -124,7 +126,8 @@ aside-accept aside door =
     by_parts true b c second third = refl
     by_parts false b c second third = rw second third
 
-pub aside-read : (aside : Aside) (port : ℕ) → set_of (things_aside aside) (Read port) ≡ is_among port aside.reads
+pub aside-read : (aside : Aside) (port : ℕ)
+    → set_of (things_aside aside) (Read port) ≡ is_among port aside.reads
 aside-read aside port =
     parts aside (Read port)
     ∙ by_parts (set_of (accepts_of aside.doors) (Read port)) (set_of (reads_of aside.reads) (Read port))
@@ -135,7 +138,8 @@ aside-read aside port =
     by_parts : (a b c : Bool) → a ≡ false → c ≡ false → (a || (b || c)) ≡ b
     by_parts a b c first third = rw first (rw third (or_false b))
 
-pub aside-write : (aside : Aside) (port : ℕ) → set_of (things_aside aside) (Write port) ≡ is_among port aside.writes
+pub aside-write : (aside : Aside) (port : ℕ)
+    → set_of (things_aside aside) (Write port) ≡ is_among port aside.writes
 aside-write aside port =
     parts aside (Write port)
     ∙ by_parts (set_of (accepts_of aside.doors) (Write port)) (set_of (reads_of aside.reads) (Write port))
@@ -190,7 +194,8 @@ aside_at aside (Accept door) = set_of (accepts_of aside.doors) (Accept door)
 aside_at aside (Read port) = is_among port aside.reads
 aside_at aside (Write port) = is_among port aside.writes
 
-set_of-aside : (aside : Aside) (thing : Thing) → set_of (things_aside aside) thing ≡ aside_at aside thing
+set_of-aside : (aside : Aside) (thing : Thing)
+    → set_of (things_aside aside) thing ≡ aside_at aside thing
 set_of-aside aside (Accept door) = aside-accept aside door
 set_of-aside aside (Read port) = aside-read aside port
 set_of-aside aside (Write port) = aside-write aside port
@@ -201,7 +206,8 @@ put_at thing aside other =
     set_of-aside (put_aside thing aside) other ∙ by_kind thing other
     ∙ sym (ap (λ (b : Bool). same_thing thing other || b) (set_of-aside aside other))
   where
-    by_kind : (thing other : Thing) → aside_at (put_aside thing aside) other ≡ (same_thing thing other || aside_at aside other)
+    by_kind : (thing other : Thing)
+        → aside_at (put_aside thing aside) other ≡ (same_thing thing other || aside_at aside other)
     by_kind (Accept door) (Accept other) = accepts-more aside.doors door (Accept other)
     by_kind (Accept door) (Read port) = refl
     by_kind (Accept door) (Write port) = refl
@@ -243,7 +249,8 @@ taken_at thing aside other =
     set_of-aside (taken_back thing aside) other ∙ by_kind thing other
     ∙ sym (ap (λ (b : Bool). not (same_thing thing other) && b) (set_of-aside aside other))
   where
-    by_kind : (thing other : Thing) → aside_at (taken_back thing aside) other ≡ (not (same_thing thing other) && aside_at aside other)
+    by_kind : (thing other : Thing)
+        → aside_at (taken_back thing aside) other ≡ (not (same_thing thing other) && aside_at aside other)
     by_kind (Accept door) (Accept other) = accepts-without aside.doors door other
     by_kind (Accept door) (Read port) = refl
     by_kind (Accept door) (Write port) = refl
@@ -267,12 +274,15 @@ set_of-still_aside state aside thing =
     set_of-aside (still_aside state aside) thing ∙ by_kind thing
     ∙ sym (ap (λ (b : Bool). b && not (is_servable state thing)) (set_of-aside aside thing))
   where
-    by_kind : (thing : Thing) → aside_at (still_aside state aside) thing ≡ (aside_at aside thing && not (is_servable state thing))
+    by_kind : (thing : Thing)
+        → aside_at (still_aside state aside) thing ≡ (aside_at aside thing && not (is_servable state thing))
     by_kind (Accept door) =
         ap (λ (ts : List Thing). set_of ts (Accept door)) (accepts-filter (λ thing. not (is_servable state thing)) aside.doors)
         ∙ set_of-filter (λ thing. not (is_servable state thing)) (accepts_of aside.doors) (Accept door)
-    by_kind (Read port) = is_among-filter (λ port. not (is_servable state (Read port))) aside.reads port
-    by_kind (Write port) = is_among-filter (λ port. not (is_servable state (Write port))) aside.writes port
+    by_kind (Read port) =
+        is_among-filter (λ port. not (is_servable state (Read port))) aside.reads port
+    by_kind (Write port) =
+        is_among-filter (λ port. not (is_servable state (Write port))) aside.writes port
 
 -- ---- where a thing is looked for and taken out
 
@@ -283,7 +293,8 @@ told there view aside thing found same is tells =
     tells ∙ ap (λ (a : Aside). set_of (things_aside a) found) same ∙ ap (set_of (things_aside aside)) (sym is)
 
 -- the queue without a thing is the set without it
-pub set_of-dropped : (thing : Thing) (queue : List Thing) → set_of (dropped thing queue) ≡ cooled thing (set_of queue)
+pub set_of-dropped : (thing : Thing) (queue : List Thing)
+    → set_of (dropped thing queue) ≡ cooled thing (set_of queue)
 set_of-dropped thing queue = same_sets (set_of (dropped thing queue)) (cooled thing (set_of queue)) (λ other.
     set_of-filter (λ third. not (same_thing thing third)) queue other
     ∙ and_swapped (set_of queue other) (not (same_thing thing other)))

@@ -36,7 +36,8 @@ calls-none state line = record {
   kept = λ thing there. inr there;
 }
 
-calls_both : (state : State) (first second third : Line) → Calls state first second → Calls state second third
+calls_both : (state : State) (first second third : Line) → Calls state first second
+    → Calls state second third
     → Calls state first third
 calls_both state first second third one other = record {
   back = record {
@@ -94,20 +95,23 @@ calls_by true state thing line is =
     }
 calls_by false state thing line is = calls-none state line
 
-calls-called : (state : State) (thing : Thing) (line : Line) → Calls state line (called state thing line)
+calls-called : (state : State) (thing : Thing) (line : Line)
+    → Calls state line (called state thing line)
 calls-called state thing line =
     subst (Calls state line) (sym (both_if (set_of (things_aside line.aside) thing) (is_servable state thing)
     (record line { queue = line.queue ++ thing ∷ []; aside = taken_back thing line.aside }) line))
     (calls_by (set_of (things_aside line.aside) thing && is_servable state thing) state thing line refl)
 
-calls-own : (state : State) (own : Option ℕ) (line : Line) → Calls state line (called_own state own line)
+calls-own : (state : State) (own : Option ℕ) (line : Line)
+    → Calls state line (called_own state own line)
 calls-own state None line = calls-none state line
 calls-own state (Some port) line =
     let mid = called state (Read port) line in
     calls_both state line mid (called state (Write port) mid)
     (calls-called state (Read port) line) (calls-called state (Write port) mid)
 
-kept_all_by : (able : Bool) (state : State) (aside : Aside) (thing : Thing) → is_servable state thing ≡ able
+kept_all_by : (able : Bool) (state : State) (aside : Aside) (thing : Thing)
+    → is_servable state thing ≡ able
     → set_of (things_aside aside) thing ≡ true
     → (set_of (filter (is_servable state) (things_aside aside)) thing ≡ true)
     ⊎ (set_of (things_aside (still_aside state aside)) thing ≡ true)
@@ -134,11 +138,13 @@ calls-all state line = record {
   kept = λ thing there. kept_all_by (is_servable state thing) state line.aside thing refl there;
 }
 
-pub calls-recalled : (state : State) (own : Option ℕ) (line : Line) → Calls state line (recalled state own line)
+pub calls-recalled : (state : State) (own : Option ℕ) (line : Line)
+    → Calls state line (recalled state own line)
 calls-recalled state own line =
     let mid = called_own state own line in
     calls_both state line mid (called_all state mid) (calls-own state own line) (calls-all state mid)
 
 -- what comes back after an event
-pub comes-recalled : (state : State) (own : Option ℕ) (line : Line) → ComesBack state line (recalled state own line)
+pub comes-recalled : (state : State) (own : Option ℕ) (line : Line)
+    → ComesBack state line (recalled state own line)
 comes-recalled state own line = (calls-recalled state own line).back

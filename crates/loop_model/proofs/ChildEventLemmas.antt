@@ -29,21 +29,24 @@ module _ (number high : ℕ) where
   -- ---- a child process names itself, at another port
 
   module _ (own : ℕ) (apart : own ≢ number) (state : State) (keeps : Keeps number high state) where
-    keeps-helper_named : (job : ℕ) (one : StartedJob) → find_started job state.under_way.started ≡ Some one
+    keeps-helper_named : (job : ℕ) (one : StartedJob)
+        → find_started job state.under_way.started ≡ Some one
         → one.job.kind ≡ kinds.Helper → Keeps number high (helper_named job own state)
     keeps-helper_named job one found is =
         let leads = changes own unheard state.ports (λ p. refl) (λ p. refl) same in
         let next = helper_named job own state in
         record {
           rising = leads-rising 0 high state.ports leads keeps.rising;
-          staffed = staffed-helper state.under_way job one next.under_way.link keeps.staffed found is;
+          staffed =
+              staffed-helper state.under_way job one next.under_way.link keeps.staffed found is;
           owes = λ opened.
               named_owes number high state.under_way next.under_way own apart
               (not_linked state.under_way job number one keeps.staffed found is) refl refl
               (keeps.owes (leads-open number high state.ports leads keeps.rising opened));
         }
 
-    keeps-confirmer_named : (job : ℕ) (one : StartedJob) → find_started job state.under_way.started ≡ Some one
+    keeps-confirmer_named : (job : ℕ) (one : StartedJob)
+        → find_started job state.under_way.started ≡ Some one
         → one.job.kind ≡ kinds.Confirm → Keeps number high (confirmer_named job own state)
     keeps-confirmer_named job one found is =
         let leads = changes own unheard state.ports (λ p. refl) (λ p. refl) same in
@@ -58,7 +61,8 @@ module _ (number high : ℕ) where
         }
 
   -- one that hasn't is owed nothing
-  unnamed_apart : (own : ℕ) (at : Port) (state : State) → Keeps number high state → find_port own state.ports ≡ Some at
+  unnamed_apart : (own : ℕ) (at : Port) (state : State) → Keeps number high state
+      → find_port own state.ports ≡ Some at
       → find_linked own state.under_way.confirmations ≡ None → state.under_way.link.state ≢ states.Linked own
       → own ≢ number
   unnamed_apart own at state keeps found free unlinked here =
@@ -113,7 +117,8 @@ module _ (number high : ℕ) where
     owes = λ opened. answered_owes number high state.under_way (job_started job ticket state).under_way (keeps.owes opened) refl refl refl;
   }
 
-  pub keeps-left : (job : ℕ) (state : State) → Keeps number high state → Keeps number high (job_left job state)
+  pub keeps-left : (job : ℕ) (state : State) → Keeps number high state
+      → Keeps number high (job_left job state)
   keeps-left job state keeps = record {
     rising = keeps.rising;
     staffed = staffed-left state.under_way job keeps.staffed;
@@ -127,9 +132,11 @@ module _ (number high : ℕ) where
   TakesElsewhere event state = (other count : ℕ) (at : Port) → event ≡ Took other count
       → find_port other state.ports ≡ Some at → other ≢ number
 
-  keeps-goes : {event : Happening} {state : State} {new : UnderWay} → Goes event state new → TakesElsewhere event state
+  keeps-goes : {event : Happening} {state : State} {new : UnderWay} → Goes event state new
+      → TakesElsewhere event state
       → Keeps number high state → Keeps number high (record state { under_way = new })
-  keeps-goes {state = state} (starts job ticket is) elsewhere keeps = keeps-started job ticket state keeps
+  keeps-goes {state = state} (starts job ticket is) elsewhere keeps =
+      keeps-started job ticket state keeps
   keeps-goes {state = state} (leaves job is) elsewhere keeps = keeps-left job state keeps
   keeps-goes {state = state} (sends own count at is found linked) elsewhere keeps = record {
     rising = keeps.rising;
@@ -158,7 +165,8 @@ module _ (number high : ℕ) where
         heard_owes number high one (desk.heard_more piece) state.under_way (λ c. refl) (λ c. refl) (keeps.owes opened);
   }
 
-  keeps-quiet : {event : Happening} {old new : State} → Quiet event old new → TakesElsewhere event old
+  keeps-quiet : {event : Happening} {old new : State} → Quiet event old new
+      → TakesElsewhere event old
       → Keeps number high old → Keeps number high new
   keeps-quiet {old = old} (alters own f change) elsewhere keeps =
       keeps-changed number high own f old (mild_of change).number (mild_of change).door keeps
@@ -172,7 +180,8 @@ module _ (number high : ℕ) where
       new.started new.own
 
   -- what is taken was taken before
-  elsewhere-quiet : {event : Happening} {old new : State} → Quiet event old new → IsRising 0 high old.ports
+  elsewhere-quiet : {event : Happening} {old new : State} → Quiet event old new
+      → IsRising 0 high old.ports
       → TakesElsewhere event old → TakesElsewhere event new
   elsewhere-quiet {event = event} {old = old} quiet rising elsewhere other count at is found =
       let leads = (follows-quiet event old quiet record { last = refl; ports = same }).ports in
@@ -196,7 +205,8 @@ module _ (number high : ℕ) where
 
   -- ---- a moment, before its event
 
-  keeps-taken_in : (moment : Moment) (state : State) → Keeps number high state → Keeps number high (taken_in moment state)
+  keeps-taken_in : (moment : Moment) (state : State) → Keeps number high state
+      → Keeps number high (taken_in moment state)
   keeps-taken_in moment state keeps = record {
     rising = keeps.rising;
     staffed = record { jobs = keeps.staffed.jobs; coming = keeps.staffed.coming };

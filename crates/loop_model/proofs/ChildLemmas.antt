@@ -1,5 +1,5 @@
 -- What an event leaves of the child processes that were owed bytes.
-use Rattle.std.proofs.Common.{◌≡◌, ◌≢◌, ℕ, ◌+◌, true, false, List, [], ◌∷◌, ◌++◌, Option, Some, None, is_some, refl, sym, ap, ◌∙◌, ◌==◌, inl, inr}
+use Rattle.std.proofs.Common.{◌≡◌, ◌≢◌, ℕ, ◌+◌, true, false, List, ◌++◌, Option, Some, None, is_some, refl, sym, ap, ◌∙◌, ◌==◌, inl, inr}
 use Rattle.std.specs.Option.{option_map}
 use Rattle.lists.proofs.KeyedLemmas.{differ}
 use Rattle.std.proofs.lemmas.Bool.{cases_eq}
@@ -41,7 +41,8 @@ use Rattle.loop_model.proofs.StaffLemmas.{staffed-lost, staffed-over, staffed-pu
 -- some bytes are owed to the child process at this port: it is the helper, or a confirmation's
 pub data Owes (number : ℕ) (u : UnderWay) : Type 0 where
   by_link : u.link.state ≡ states.Linked number → is_some_bytes u.link.owed ≡ true → Owes number u
-  by_desk : (one : Confirmation) → find_linked number u.confirmations ≡ Some one → is_some_bytes one.owed ≡ true
+  by_desk : (one : Confirmation) → find_linked number u.confirmations ≡ Some one
+      → is_some_bytes one.owed ≡ true
       → u.link.state ≢ states.Linked number → Owes number u
 
 -- the ports rise, the jobs fit, and the port is owed some bytes while it is open
@@ -52,14 +53,16 @@ pub record Keeps (number high : ℕ) (state : State) : Type 0 where
 
 module _ (number high : ℕ) where
   -- what is put to the helper
-  pub owes-put : (errand : Errand) (asker : ℕ) (u : UnderWay) → Owes number u → Owes number (with_ask errand asker u)
+  pub owes-put : (errand : Errand) (asker : ℕ) (u : UnderWay) → Owes number u
+      → Owes number (with_ask errand asker u)
   owes-put errand asker u (by_link linked some) =
       by_link (ap (λ (s : LinkState). begun_by s (u.last_job + 1)) linked) (some-more u.link.owed _ some)
   owes-put errand asker u (by_desk one found some other) =
       by_desk one found some (λ linked. other (linked-begun u.link.state (u.last_job + 1) number linked))
 
   -- the ports lead on, and the same is under way
-  pub keeps-ports : (state : State) (ports : List Port) → Keeps number high state → Leads state.ports ports
+  pub keeps-ports : (state : State) (ports : List Port) → Keeps number high state
+      → Leads state.ports ports
       → Keeps number high (record state { ports = ports })
   keeps-ports state ports keeps leads = record {
     rising = leads-rising 0 high state.ports leads keeps.rising;
@@ -67,10 +70,12 @@ module _ (number high : ℕ) where
     owes = λ opened. keeps.owes (leads-open number high state.ports leads keeps.rising opened);
   }
 
-  pub keeps-closed : (other : ℕ) (state : State) → Keeps number high state → Keeps number high (closed other state)
+  pub keeps-closed : (other : ℕ) (state : State) → Keeps number high state
+      → Keeps number high (closed other state)
   keeps-closed other state keeps = keeps-ports state _ keeps (removes other state.ports same)
 
-  pub keeps-changed : (other : ℕ) (f : Port → Port) (state : State) → ((p : Port) → (f p).number ≡ p.number)
+  pub keeps-changed : (other : ℕ) (f : Port → Port) (state : State)
+      → ((p : Port) → (f p).number ≡ p.number)
       → ((p : Port) → (f p).door ≡ p.door) → Keeps number high state → Keeps number high (changed other f state)
   keeps-changed other f state number_is door_is keeps =
       keeps-ports state _ keeps (changes other f state.ports number_is door_is same)
@@ -90,12 +95,14 @@ module _ (number high : ℕ) where
         (ap (λ n. is_some (find_port number (remove_port n ports))) (sym here) ∙ opened),
   )
 
-  pub rising-link : (link : LinkState) (ports : List Port) → IsRising 0 high ports → IsRising 0 high (close_helper link ports)
+  pub rising-link : (link : LinkState) (ports : List Port) → IsRising 0 high ports
+      → IsRising 0 high (close_helper link ports)
   rising-link states.None ports rising = rising
   rising-link (states.Starting job) ports rising = rising
   rising-link (states.Linked at) ports rising = rising-remove_port at 0 high ports rising
 
-  pub lost_owes : (u new : UnderWay) → Owes number u → u.link.state ≢ states.Linked number → new.link.state ≡ states.None
+  pub lost_owes : (u new : UnderWay) → Owes number u → u.link.state ≢ states.Linked number
+      → new.link.state ≡ states.None
       → new.confirmations ≡ u.confirmations → Owes number new
   lost_owes u new (by_link linked some) other none same_desk = absurd (other linked)
   lost_owes u new (by_desk one found some apart) other none same_desk =
@@ -121,7 +128,8 @@ module _ (number high : ℕ) where
   keeps-lose_if None state keeps = keeps
   keeps-lose_if (Some fault) state keeps = keeps-lose state keeps
 
-  pub answered_owes : (u new : UnderWay) → Owes number u → new.link.state ≡ u.link.state → new.link.owed ≡ u.link.owed
+  pub answered_owes : (u new : UnderWay) → Owes number u → new.link.state ≡ u.link.state
+      → new.link.owed ≡ u.link.owed
       → new.confirmations ≡ u.confirmations → Owes number new
   answered_owes u new (by_link linked some) state_is owed_is desk_is =
       by_link (state_is ∙ linked) (ap is_some_bytes owed_is ∙ some)
@@ -158,7 +166,8 @@ module _ (number high : ℕ) where
         (ap (λ n. is_some (find_port number (remove_port n ports))) (sym here) ∙ opened),
   )
 
-  pub over_owes : (one : Confirmation) (u : UnderWay) → IsStaffed u → find_job one.job u.confirmations ≡ Some one
+  pub over_owes : (one : Confirmation) (u : UnderWay) → IsStaffed u
+      → find_job one.job u.confirmations ≡ Some one
       → one.port ≢ Some number → Owes number u → Owes number (without_confirmation one.job u)
   over_owes one u staffed there apart (by_link linked some) = by_link linked some
   over_owes one u staffed there apart (by_desk other found some free) = elim (cases_eq other.job one.job) [
@@ -195,14 +204,16 @@ module _ (number high : ℕ) where
             owes_new (over_owes one state.under_way keeps.staffed there was.1 (keeps.owes was.0));
       }
 
-  pub keeps-over : (one : Confirmation) (state : State) → find_job one.job state.under_way.confirmations ≡ Some one
+  pub keeps-over : (one : Confirmation) (state : State)
+      → find_job one.job state.under_way.confirmations ≡ Some one
       → Keeps number high state → Keeps number high (over one state).state
   keeps-over one state there keeps =
       keeps-ended one (tell (Refuses NotConfirmed)) state _ (λ p. refl) (λ p. refl) there (λ s. s) (λ o. o) keeps
 
   keeps-held : (held : KeyState) (state : State) → Keeps number high state
       → Keeps number high (record state { held = held })
-  keeps-held held state keeps = record { rising = keeps.rising; staffed = keeps.staffed; owes = keeps.owes }
+  keeps-held held state keeps =
+      record { rising = keeps.rising; staffed = keeps.staffed; owes = keeps.owes }
 
   pub keeps-granted : (one : Confirmation) (asker : Port) (state : State)
       → find_job one.job state.under_way.confirmations ≡ Some one → {work : Work}
@@ -247,7 +258,8 @@ module _ (number high : ℕ) where
   served_staffed port moment state (answered reply kept greatest) staffed = staffed
   served_staffed port moment state (refused cause) staffed = staffed
   served_staffed port moment state (asked errand free may) staffed = staffed-put errand _ _ staffed
-  served_staffed port moment state (raised key signing free) staffed = staffed-raised key signing _ _ staffed
+  served_staffed port moment state (raised key signing free) staffed =
+      staffed-raised key signing _ _ staffed
 
   pub served_owes : (port : Port) (moment : Moment) (state : State) {served : Served}
       → IsServed (asker_at moment port) state.held state.under_way served → Owes number state.under_way
@@ -258,7 +270,8 @@ module _ (number high : ℕ) where
   served_owes port moment state (raised key signing free) owes =
       raised_owes _ state.under_way _ refl refl refl owes
 
-  pub keeps-taken : (body_len : ℕ) (body : List ℕ) (port : Port) (state : State) → Keeps number high state
+  pub keeps-taken : (body_len : ℕ) (body : List ℕ) (port : Port) (state : State)
+      → Keeps number high state
       → Keeps number high (taken body_len body port state).state
   keeps-taken body_len body port state keeps =
       let ends = serve-ends (asker_at state.moment port) state.held state.under_way body in
@@ -283,7 +296,8 @@ module _ (number high : ℕ) where
       let here : own ≡ number = cc in
       apart here)
 
-  pub awaited_none : (found : Option Confirmation) (one : Confirmation) → IsAwaited found → found ≡ Some one
+  pub awaited_none : (found : Option Confirmation) (one : Confirmation) → IsAwaited found
+      → found ≡ Some one
       → one.port ≡ None
   awaited_none None one waits is = absurd (cc)
   awaited_none (Some other) one waits is =

@@ -1,5 +1,5 @@
 -- What an event leaves of the clients that were owed bytes.
-use Rattle.std.proofs.Common.{◌≡◌, ℕ, List, [], ◌∷◌, ◌++◌, refl, ap, arith, sym, subst, ◌∙◌, ◌==◌, Option, Some, None, Bool, true, false}
+use Rattle.std.proofs.Common.{◌≡◌, ℕ, List, [], ◌∷◌, ◌++◌, refl, ap, arith, sym, subst, ◌∙◌, Option, Some, None, Bool, true, false}
 use Rattle.std.proofs.lemmas.Bool.Decides.{nat_tests}
 use Rattle.std.proofs.lemmas.Bool.{eqb-true}
 use Rattle.std.proofs.lemmas.List.{length-append}
@@ -26,11 +26,13 @@ record IsGiving (f : Port → Port) : Type 0 where
   door : (p : Port) → (f p).door ≡ p.door
   owed : (p : Port) → is_some_bytes p.owed ≡ true → is_some_bytes (f p).owed ≡ true
 
-pub some-more : (bytes more : List ℕ) → is_some_bytes bytes ≡ true → is_some_bytes (bytes ++ more) ≡ true
+pub some-more : (bytes more : List ℕ) → is_some_bytes bytes ≡ true
+    → is_some_bytes (bytes ++ more) ≡ true
 some-more bytes more some = let long = length-append bytes more in grind (arith, nat_tests)
 
 giving-news : (f : Port → Port) → IsNews f → IsGiving f
-giving-news f (says verdict is) = record { door = λ p. refl; owed = λ p some. some-more p.owed (verdict_text verdict) some }
+giving-news f (says verdict is) =
+    record { door = λ p. refl; owed = λ p some. some-more p.owed (verdict_text verdict) some }
 giving-news f (proves verification) =
     record { door = λ p. refl; owed = λ p some. some-more p.owed (verdict_text (Replies Success)) some }
 
@@ -41,14 +43,16 @@ owed-giving : (f : Port → Port) → IsGiving f → (p : Port) → IsOwed p →
 owed-giving f is p owed client = is.owed p (owed (sym (ap is_client (is.door p)) ∙ client))
 
 -- of a client that is owed bytes nothing is to be taken
-due-owed : (waits : Waits) (owed heard : List ℕ) → is_some_bytes owed ≡ true → due_front waits owed heard ≡ More
+due-owed : (waits : Waits) (owed heard : List ℕ) → is_some_bytes owed ≡ true
+    → due_front waits owed heard ≡ More
 due-owed Nothing [] heard some = absurd (cc)
 due-owed Nothing (byte ∷ bytes) heard some = refl
 due-owed (OnAsk ask) owed heard some = refl
 due-owed (OnConfirmation job) owed heard some = refl
 
 -- a client that sent something is owed what it was
-owed-heard : (number : ℕ) (piece : List ℕ) (one : Port) (state : State) → find_port number state.ports ≡ Some one
+owed-heard : (number : ℕ) (piece : List ℕ) (one : Port) (state : State)
+    → find_port number state.ports ≡ Some one
     → is_client one.door ≡ true → IsOwed one → (at : Port)
     → find_port number (handle (Heard number piece) state).state.ports ≡ Some at → IsOwed at
 owed-heard number piece one state found client owed at there =
@@ -59,7 +63,8 @@ owed-heard number piece one state found client owed at there =
     let alike : heard_more piece one ≡ at = cc in
     subst IsOwed alike owed
 
-owed-all : (own : Bool) (event : Happening) (state : State) (port : ℕ) → IsRising 0 state.last_port state.ports
+owed-all : (own : Bool) (event : Happening) (state : State) (port : ℕ)
+    → IsRising 0 state.last_port state.ports
     → is_of event state.last_port port ≡ own → takes_bytes event port ≡ false
     → (one : Port) → find_port port state.ports ≡ Some one → is_client one.door ≡ true → IsOwed one
     → (at : Port) → find_port port (handle event state).state.ports ≡ Some at → IsOwed at
@@ -75,9 +80,12 @@ owed-all true (Heard number piece) state port rising own silent one opened clien
     (ap (λ n. find_port n (handle (Heard number piece) state).state.ports) (sym here) ∙ there)
 owed-all true (Ended number) state port rising own silent one opened client owed at there =
     absurd (ended_gone port number 0 state.last_port _ state rising refl own at there)
-owed-all true (Took number count) state port rising own silent one opened client owed at there = absurd (cc)
-owed-all true (Started job ticket) state port rising own silent one opened client owed at there = absurd (cc)
-owed-all true (StartFailed job) state port rising own silent one opened client owed at there = absurd (cc)
+owed-all true (Took number count) state port rising own silent one opened client owed at there =
+    absurd (cc)
+owed-all true (Started job ticket) state port rising own silent one opened client owed at there =
+    absurd (cc)
+owed-all true (StartFailed job) state port rising own silent one opened client owed at there =
+    absurd (cc)
 owed-all true Tick state port rising own silent one opened client owed at there = absurd (cc)
 
 found_client : (found : Option Port) → is_clients found ≡ true
@@ -92,7 +100,8 @@ owed_by_found (Some at) under_way client owed =
     ap is_some_bytes (owed-client at.door at.number at under_way client) ∙ owed at refl client
 
 -- a client that was owed bytes is owed some yet, while it is open
-pub owed_after : (state : State) (event : Happening) (port : ℕ) → IsRising 0 state.last_port state.ports
+pub owed_after : (state : State) (event : Happening) (port : ℕ)
+    → IsRising 0 state.last_port state.ports
     → takes_bytes event port ≡ false → is_clients (find_port port state.ports) ≡ true
     → is_some_bytes (owed_of port state) ≡ true → is_clients (find_port port (handle event state).state.ports) ≡ true
     → is_some_bytes (owed_of port (handle event state).state) ≡ true
@@ -108,7 +117,7 @@ owed_after state event port rising silent client some still =
         ap is_some_bytes (sym (owed-client one.door one.number one state.under_way client))
         ∙ ap (λ f. is_some_bytes (owed_by f state.under_way)) (sym found) ∙ some
 
--- so it is at a moment, before its event
+-- a client that was owed bytes is owed some at a moment, before its event, while it is open
 pub owed_at : (state : State) (moment : Moment) (port : ℕ) → IsRising 0 state.last_port state.ports
     → is_clients (find_port port state.ports) ≡ true → is_some_bytes (owed_of port state) ≡ true
     → is_clients (find_port port (at_moment moment state).ports) ≡ true

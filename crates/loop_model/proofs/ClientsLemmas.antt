@@ -13,7 +13,8 @@ use Rattle.loop_model.proofs.ClosedLemmas.{open-closes}
 use Rattle.loop_model.proofs.LeftLemmas.{door_at}
 
 -- where they are counted, one is found
-a_client : (low high : ℕ) (ports : List Port) → IsRising low high ports → (client_count ports == 0) ≡ false
+a_client : (low high : ℕ) (ports : List Port) → IsRising low high ports
+    → (client_count ports == 0) ≡ false
     → (at : Port) × (find_port at.number ports ≡ Some at) × (is_client at.door ≡ true)
 a_client low high [] rising some = absurd (cc)
 a_client low high (first ∷ ports) rising some =
@@ -22,7 +23,8 @@ a_client low high (first ∷ ports) rising some =
     own : find_port first.number (first ∷ ports) ≡ Some first
     own = grind (arith, nat_tests)
 
-    behind : (at : Port) → find_port at.number ports ≡ Some at → find_port at.number (first ∷ ports) ≡ Some at
+    behind : (at : Port) → find_port at.number ports ≡ Some at
+        → find_port at.number (first ∷ ports) ≡ Some at
     behind at found =
         let above : first.number < at.number = found_above at.number first.number high ports at rising.1 found in
         grind (arith, nat_tests)
@@ -36,7 +38,8 @@ a_client low high (first ∷ ports) rising some =
     by false is some rest = let at = rest some in (at.0, behind at.0 at.1, at.2)
 
 -- and one that is found is counted
-is_counted : (number : ℕ) (at : Port) (ports : List Port) → find_port number ports ≡ Some at → is_client at.door ≡ true
+is_counted : (number : ℕ) (at : Port) (ports : List Port) → find_port number ports ≡ Some at
+    → is_client at.door ≡ true
     → (client_count ports == 0) ≡ false
 is_counted number at [] found client = absurd (cc)
 is_counted number at (first ∷ ports) found client =
@@ -53,7 +56,8 @@ is_counted number at (first ∷ ports) found client =
         absurd (cc)
     by false false is found rest = rest found
 
-no_clients_before : (before : Bool) (state : State) (moment : Moment) → IsRising 0 state.last_port state.ports
+no_clients_before : (before : Bool) (state : State) (moment : Moment)
+    → IsRising 0 state.last_port state.ports
     → (step state moment Tick).closes ≡ [] → (client_count state.ports == 0) ≡ before
     → (client_count (at_moment moment state).ports == 0) ≡ true → before ≡ true
 no_clients_before true state moment rising none was left = refl
@@ -65,14 +69,16 @@ no_clients_before false state moment rising none was left =
     by_found one.0.number (find_port one.0.number (at_moment moment state).ports) refl opened
     (door_at true state moment one.0.number rising (is_hers one.0 one.1 one.2))
   where
-    is_hers : (one : Port) → find_port one.number state.ports ≡ Some one → is_client one.door ≡ true → (p : Port)
+    is_hers : (one : Port) → find_port one.number state.ports ≡ Some one → is_client one.door ≡ true
+        → (p : Port)
         → find_port one.number state.ports ≡ Some p → is_client p.door ≡ true
     is_hers one found client p there =
         let both : Some one ≡ Some p = sym found ∙ there in
         let same : one ≡ p = cc in
         ap (λ (q : Port). is_client q.door) (sym same) ∙ client
 
-    by_found : (number : ℕ) (found : Option Port) → find_port number (at_moment moment state).ports ≡ found
+    by_found : (number : ℕ) (found : Option Port)
+        → find_port number (at_moment moment state).ports ≡ found
         → is_some found ≡ true
         → ((p : Port) → find_port number (at_moment moment state).ports ≡ Some p → is_client p.door ≡ true)
         → false ≡ true

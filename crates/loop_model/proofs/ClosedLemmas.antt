@@ -28,7 +28,8 @@ among-without number (other ∷ all) left =
     grind (arith, nat_tests)
 
 -- a port that was closed was open or joined, and isn't open
-closed-is : (state : State) (moment : Moment) (event : Happening) (port : ℕ) → IsRising 0 state.last_port state.ports
+closed-is : (state : State) (moment : Moment) (event : Happening) (port : ℕ)
+    → IsRising 0 state.last_port state.ports
     → is_among port (step state moment event).closes
     ≡ (is_among port (numbers state.ports ++ joined_between state.last_port (step state moment event).state.last_port)
     && not (is_open port (step state moment event).state))
@@ -39,7 +40,8 @@ closed-is state moment event port rising =
     ∙ among-without port all (numbers next.ports)
     ∙ ap (λ (b : Bool). is_among port all && not b) (is_among-open port next.ports)
 
-pub closed-shut : (state : State) (moment : Moment) (event : Happening) (port : ℕ) → IsRising 0 state.last_port state.ports
+pub closed-shut : (state : State) (moment : Moment) (event : Happening) (port : ℕ)
+    → IsRising 0 state.last_port state.ports
     → is_among port (step state moment event).closes ≡ true → is_open port (step state moment event).state ≡ false
 closed-shut state moment event port rising closed =
     let next = (step state moment event).state in
@@ -48,7 +50,8 @@ closed-shut state moment event port rising closed =
     (not (is_open port next)) (sym (closed-is state moment event port rising) ∙ closed)).1
 
 -- a port that was open is open where the event didn't close it
-pub open-closes : (state : State) (moment : Moment) (event : Happening) (port : ℕ) → IsRising 0 state.last_port state.ports
+pub open-closes : (state : State) (moment : Moment) (event : Happening) (port : ℕ)
+    → IsRising 0 state.last_port state.ports
     → is_open port state ≡ true
     → is_open port (step state moment event).state ≡ not (is_among port (step state moment event).closes)
 open-closes state moment event port rising opened =

@@ -42,7 +42,8 @@ neither_come (Some one) (Some other) now none =
 before_end : (end now : ℕ) → now < 2 ^ 64 → has_come (on_clock (Some end)) now ≡ false → now < end
 before_end end now within none = by (nat_lt end (2 ^ 64)) refl none
   where
-    by : (on : Bool) → nat_lt end (2 ^ 64) ≡ on → has_come (if on then Some end else None) now ≡ false → now < end
+    by : (on : Bool) → nat_lt end (2 ^ 64) ≡ on
+        → has_come (if on then Some end else None) now ≡ false → now < end
     by true is none = not_come end now none
     by false is none = let above = ltb-false end (2 ^ 64) is in omega (arith, above, within)
 
@@ -70,7 +71,8 @@ asks_before limit now (ask ∷ asks) before =
     own put (Some other) first =
         let below : now < min put other + limit = first in omega (arith, below)
 
-    others : (put : ℕ) (found : Option ℕ) (since : ℕ) → now < earlier_second put found + limit → found ≡ Some since
+    others : (put : ℕ) (found : Option ℕ) (since : ℕ) → now < earlier_second put found + limit
+        → found ≡ Some since
         → now < since + limit
     others put None since first is = absurd (cc)
     others put (Some other) since first is =
@@ -102,7 +104,8 @@ none_late (Some limit) now asks within none =
 abbrev late_at : Option ℕ → ℕ → Confirmation → Bool
 late_at limit now one = has_lasted limit one.raised_at now
 
-desk_before : (limit now : ℕ) (all : List Confirmation) → IsBefore limit now (option_map second_of (oldest_confirmation all))
+desk_before : (limit now : ℕ) (all : List Confirmation)
+    → IsBefore limit now (option_map second_of (oldest_confirmation all))
     → list_any (late_at (Some limit) now) all ≡ false
 desk_before limit now [] before = refl
 desk_before limit now (one ∷ all) before =
@@ -127,7 +130,8 @@ desk_before limit now (one ∷ all) before =
     own first None below = below
     own first (Some other) below = (own_by (nat_lt other.1 first.1) first other refl below).0
 
-    others : (first : ℕ × ℕ) (found : Option (ℕ × ℕ)) (since : ℕ) → now < (earlier_job first found).1 + limit
+    others : (first : ℕ × ℕ) (found : Option (ℕ × ℕ)) (since : ℕ)
+        → now < (earlier_job first found).1 + limit
         → option_map second_of found ≡ Some since → now < since + limit
     others first None since below is = absurd (cc)
     others first (Some other) since below is =

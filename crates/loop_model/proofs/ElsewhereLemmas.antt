@@ -34,10 +34,12 @@ find-joined port last door (first ∷ ports) other =
     grind (arith, nat_tests)
 
 -- whether or not there is room for it
-pub find-admitted : (is_in : Bool) (port last : ℕ) (door : Door) (ports : List Port) → (last == port) ≡ false
+pub find-admitted : (is_in : Bool) (port last : ℕ) (door : Door) (ports : List Port)
+    → (last == port) ≡ false
     → find_port port (admitted is_in last door ports) ≡ find_port port ports
 find-admitted false port last door ports other = refl
-find-admitted true port last door ports other = find-joined port last door ports (λ equal. grind (arith, nat_tests))
+find-admitted true port last door ports other =
+    find-joined port last door ports (λ equal. grind (arith, nat_tests))
 
 -- ---- what is to be read
 
@@ -52,15 +54,18 @@ silent-news f (says verdict is) = record { door = λ p. refl; heard = λ p. refl
 silent-news f (proves verification) = record { door = λ p. refl; heard = λ p. refl }
 
 -- what is to be read behind such changes was before them
-was_read : (f : Port → Port) → IsSilent f → (p : Port) → wants_more (f p).door (f p).heard ≡ wants_more p.door p.heard
-was_read f is p = ap (λ d. wants_more d (f p).heard) (is.door p) ∙ ap (wants_more p.door) (is.heard p)
+was_read : (f : Port → Port) → IsSilent f → (p : Port)
+    → wants_more (f p).door (f p).heard ≡ wants_more p.door p.heard
+was_read f is p =
+    ap (λ d. wants_more d (f p).heard) (is.door p) ∙ ap (wants_more p.door) (is.heard p)
 
 -- where this port is to be read, it was before
 abbrev WasRead : ℕ → List Port → Port → Type 0
 WasRead port old at = wants_more at.door at.heard ≡ true → wants_by (find_port port old) ≡ true
 
 -- one that is to be read where others changed was before
-wants-spared : (port low high : ℕ) (old : List Port) {new : List Port} → Spares IsSilent port old new
+wants-spared : (port low high : ℕ) (old : List Port) {new : List Port}
+    → Spares IsSilent port old new
     → IsRising low high old → wants_by (find_port port new) ≡ true → wants_by (find_port port old) ≡ true
 wants-spared port low high old {new} spares rising = by_found (find_port port new) refl
   where
@@ -101,14 +106,16 @@ abbrev NoChange : (Port → Port) → Type 0
 NoChange f = ⊥
 
 -- a port that is open where only others changed is as it was
-found-spared : (port low high : ℕ) (old : List Port) {new : List Port} → Spares NoChange port old new
+found-spared : (port low high : ℕ) (old : List Port) {new : List Port}
+    → Spares NoChange port old new
     → IsRising low high old → (at : Port) → find_port port new ≡ Some at → find_port port old ≡ Some at
 found-spared port low high old spares rising =
     holds-spared NoChange (λ p. find_port port old ≡ Some p) (λ f none p there. absurd none) port low high old spares
     rising (λ at there. there)
 
 -- what a client is owed stands at its port
-pub owed-client : (door : Door) (number : ℕ) (port : Port) (under_way : UnderWay) → is_client door ≡ true
+pub owed-client : (door : Door) (number : ℕ) (port : Port) (under_way : UnderWay)
+    → is_client door ≡ true
     → owed_as (role_of door number under_way) port under_way ≡ port.owed
 owed-client Clients number port under_way client = refl
 owed-client Children number port under_way client = absurd (cc)
@@ -125,7 +132,8 @@ role-client Clients number under_way client = refl
 role-client Children number under_way client = absurd (cc)
 
 -- so a client that is as it was is owed what it was owed
-owed-found : (found old : Option Port) (after before : UnderWay) → ((at : Port) → found ≡ Some at → old ≡ Some at)
+owed-found : (found old : Option Port) (after before : UnderWay)
+    → ((at : Port) → found ≡ Some at → old ≡ Some at)
     → is_clients found ≡ true → is_some_bytes (owed_by found after) ≡ true → is_some_bytes (owed_by old before) ≡ true
 owed-found None old after before was client some = absurd (cc)
 owed-found (Some at) old after before was client some =
@@ -156,8 +164,9 @@ found-heard port number (Some at) piece state is client other =
     found-client port number at (heard_more piece) state
     (handle-heard number piece at state is (clients at.door client)) is (λ p. refl) other
 
--- so is one that took bytes, and what a child process takes leaves the ports
-found-took : (port number count : ℕ) (found : Option Port) (state : State) → find_port number state.ports ≡ found
+-- a client that took bytes is served alone, and what a child process takes leaves the ports
+found-took : (port number count : ℕ) (found : Option Port) (state : State)
+    → find_port number state.ports ≡ found
     → (number == port) ≡ false → Spares NoChange port state.ports (handle (Took number count) state).state.ports
 found-took port number count None state is other =
     subst (Spares NoChange port state.ports)
@@ -183,7 +192,8 @@ found-over port number (Some one) start state own other spares =
     (spares-close_confirmer NoChange port start one.port state.ports spares)
 
 -- and so it is where a client ended
-found-ended : (port number : ℕ) (found : Option Port) (state : State) → find_port number state.ports ≡ found
+found-ended : (port number : ℕ) (found : Option Port) (state : State)
+    → find_port number state.ports ≡ found
     → is_clients found ≡ true → (number == port) ≡ false
     → Spares NoChange port state.ports (ended_at found state).state.ports
 found-ended port number None state is client other = absurd (cc)

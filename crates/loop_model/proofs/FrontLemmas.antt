@@ -14,22 +14,26 @@ use Rattle.world_ports.specs.declared.entry.Entry.TheVariants as entry
 use Rattle.agent_model.specs.State.{State}
 use Rattle.loop_model.specs.Dues.{Closing, Due, Free, Nothing, NowFor, Polling, closes_later, due_event, due_look, due_of, is_polling, same_wait, wait_of}
 use Rattle.loop_model.specs.Fronts.{HasFront, IsAtRest, RestsAfter}
-use Rattle.loop_model.specs.LegalJournal.{LoopState, closed_by, comes_next, events_brought, in_state, led, taken, turned}
+use Rattle.loop_model.specs.LegalJournal.{LoopState, after_entries, after_entry, after_if_legal, closed_by, comes_next, events_brought, in_state}
 use Rattle.loop_model.specs.Lines.{Line, is_idle}
 use Rattle.loop_model.proofs.JournalLemmas.{leads}
 use Rattle.loop_model.proofs.TestLemmas.{and_both}
 
 -- ---- fronts
 
-front_by : (found : Option LoopState) (to : LoopState) (first later : List Entry) → ((turning : LoopState) → turned turning (first ++ later) ≡ Some to → HasFront turning to first later) → option_and_then (λ after. turned after (first ++ later)) found ≡ Some to → (reached : LoopState) × (option_and_then (λ after. turned after first) found ≡ Some reached) × (turned reached later ≡ Some to)
+front_by : (found : Option LoopState) (to : LoopState) (first later : List Entry)
+    → ((reading : LoopState) → after_entries reading (first ++ later) ≡ Some to → HasFront reading to first later)
+    → option_and_then (λ after. after_entries after (first ++ later)) found ≡ Some to
+    → (reached : LoopState) × (option_and_then (λ after. after_entries after first) found ≡ Some reached) × (after_entries reached later ≡ Some to)
 front_by None to first later rest legal = cc
-front_by (Some turning) to first later rest legal =
-    let front = rest turning legal in (front.reached, front.front, front.rest)
+front_by (Some reading) to first later rest legal =
+    let front = rest reading legal in (front.reached, front.front, front.rest)
 
-pub has_front : (from to : LoopState) (first later : List Entry) → turned from (first ++ later) ≡ Some to → HasFront from to first later
+pub has_front : (from to : LoopState) (first later : List Entry)
+    → after_entries from (first ++ later) ≡ Some to → HasFront from to first later
 has_front from to [] later legal = record { reached = from; front = refl; rest = legal }
 has_front from to (next ∷ first) later legal =
-    let front = front_by (taken from next) to first later (λ turning rest. has_front turning to first later rest) legal in
+    let front = front_by (after_if_legal from next) to first later (λ reading rest. has_front reading to first later rest) legal in
     record { reached = front.0; front = front.1; rest = front.2 }
 
 -- ---- where a poll may come, there is nothing to do
@@ -42,13 +46,14 @@ Rests Polling state line = is_idle state line ≡ true
 Rests Nothing state line = Unit {0}
 
 abbrev IsWell : LoopState → Type 0
-IsWell turning = Rests turning.due turning.state turning.line
+IsWell reading = Rests reading.due reading.state reading.line
 
 well_due : (closes : List ℕ) (state : State) (line : Line) → Rests (due_of closes) state line
 well_due [] state line = tt
 well_due (port ∷ later) state line = tt
 
-well_look : (closes : List ℕ) (idle : Bool) (state : State) (line : Line) → is_idle state line ≡ idle
+well_look : (closes : List ℕ) (idle : Bool) (state : State) (line : Line)
+    → is_idle state line ≡ idle
     → Rests (due_look closes idle) state line
 well_look [] true state line idle = idle
 well_look [] false state line idle = tt
@@ -62,50 +67,54 @@ well_event (Closing port later) closes state line = tt
 well_event Polling closes state line = tt
 well_event Nothing closes state line = tt
 
-well_led : (turning : LoopState) (next : Entry) → comes_next turning next ≡ true → IsWell (led turning next)
-well_led turning (entry.Bind door path answer) may = cc
-well_led turning (entry.Poll wait items (Ok polled.Some)) may = tt
-well_led turning (entry.Poll wait items (Ok polled.Over)) may = tt
-well_led turning (entry.Poll wait items (Err fault)) may = tt
-well_led turning (entry.Accept door (Ok (accepted.Port number))) may = tt
-well_led turning (entry.Accept door (Ok accepted.NotNow)) may = tt
-well_led turning (entry.Accept door (Err Failed)) may = tt
-well_led turning (entry.Accept door (Err Memory)) may = tt
-well_led turning (entry.Read port room bytes (Ok (got.Bytes n))) may = tt
-well_led turning (entry.Read port room bytes (Ok got.End)) may = tt
-well_led turning (entry.Read port room bytes (Ok got.NotNow)) may = tt
-well_led turning (entry.Read port room bytes (Err Failed)) may = tt
-well_led turning (entry.Read port room bytes (Err Memory)) may = tt
-well_led turning (entry.Write port offered (Ok (wrote.Took n))) may = tt
-well_led turning (entry.Write port offered (Ok wrote.NotNow)) may = tt
-well_led turning (entry.Write port offered (Err Failed)) may = tt
-well_led turning (entry.Write port offered (Err Memory)) may = tt
-well_led turning (entry.Close port (Ok unit)) may = well_due (closes_later turning.due) turning.state _
-well_led turning (entry.Close port (Err want)) may = tt
-well_led turning (entry.Start job (Ok ticket)) may = tt
-well_led turning (entry.Start job (Err Failed)) may = tt
-well_led turning (entry.Start job (Err Memory)) may = tt
-well_led turning (entry.Now (Ok moment)) may =
-    let after = led turning (entry.Now (Ok moment)) in
-    well_event turning.due (closed_by turning.state (events_brought turning.due (entry.Now (Ok moment)))) after.state after.line
-well_led turning (entry.Now (Err want)) may = tt
+well_led : (reading : LoopState) (next : Entry) → comes_next reading next ≡ true
+    → IsWell (after_entry reading next)
+well_led reading (entry.Bind door path answer) may = cc
+well_led reading (entry.Poll wait items (Ok polled.Some)) may = tt
+well_led reading (entry.Poll wait items (Ok polled.Over)) may = tt
+well_led reading (entry.Poll wait items (Err fault)) may = tt
+well_led reading (entry.Accept door (Ok (accepted.Port number))) may = tt
+well_led reading (entry.Accept door (Ok accepted.NotNow)) may = tt
+well_led reading (entry.Accept door (Err Failed)) may = tt
+well_led reading (entry.Accept door (Err Memory)) may = tt
+well_led reading (entry.Read port room bytes (Ok (got.Bytes n))) may = tt
+well_led reading (entry.Read port room bytes (Ok got.End)) may = tt
+well_led reading (entry.Read port room bytes (Ok got.NotNow)) may = tt
+well_led reading (entry.Read port room bytes (Err Failed)) may = tt
+well_led reading (entry.Read port room bytes (Err Memory)) may = tt
+well_led reading (entry.Write port offered (Ok (wrote.Took n))) may = tt
+well_led reading (entry.Write port offered (Ok wrote.NotNow)) may = tt
+well_led reading (entry.Write port offered (Err Failed)) may = tt
+well_led reading (entry.Write port offered (Err Memory)) may = tt
+well_led reading (entry.Close port (Ok unit)) may =
+    well_due (closes_later reading.due) reading.state _
+well_led reading (entry.Close port (Err want)) may = tt
+well_led reading (entry.Start job (Ok ticket)) may = tt
+well_led reading (entry.Start job (Err Failed)) may = tt
+well_led reading (entry.Start job (Err Memory)) may = tt
+well_led reading (entry.Now (Ok moment)) may =
+    let after = after_entry reading (entry.Now (Ok moment)) in
+    well_event reading.due (closed_by reading.state (events_brought reading.due (entry.Now (Ok moment)))) after.state after.line
+well_led reading (entry.Now (Err want)) may = tt
 
-well_taken : (from after : LoopState) (next : Entry) → taken from next ≡ Some after → IsWell after
+well_taken : (from after : LoopState) (next : Entry) → after_if_legal from next ≡ Some after
+    → IsWell after
 well_taken from after next is =
     let there = leads from after next is in subst IsWell there.left (well_led from next there.comes)
 
 well_by : (found : Option LoopState) (to : LoopState) (later : List Entry)
     → ((after : LoopState) → found ≡ Some after → IsWell after)
-    → ((after : LoopState) → IsWell after → turned after later ≡ Some to → IsWell to)
-    → option_and_then (λ after. turned after later) found ≡ Some to → IsWell to
+    → ((after : LoopState) → IsWell after → after_entries after later ≡ Some to → IsWell to)
+    → option_and_then (λ after. after_entries after later) found ≡ Some to → IsWell to
 well_by None to later here rest is = cc
 well_by (Some after) to later here rest is = rest after (here after refl) is
 
 -- every place of a legal journal is well
-well_on : (from to : LoopState) (entries : List Entry) → IsWell from → turned from entries ≡ Some to → IsWell to
+well_on : (from to : LoopState) (entries : List Entry) → IsWell from
+    → after_entries from entries ≡ Some to → IsWell to
 well_on from to [] well is = let same : from ≡ to = cc in subst IsWell same well
 well_on from to (next ∷ later) well is =
-    well_by (taken from next) to later (λ after here. well_taken from after next here)
+    well_by (after_if_legal from next) to later (λ after here. well_taken from after next here)
     (λ after here rest. well_on after to later here rest) is
 
 -- a poll may come only where one is due
@@ -117,19 +126,19 @@ rests_by (Closing port closes) state line polls well = cc
 rests_by Polling state line polls well = record { due = refl; idle = well }
 rests_by Nothing state line polls well = cc
 
-rests_taken : (found : Option LoopState) (turning to : LoopState) (wait : Option ℕ) (items : List Ready)
+rests_taken : (found : Option LoopState) (reading to : LoopState) (wait : Option ℕ) (items : List Ready)
     (answer : Result Polled WorldFault) (later : List Entry)
-    → taken turning (entry.Poll wait items answer) ≡ found → IsWell turning
-    → option_and_then (λ after. turned after later) found ≡ Some to → IsAtRest turning
-rests_taken None turning to wait items answer later is well legal = cc
-rests_taken (Some after) turning to wait items answer later is well legal =
-    rests_by turning.due turning.state turning.line
-    (and_both (is_polling turning.due) (same_wait wait (wait_of turning.state))
-    (leads turning after (entry.Poll wait items answer) is).comes).0 well
+    → after_if_legal reading (entry.Poll wait items answer) ≡ found → IsWell reading
+    → option_and_then (λ after. after_entries after later) found ≡ Some to → IsAtRest reading
+rests_taken None reading to wait items answer later is well legal = cc
+rests_taken (Some after) reading to wait items answer later is well legal =
+    rests_by reading.due reading.state reading.line
+    (and_both (is_polling reading.due) (same_wait wait (wait_of reading.state))
+    (leads reading after (entry.Poll wait items answer) is).comes).0 well
 
 pub rests_after : (state : State) (line : Line) (to : LoopState) (first later : List Entry) (wait : Option ℕ)
     (items : List Ready) (answer : Result Polled WorldFault)
-    → turned (in_state state line Free) (first ++ entry.Poll wait items answer ∷ later) ≡ Some to
+    → after_entries (in_state state line Free) (first ++ entry.Poll wait items answer ∷ later) ≡ Some to
     → RestsAfter (in_state state line Free) first
 rests_after state line to first later wait items answer legal =
     let front = has_front (in_state state line Free) to first (entry.Poll wait items answer ∷ later) legal in
@@ -137,6 +146,6 @@ rests_after state line to first later wait items answer legal =
     record {
       reached = reached;
       front = front.front;
-      rest = rests_taken (taken reached (entry.Poll wait items answer)) reached to wait items answer later refl
+      rest = rests_taken (after_if_legal reached (entry.Poll wait items answer)) reached to wait items answer later refl
           (well_on (in_state state line Free) reached first tt front.front) front.rest;
     }

@@ -27,7 +27,8 @@ use Rattle.loop_model.proofs.MomentLemmas.{rising-moment}
 use Rattle.loop_model.proofs.SparedLemmas.{elsewhere, holds-spared, same, spared-makes, spares-told}
 
 -- a port that joins wasn't open
-pub never_joins : (port last : ℕ) (ports : List Port) (at : Port) → IsRising 0 last ports → (suc last == port) ≡ true
+pub never_joins : (port last : ℕ) (ports : List Port) (at : Port) → IsRising 0 last ports
+    → (suc last == port) ≡ true
     → find_port port ports ≡ Some at → ⊥
 never_joins port last ports at rising is found =
     let within : port ≤ last = found_within port 0 last ports at rising found in
@@ -41,7 +42,7 @@ module _
     (quiet-news : (f : Port → Port) → IsNews f → IsQuiet f)
     (port : ℕ)
   where
-    -- so it is of the port of this number in these
+    -- the port of this number among these is good, if it is open
     abbrev pub Held : List Port → Type 0
     Held ports = (at : Port) → find_port port ports ≡ Some at → Good at
 
@@ -65,15 +66,18 @@ ended_told : (number : ℕ) (role : Role) (state : State)
     → Told (closed number state).ports (ended_by_role role number state).state.ports
 ended_told number Client state = by_found (find_asker number state.under_way.confirmations)
   where
-    by_found : (found : Option Confirmation) → Told (closed number state).ports (over_if found (closed number state)).state.ports
+    by_found : (found : Option Confirmation)
+        → Told (closed number state).ports (over_if found (closed number state)).state.ports
     by_found None = untold
-    by_found (Some confirmation) = told-over (closed number state).ports confirmation (closed number state) untold
+    by_found (Some confirmation) =
+        told-over (closed number state).ports confirmation (closed number state) untold
 ended_told number Unnamed state = untold
 ended_told number Helper state = told-lose (closed number state).ports (closed number state) untold
 ended_told number (Confirmer confirmation) state =
     told-over (closed number state).ports confirmation (closed number state) untold
 
-pub ended_gone : (port number low high : ℕ) (found : Option Port) (state : State) → IsRising low high state.ports
+pub ended_gone : (port number low high : ℕ) (found : Option Port) (state : State)
+    → IsRising low high state.ports
     → find_port number state.ports ≡ found → (number == port) ≡ true → (at : Port)
     → find_port port (ended_at found state).state.ports ≡ Some at → ⊥
 ended_gone port number low high None state rising is own at there =
@@ -93,7 +97,8 @@ ended_gone port number low high (Some one) state rising is own at there =
     absurd (cc)
 
 -- it is closed
-pub ended_closed : (state : State) (moment : Moment) (port : ℕ) → IsRising 0 state.last_port state.ports
+pub ended_closed : (state : State) (moment : Moment) (port : ℕ)
+    → IsRising 0 state.last_port state.ports
     → is_open port (step state moment (Ended port)).state ≡ false
 ended_closed state moment port rising =
     let begun = at_moment moment state in
@@ -128,7 +133,8 @@ due-wanted (OnAsk ask) owed heard more = refl
 due-wanted (OnConfirmation job) owed heard more = refl
 
 -- a port whose bytes went is to be read yet
-wanted-took : (number count : ℕ) (one : Port) (state : State) → find_port number state.ports ≡ Some one → IsWanted one
+wanted-took : (number count : ℕ) (one : Port) (state : State)
+    → find_port number state.ports ≡ Some one → IsWanted one
     → (at : Port) → find_port number (handle (Took number count) state).state.ports ≡ Some at → IsWanted at
 wanted-took number count one state found wanted at there = by_door one.door refl
   where
@@ -155,18 +161,21 @@ wanted-own : (event : Happening) (state : State) (port : ℕ) → IsRising 0 sta
     → (at : Port) → find_port port (handle event state).state.ports ≡ Some at → IsWanted at
 wanted-own (Joined door) state port rising own silent wanted one opened at there =
     absurd (never_joins port state.last_port state.ports one rising own opened)
-wanted-own (Heard number piece) state port rising own silent wanted one opened at there = absurd (cc)
+wanted-own (Heard number piece) state port rising own silent wanted one opened at there =
+    absurd (cc)
 wanted-own (Ended number) state port rising own silent wanted one opened at there =
     absurd (ended_gone port number 0 state.last_port _ state rising refl own at there)
 wanted-own (Took number count) state port rising own silent wanted one opened at there =
     let here : port ≡ number = sym (eqb-true number port own) in
     wanted-took number count one state (ap (λ n. find_port n state.ports) (sym here) ∙ opened) (wanted one opened) at
     (ap (λ n. find_port n (handle (Took number count) state).state.ports) (sym here) ∙ there)
-wanted-own (Started job ticket) state port rising own silent wanted one opened at there = absurd (cc)
+wanted-own (Started job ticket) state port rising own silent wanted one opened at there =
+    absurd (cc)
 wanted-own (StartFailed job) state port rising own silent wanted one opened at there = absurd (cc)
 wanted-own Tick state port rising own silent wanted one opened at there = absurd (cc)
 
-wanted-all : (own : Bool) (event : Happening) (state : State) (port : ℕ) → IsRising 0 state.last_port state.ports
+wanted-all : (own : Bool) (event : Happening) (state : State) (port : ℕ)
+    → IsRising 0 state.last_port state.ports
     → is_of event state.last_port port ≡ own → brings_bytes event port ≡ false
     → ((at : Port) → find_port port state.ports ≡ Some at → IsWanted at)
     → (one : Port) → find_port port state.ports ≡ Some one
@@ -188,7 +197,8 @@ found_wanted None wanted = absurd (cc)
 found_wanted (Some one) wanted = (one, refl)
 
 -- a port that was to be read is to be read yet, while it is open
-pub wanted_after : (state : State) (event : Happening) (port : ℕ) → IsRising 0 state.last_port state.ports
+pub wanted_after : (state : State) (event : Happening) (port : ℕ)
+    → IsRising 0 state.last_port state.ports
     → brings_bytes event port ≡ false → wants port state ≡ true → is_open port (handle event state).state ≡ true
     → wants port (handle event state).state ≡ true
 wanted_after state event port rising silent wanted opened =
@@ -197,8 +207,9 @@ wanted_after state event port rising silent wanted opened =
     wanted-all (is_of event state.last_port port) event state port rising refl silent
     (λ p found. sym (ap wants_by found) ∙ wanted) one.0 one.1 at there)
 
--- so it is at a moment, before its event
-pub wanted_at : (state : State) (moment : Moment) (port : ℕ) → IsRising 0 state.last_port state.ports
+-- a port that was to be read is to be read yet at a moment, before its event, while it is open
+pub wanted_at : (state : State) (moment : Moment) (port : ℕ)
+    → IsRising 0 state.last_port state.ports
     → wants port state ≡ true → is_open port (at_moment moment state) ≡ true
     → wants port (at_moment moment state) ≡ true
 wanted_at state moment port rising wanted opened =
@@ -213,10 +224,12 @@ wanted_at state moment port rising wanted opened =
 abbrev HasDoor : Bool → Port → Type 0
 HasDoor client at = is_client at.door ≡ client
 
-door-silent : (client : Bool) (f : Port → Port) → IsSilent f → (p : Port) → HasDoor client p → HasDoor client (f p)
+door-silent : (client : Bool) (f : Port → Port) → IsSilent f → (p : Port) → HasDoor client p
+    → HasDoor client (f p)
 door-silent client f is p door = ap is_client (is.door p) ∙ door
 
-pub door_at : (client : Bool) (state : State) (moment : Moment) (port : ℕ) → IsRising 0 state.last_port state.ports
+pub door_at : (client : Bool) (state : State) (moment : Moment) (port : ℕ)
+    → IsRising 0 state.last_port state.ports
     → ((p : Port) → find_port port state.ports ≡ Some p → is_client p.door ≡ client) → (p : Port)
     → find_port port (at_moment moment state).ports ≡ Some p → is_client p.door ≡ client
 door_at client state moment port rising =

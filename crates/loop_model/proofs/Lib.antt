@@ -1,5 +1,6 @@
 pub mod ThingLemmas
 pub mod TestLemmas
+pub mod FilterLemmas
 pub mod AsideLemmas
 pub mod JournalLemmas
 pub mod FrontLemmas

@@ -29,7 +29,8 @@ true_not true is isnt = cc
 true_not false is isnt = cc
 
 -- with more behind it
-stays-behind : (before news after : List Thing) (thing : Thing) → after ≡ before ++ news → set_of before thing ≡ true
+stays-behind : (before news after : List Thing) (thing : Thing) → after ≡ before ++ news
+    → set_of before thing ≡ true
     → set_of after thing ≡ true
 stays-behind before news after thing is there =
     ap (λ (ts : List Thing). set_of ts thing) is ∙ set_of-append before news thing
@@ -37,7 +38,8 @@ stays-behind before news after thing is there =
 
 -- ---- aside
 
-all-stays : (things : List Thing) (aside : Aside) (thing : Thing) → set_of (things_aside aside) thing ≡ true
+all-stays : (things : List Thing) (aside : Aside) (thing : Thing)
+    → set_of (things_aside aside) thing ≡ true
     → set_of (things_aside (all_aside things aside)) thing ≡ true
 all-stays [] aside thing there = there
 all-stays (first ∷ things) aside thing there =
@@ -83,7 +85,8 @@ none-at left (port ∷ ports) thing able shut =
 
 -- ---- after an event
 
-returned-stays : (left : State) (hand : Option Thing) (line : Line) (thing : Thing) → set_of line.queue thing ≡ true
+returned-stays : (left : State) (hand : Option Thing) (line : Line) (thing : Thing)
+    → set_of line.queue thing ≡ true
     → set_of (returned left hand line).queue thing ≡ true
 returned-stays left hand line thing there =
     let adds = adds-returned left hand line in

@@ -16,7 +16,8 @@ use Rattle.loop_model.specs.Elsewhere.{ends_waits}
 -- ---- the clocks
 
 -- what a moment ends leaves the clocks
-pub clocks-moment : (moment : Moment) (state : State) → (at_moment moment state).moment ≡ (taken_in moment state).moment
+pub clocks-moment : (moment : Moment) (state : State)
+    → (at_moment moment state).moment ≡ (taken_in moment state).moment
 clocks-moment moment state =
     at_moment-keeps (λ s. s.moment ≡ (taken_in moment state).moment) moment state (λ s is. is) (λ one s there is. is) refl
 
@@ -29,7 +30,8 @@ rising-moment moment state rising =
 
 -- ---- a moment at which no wait ends
 
-none_late : (test : Confirmation → Bool) (all : List Confirmation) → list_any test all ≡ false → find test all ≡ None
+none_late : (test : Confirmation → Bool) (all : List Confirmation) → list_any test all ≡ false
+    → find test all ≡ None
 none_late test [] none = refl
 none_late test (one ∷ all) none =
     let both = or_parts (test one) (list_any test all) none in

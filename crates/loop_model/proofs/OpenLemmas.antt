@@ -17,7 +17,8 @@ use Rattle.lists.proofs.KeyedLemmas.{differ}
 -- ---- the confirmation at a port
 
 -- what is found and isn't another is found without that other
-found-left : {A : Type 0} (test other : A → Bool) (all : List A) (one : A) → find test all ≡ Some one → other one ≡ false
+found-left : {A : Type 0} (test other : A → Bool) (all : List A) (one : A)
+    → find test all ≡ Some one → other one ≡ false
     → find test (remove_first other all) ≡ Some one
 found-left test other [] one found fails = absurd (cc)
 found-left test other (first ∷ all) one found fails =
@@ -49,11 +50,13 @@ linked-elsewhere number job f all one other misses found =
 
 -- ---- which ports are open
 
-pub map_some : (f : Port → Port) (found : Option Port) → is_some (option_map f found) ≡ is_some found
+pub map_some : (f : Port → Port) (found : Option Port)
+    → is_some (option_map f found) ≡ is_some found
 map_some f None = refl
 map_some f (Some at) = refl
 
-pub open-changed : (number other : ℕ) (f : Port → Port) (ports : List Port) → ((p : Port) → (f p).number ≡ p.number)
+pub open-changed : (number other : ℕ) (f : Port → Port) (ports : List Port)
+    → ((p : Port) → (f p).number ≡ p.number)
     → is_some (find_port number (change_port other f ports)) ≡ is_some (find_port number ports)
 open-changed number other f ports keeps = elim (cases_eq number other) [
   | inl here ↦
@@ -62,7 +65,8 @@ open-changed number other f ports keeps = elim (cases_eq number other) [
   | inr apart ↦ ap is_some (find_port-apart number other f ports keeps apart)
 ]
 
-pub open_left : (after before : Option Port) → ((at : Port) → after ≡ Some at → before ≡ Some at) → is_some after ≡ true
+pub open_left : (after before : Option Port) → ((at : Port) → after ≡ Some at → before ≡ Some at)
+    → is_some after ≡ true
     → is_some before ≡ true
 open_left None before was opened = absurd (cc)
 open_left (Some at) before was opened = ap is_some (was at refl)
@@ -79,10 +83,12 @@ never_open number high ports rising opened =
     let no : false ≡ true = sym (ap is_some (find_port-remove_port number 0 high ports rising)) ∙ opened in
     absurd (cc)
 
-pub leads-open : (number high : ℕ) (old : List Port) {new : List Port} → Leads old new → IsRising 0 high old
+pub leads-open : (number high : ℕ) (old : List Port) {new : List Port} → Leads old new
+    → IsRising 0 high old
     → is_some (find_port number new) ≡ true → is_some (find_port number old) ≡ true
 leads-open number high old {new} leads rising opened = by (find_port number new) refl opened
   where
-    by : (after : Option Port) → find_port number new ≡ after → is_some after ≡ true → is_some (find_port number old) ≡ true
+    by : (after : Option Port) → find_port number new ≡ after → is_some after ≡ true
+        → is_some (find_port number old) ≡ true
     by None is some = absurd (cc)
     by (Some at) is some = ap is_some (leads-found number 0 high old at leads rising is).1

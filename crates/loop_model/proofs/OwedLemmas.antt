@@ -1,5 +1,5 @@
 -- The agent stays orderly, and child processes that were owed bytes are owed some yet.
-use Rattle.std.proofs.Common.{◌≡◌, ◌≢◌, ℕ, suc, ◌≤◌, ◌<◌, Bool, true, false, Option, Some, None, is_some, refl, sym, ap, ◌∙◌, ◌==◌, subst, arith, not}
+use Rattle.std.proofs.Common.{◌≡◌, ◌≢◌, ℕ, suc, ◌<◌, Bool, true, false, Option, Some, None, is_some, refl, sym, ap, ◌∙◌, ◌==◌, subst, arith, not}
 use Rattle.std.proofs.lemmas.Bool.{eq-eqb}
 use Rattle.world_ports.specs.declared.events.Door.TheVariants.{Children, Clients}
 use Rattle.world_ports.specs.declared.events.Door.{Door}
@@ -27,13 +27,15 @@ use Rattle.loop_model.proofs.ThingLemmas.{false_by}
 -- ---- the agent stays orderly
 
 -- a port of number 0 isn't open
-none-zero : (state : State) → IsRising 0 state.last_port state.ports → is_some (find_port 0 state.ports) ≡ true → ⊥
+none-zero : (state : State) → IsRising 0 state.last_port state.ports
+    → is_some (find_port 0 state.ports) ≡ true → ⊥
 none-zero state rising opened =
     let none : find_port 0 state.ports ≡ None = find_port-below 0 0 state.last_port state.ports (omega arith) rising in
     let no : false ≡ true = sym (ap is_some none) ∙ opened in
     absurd (cc)
 
-staffed_by : (event : Happening) (state : State) → IsRising 0 state.last_port state.ports → IsStaffed state.under_way
+staffed_by : (event : Happening) (state : State) → IsRising 0 state.last_port state.ports
+    → IsStaffed state.under_way
     → IsStaffed (handle event state).state.under_way
 staffed_by event state rising staffed =
     by_event_as (λ outcome. IsStaffed outcome.state.under_way) event state (λ door is. staffed)
@@ -47,7 +49,8 @@ staffed_by event state rising staffed =
       owes = λ opened. absurd (none-zero state rising opened);
     }).staffed)
 
-pub orderly_at : (state : State) (moment : Moment) → IsOrderly state → IsOrderly (at_moment moment state)
+pub orderly_at : (state : State) (moment : Moment) → IsOrderly state
+    → IsOrderly (at_moment moment state)
 orderly_at state moment orderly = record {
   sound = step_keeps-sound state moment Tick orderly.sound;
   staffed = (keeps-moment 0 state.last_port moment state record {
@@ -77,22 +80,27 @@ orderly_first settings = record {
 
 -- ---- what a child process is owed, as its port tells
 
-linked_is : (port : ℕ) (u : UnderWay) → is_linked_to port u.link.state ≡ true → u.link.state ≡ states.Linked port
-linked_is port u is = role-helper Children port u (ap (λ b. role_by_helper b port u.confirmations) is)
+linked_is : (port : ℕ) (u : UnderWay) → is_linked_to port u.link.state ≡ true
+    → u.link.state ≡ states.Linked port
+linked_is port u is =
+    role-helper Children port u (ap (λ b. role_by_helper b port u.confirmations) is)
 
-not_linked_is : (port : ℕ) (u : UnderWay) → is_linked_to port u.link.state ≡ false → u.link.state ≢ states.Linked port
+not_linked_is : (port : ℕ) (u : UnderWay) → is_linked_to port u.link.state ≡ false
+    → u.link.state ≢ states.Linked port
 not_linked_is port u is linked =
     let there : is_linked_to port u.link.state ≡ (port == port) = ap (is_linked_to port) linked in
     let here : (port == port) ≡ true = eq-eqb port port refl in
     let no : false ≡ true = sym is ∙ there ∙ here in
     absurd (cc)
 
-owes_desk : (found : Option Confirmation) (port : ℕ) (at : Port) (u : UnderWay) → find_linked port u.confirmations ≡ found
+owes_desk : (found : Option Confirmation) (port : ℕ) (at : Port) (u : UnderWay)
+    → find_linked port u.confirmations ≡ found
     → u.link.state ≢ states.Linked port → is_some_bytes (owed_as (role_by_link found) at u) ≡ true → Owes port u
 owes_desk None port at u is other some = absurd (cc)
 owes_desk (Some one) port at u is other some = by_desk one is some other
 
-owes_child : (linked : Bool) (port : ℕ) (at : Port) (u : UnderWay) → is_linked_to port u.link.state ≡ linked
+owes_child : (linked : Bool) (port : ℕ) (at : Port) (u : UnderWay)
+    → is_linked_to port u.link.state ≡ linked
     → is_some_bytes (owed_as (role_by_helper linked port u.confirmations) at u) ≡ true → Owes port u
 owes_child true port at u is some =
     let linked = linked_is port u is in
@@ -103,15 +111,18 @@ owes_child false port at u is some =
 owes_port : (door : Door) (port : ℕ) (at : Port) (u : UnderWay) → is_client door ≡ false
     → is_some_bytes (owed_as (role_of door port u) at u) ≡ true → Owes port u
 owes_port Clients port at u child some = absurd (cc)
-owes_port Children port at u child some = owes_child (is_linked_to port u.link.state) port at u refl some
+owes_port Children port at u child some =
+    owes_child (is_linked_to port u.link.state) port at u refl some
 
-owed_desk : (found : Option Confirmation) (port : ℕ) (at : Port) (u : UnderWay) (one : Confirmation) → found ≡ Some one
+owed_desk : (found : Option Confirmation) (port : ℕ) (at : Port) (u : UnderWay) (one : Confirmation)
+    → found ≡ Some one
     → is_some_bytes one.owed ≡ true → is_some_bytes (owed_as (role_by_link found) at u) ≡ true
 owed_desk None port at u one is some = absurd (cc)
 owed_desk (Some other) port at u one is some =
     let equal : other ≡ one = cc in ap (λ (c : Confirmation). is_some_bytes c.owed) equal ∙ some
 
-owed_child : (linked : Bool) (port : ℕ) (at : Port) (u : UnderWay) → is_linked_to port u.link.state ≡ linked → Owes port u
+owed_child : (linked : Bool) (port : ℕ) (at : Port) (u : UnderWay)
+    → is_linked_to port u.link.state ≡ linked → Owes port u
     → is_some_bytes (owed_as (role_by_helper linked port u.confirmations) at u) ≡ true
 owed_child true port at u is (by_link linked some) =
     ap (λ (s : LinkState). is_some_bytes (sendable s u.link.owed)) linked ∙ some
@@ -120,10 +131,12 @@ owed_child false port at u is (by_link linked some) = absurd (not_linked_is port
 owed_child false port at u is (by_desk one found some other) =
     owed_desk (find_linked port u.confirmations) port at u one found some
 
-owed_port : (door : Door) (port : ℕ) (at : Port) (u : UnderWay) → is_client door ≡ false → Owes port u
+owed_port : (door : Door) (port : ℕ) (at : Port) (u : UnderWay) → is_client door ≡ false
+    → Owes port u
     → is_some_bytes (owed_as (role_of door port u) at u) ≡ true
 owed_port Clients port at u child owes = absurd (cc)
-owed_port Children port at u child owes = owed_child (is_linked_to port u.link.state) port at u refl owes
+owed_port Children port at u child owes =
+    owed_child (is_linked_to port u.link.state) port at u refl owes
 
 -- ---- a child process that was owed bytes is owed some yet
 
@@ -131,14 +144,16 @@ not_client : (door : Door) → not (is_client door) ≡ true → is_client door 
 not_client Clients child = absurd (cc)
 not_client Children child = refl
 
-child_before : (found : Option Port) (u : UnderWay) (port : ℕ) → ((at : Port) → found ≡ Some at → at.number ≡ port)
+child_before : (found : Option Port) (u : UnderWay) (port : ℕ)
+    → ((at : Port) → found ≡ Some at → at.number ≡ port)
     → is_child found ≡ true → is_some_bytes (owed_by found u) ≡ true → Owes port u
 child_before None u port number child some = absurd (cc)
 child_before (Some at) u port number child some =
     owes_port at.door port at u (not_client at.door child)
     (subst (λ n. is_some_bytes (owed_as (role_of at.door n u) at u) ≡ true) (number at refl) some)
 
-child_after : (found : Option Port) (u : UnderWay) (port : ℕ) → ((at : Port) → found ≡ Some at → at.number ≡ port)
+child_after : (found : Option Port) (u : UnderWay) (port : ℕ)
+    → ((at : Port) → found ≡ Some at → at.number ≡ port)
     → is_child found ≡ true → Owes port u → is_some_bytes (owed_by found u) ≡ true
 child_after None u port number child owes = absurd (cc)
 child_after (Some at) u port number child owes =
@@ -184,7 +199,7 @@ child_owed_after state event port orderly silent child some =
     (λ at found. found_number port outcome.state.ports at found) still
     (keeps.owes (child_open (find_port port outcome.state.ports) still)))
 
--- so it is at a moment, before its event
+-- a child process that was owed bytes is owed some at a moment, before its event, while it is open
 pub child_owed_at : (state : State) (moment : Moment) (port : ℕ) → IsOrderly state
     → is_child (find_port port state.ports) ≡ true → is_some_bytes (owed_of port state) ≡ true
     → is_child (find_port port (at_moment moment state).ports) ≡ true

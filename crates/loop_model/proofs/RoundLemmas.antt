@@ -1,6 +1,5 @@
 -- A turn of the list: what is served stood first, the others keep their order, and it stands last where it can be served.
-use Rattle.std.proofs.Common.{◌≡◌, ◌∙◌, ℕ, Bool, true, false, List, [], ◌∷◌, ◌++◌, Option, Some, None, refl, sym, ap, cond, is_some, not, ◌&&◌, ◌||◌, if◌then◌else◌, arith}
-use Rattle.std.proofs.lemmas.Bool.Decides.{nat_tests}
+use Rattle.std.proofs.Common.{◌≡◌, ◌∙◌, ℕ, Bool, true, false, List, [], ◌∷◌, ◌++◌, Option, Some, None, refl, sym, ap, cond, is_some, not, ◌&&◌, ◌||◌, if◌then◌else◌}
 use Rattle.std.proofs.lemmas.List.{append-nil}
 use Rattle.std.specs.List.{filter}
 use Rattle.agent_model.specs.State.{Port, State, UnderWay, find_port, is_some_bytes, owed_by, wants_by}
@@ -15,20 +14,23 @@ use Rattle.loop_model.specs.Lines.{IsExact, IsListed, IsOrdered, Line, after_eve
 use Rattle.loop_model.specs.Queues.{AreApart, dropped, first_servable, is_next, is_thing}
 use Rattle.loop_model.proofs.AsideLemmas.{set_of-append, set_of-filter}
 use Rattle.loop_model.proofs.BackLemmas.{comes-recalled}
+use Rattle.loop_model.proofs.FilterLemmas.{absent-dropped, filter_alike}
 use Rattle.loop_model.proofs.QuietLemmas.{ordered-event}
-use Rattle.loop_model.proofs.TestLemmas.{and_both, both_and, or_left, or_right}
+use Rattle.loop_model.proofs.TestLemmas.{alike, and_both, both_and, or_left, or_right}
 use Rattle.loop_model.proofs.ThingLemmas.{false_by, same_thing-refl, same_thing-true}
 
 -- ---- exactly
 
-exact_by : (listed aside able : Bool) → (listed ≡ true → able ≡ true) → (aside ≡ true → able ≡ false)
+exact_by : (listed aside able : Bool) → (listed ≡ true → able ≡ true)
+    → (aside ≡ true → able ≡ false)
     → listed ≡ ((listed || aside) && able)
 exact_by true aside able is never = sym (is refl)
 exact_by false true able is never = sym (never refl)
 exact_by false false able is never = refl
 
 -- where the list can be served, and what is set aside can't be, the list is exact
-pub exact : (state : State) (line : Line) → IsOrdered state line → AreApart line.queue → IsExact state line
+pub exact : (state : State) (line : Line) → IsOrdered state line → AreApart line.queue
+    → IsExact state line
 exact state line ordered apart = record {
   each = λ thing.
       exact_by (set_of line.queue thing) (set_of (things_aside line.aside) thing) (is_servable state thing)
@@ -44,32 +46,17 @@ pub exact-listed : (state : State) (line : Line) → IsExact state line → IsLi
 exact-listed state line is thing there =
     able_by (set_of line.queue thing) (hot_of line thing) (is_servable state thing) (is.each thing) there
 
--- ---- what stood in the list and stands there yet
-
--- tests that agree on what stands there leave the same
-same_filter : (test other : Thing → Bool) (queue : List Thing)
-    → ((thing : Thing) → set_of queue thing ≡ true → test thing ≡ other thing) → filter test queue ≡ filter other queue
-same_filter test other [] agree = refl
-same_filter test other (first ∷ queue) agree =
-    let here = agree first (or_left (same_thing first first) (set_of queue first) (same_thing-refl first)) in
-    let rest = same_filter test other queue (λ thing there. agree thing (or_right (same_thing first thing) (set_of queue thing) there)) in
-    grind (arith, nat_tests)
-
--- a test is another where each leads to the other
-agree_by : (a b : Bool) → (a ≡ true → b ≡ true) → (b ≡ true → a ≡ true) → a ≡ b
-agree_by true b there back = sym (there refl)
-agree_by false true there back = back refl
-agree_by false false there back = refl
-
 -- ---- what was served stands last
 
-last_by : (stand able : Bool) (state : State) (thing : Thing) (line : Line) → stands thing state ≡ stand
+last_by : (stand able : Bool) (state : State) (thing : Thing) (line : Line)
+    → stands thing state ≡ stand
     → is_servable state thing ≡ able → (able ≡ true → stand ≡ true)
     → (if stand then (if able then record line { queue = line.queue ++ thing ∷ [] } else record line { aside = put_aside thing line.aside }) else line).queue
     ≡ line.queue ++ only_if able thing
 last_by true true state thing line stand able both = refl
 last_by true false state thing line stand able both = sym (append-nil line.queue)
-last_by false true state thing line stand able both = let no : false ≡ true = both refl in absurd (cc)
+last_by false true state thing line stand able both =
+    let no : false ≡ true = both refl in absurd (cc)
 last_by false false state thing line stand able both = sym (append-nil line.queue)
 
 -- what can be served stands
@@ -77,11 +64,13 @@ pub open_wants : (found : Option Port) → wants_by found ≡ true → is_some f
 open_wants None able = absurd (cc)
 open_wants (Some at) able = refl
 
-pub open_owed : (found : Option Port) (u : UnderWay) → is_some_bytes (owed_by found u) ≡ true → is_some found ≡ true
+pub open_owed : (found : Option Port) (u : UnderWay) → is_some_bytes (owed_by found u) ≡ true
+    → is_some found ≡ true
 open_owed None u able = absurd (cc)
 open_owed (Some at) u able = refl
 
-pub stands_able : (state : State) (thing : Thing) → is_servable state thing ≡ true → stands thing state ≡ true
+pub stands_able : (state : State) (thing : Thing) → is_servable state thing ≡ true
+    → stands thing state ≡ true
 stands_able state (Accept door) able = refl
 stands_able state (Read port) able = open_wants (find_port port state.ports) able
 stands_able state (Write port) able = open_owed (find_port port state.ports) state.under_way able
@@ -116,12 +105,13 @@ module _ (left : State) (closes : List ℕ) (own : Option ℕ) (line : Line) whe
   has-served : (thing : Thing)
       → set_of (after_event left closes own (Some thing) line).queue thing ≡ is_servable left thing
   has-served thing =
-      agree_by (set_of (after_event left closes own (Some thing) line).queue thing) (is_servable left thing)
+      alike (set_of (after_event left closes own (Some thing) line).queue thing) (is_servable left thing)
       ((ordered-event left closes own (Some thing) line).listed thing)
       (λ able. ap (λ (ts : List Thing). set_of ts thing) (after-queue thing)
       ∙ there_by (is_servable left thing) thing (kept ++ more) able)
 
-  kept_there : (rest : List Thing) (thing : Thing) → set_of line.queue thing ≡ true → is_servable left thing ≡ true
+  kept_there : (rest : List Thing) (thing : Thing) → set_of line.queue thing ≡ true
+      → is_servable left thing ≡ true
       → set_of ((kept ++ more) ++ rest) thing ≡ true
   kept_there rest thing there able =
       set_of-append (kept ++ more) rest thing
@@ -134,9 +124,9 @@ module _ (left : State) (closes : List ℕ) (own : Option ℕ) (line : Line) whe
   has-kept : (thing : Thing)
       → filter (set_of (after_event left closes own (Some thing) line).queue) line.queue ≡ kept
   has-kept thing =
-      same_filter (set_of (after_event left closes own (Some thing) line).queue) (is_servable left) line.queue
+      filter_alike (set_of (after_event left closes own (Some thing) line).queue) (is_servable left) line.queue
       (λ other there.
-      agree_by (set_of (after_event left closes own (Some thing) line).queue other) (is_servable left other)
+      alike (set_of (after_event left closes own (Some thing) line).queue other) (is_servable left other)
       ((ordered-event left closes own (Some thing) line).listed other)
       (λ able. ap (λ (ts : List Thing). set_of ts other) (after-queue thing)
       ∙ kept_there (only_if (is_servable left thing) thing) other there able))
@@ -177,9 +167,9 @@ module _ (left : State) (closes : List ℕ) (own : Option ℕ) (line : Line) whe
 
   has-stays : filter (set_of (after_event left closes own None line).queue) line.queue ≡ stays
   has-stays =
-      same_filter (set_of (after_event left closes own None line).queue) (is_servable left) line.queue
+      filter_alike (set_of (after_event left closes own None line).queue) (is_servable left) line.queue
       (λ thing there.
-      agree_by (set_of (after_event left closes own None line).queue thing) (is_servable left thing)
+      alike (set_of (after_event left closes own None line).queue thing) (is_servable left thing)
       ((ordered-event left closes own None line).listed thing) (stays_there thing there))
 
   pub event-keeps : KeepsOrder line.queue (after_event left closes own None line).queue
@@ -207,28 +197,9 @@ module _ (left : State) (closes : List ℕ) (own : Option ℕ) (line : Line) whe
 
 -- ---- what is served stands first
 
-dropped_apart : (thing : Thing) (queue : List Thing) → set_of queue thing ≡ false → dropped thing queue ≡ queue
-dropped_apart thing [] apart = refl
-dropped_apart thing (first ∷ queue) apart =
-    by_test (same_thing first thing) (same_thing thing first) (set_of queue thing) refl refl refl apart
-    (dropped_apart thing queue)
-  where
-    by_test : (here back later : Bool) → same_thing first thing ≡ here → same_thing thing first ≡ back
-        → set_of queue thing ≡ later → (here || later) ≡ false
-        → (set_of queue thing ≡ false → dropped thing queue ≡ queue)
-        → cond (not (same_thing thing first)) (first ∷ dropped thing queue) (dropped thing queue) ≡ first ∷ queue
-    by_test true back later is is_back rest none go = absurd (cc)
-    by_test false true later is is_back rest none go =
-        let same : thing ≡ first = same_thing-true thing first is_back in
-        let also : same_thing first thing ≡ true = ap (λ (t : Thing). same_thing t thing) (sym same) ∙ same_thing-refl thing in
-        let no : false ≡ true = sym is ∙ also in
-        absurd (cc)
-    by_test false false later is is_back rest none go =
-        ap (λ (b : Bool). cond (not b) (first ∷ dropped thing queue) (dropped thing queue)) is_back
-        ∙ ap (λ (ts : List Thing). first ∷ ts) (go (rest ∙ none))
-
 -- the first that can be served is the first of a list in which all can
-pub first_is : (state : State) (thing : Thing) (queue : List Thing) → IsListed state queue → AreApart queue
+pub first_is : (state : State) (thing : Thing) (queue : List Thing) → IsListed state queue
+    → AreApart queue
     → is_next state queue thing ≡ true → queue ≡ thing ∷ dropped thing queue
 first_is state thing [] listed apart next = absurd (cc)
 first_is state thing (first ∷ queue) listed apart next =
@@ -240,5 +211,5 @@ first_is state thing (first ∷ queue) listed apart next =
     let rest : dropped thing (first ∷ queue) ≡ queue =
     ap (λ (t : Thing). dropped t (first ∷ queue)) same
     ∙ ap (λ (b : Bool). cond (not b) (first ∷ dropped first queue) (dropped first queue)) (same_thing-refl first)
-    ∙ dropped_apart first queue apart.0 in
+    ∙ absent-dropped first queue apart.0 in
     ap (λ (ts : List Thing). first ∷ ts) (sym rest) ∙ ap (λ (t : Thing). t ∷ dropped thing (first ∷ queue)) (sym same)

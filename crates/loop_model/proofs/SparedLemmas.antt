@@ -1,5 +1,5 @@
 -- What events do to the ports other than their own.
-use Rattle.std.proofs.Common.{◌≡◌, ◌≢◌, ◌==◌, ℕ, List, [], ◌∷◌, refl, ap, sym, subst, inl, inr, Option, Some, None, true, false, ◌∙◌, eq-eqb}
+use Rattle.std.proofs.Common.{◌≡◌, ◌≢◌, ◌==◌, ℕ, List, refl, ap, sym, subst, inl, inr, Option, Some, None, true, false, ◌∙◌, eq-eqb}
 use Rattle.std.specs.Option.{option_map}
 use Rattle.std.proofs.lemmas.Bool.{cases_eq}
 use Rattle.wire_text.specs.Frames.{Front, Whole, Bad, More}
@@ -42,7 +42,8 @@ module _ (IsQuiet : (Port → Port) → Type 0) (port : ℕ) (start : List Port)
   Spared state = Left state.ports
 
   -- the numbers still rise
-  pub spares-rising : (low high : ℕ) {new : List Port} → Left new → IsRising low high start → IsRising low high new
+  pub spares-rising : (low high : ℕ) {new : List Port} → Left new → IsRising low high start
+      → IsRising low high new
   spares-rising low high same rising = rising
   spares-rising low high (quiet number f ports keeps is spares) rising =
       rising-change_port number low high f ports keeps (spares-rising low high spares rising)
@@ -66,7 +67,8 @@ module _ (IsQuiet : (Port → Port) → Type 0) (port : ℕ) (start : List Port)
   spared-front More at state other spared = spared
 
   -- once its port was changed
-  pub spared-looked : (number : ℕ) (at : Port) (f : Port → Port) (state : State) → find_port number state.ports ≡ Some at
+  pub spared-looked : (number : ℕ) (at : Port) (f : Port → Port) (state : State)
+      → find_port number state.ports ≡ Some at
       → KeepsNumber f → port ≢ number → Spared state → Spared (looked number (changed number f state)).state
   spared-looked number at f state is keeps other spared =
       let next = changed number f state in
@@ -98,19 +100,23 @@ module _ (IsQuiet : (Port → Port) → Type 0) (port : ℕ) (start : List Port)
       spared-quiet {old} (links job number new) spared =
           alters number unheard old.ports (λ p. refl) (elsewhere number (_, hears new.piece new.came)) spared
 
-      pub spared-makes : {old : State} {outcome : Outcome} → Makes event old outcome → Spared old → Spared outcome.state
+      pub spared-makes : {old : State} {outcome : Outcome} → Makes event old outcome → Spared old
+          → Spared outcome.state
       spared-makes (stays state) spared = spared
       spared-makes (first change rest) spared = spared-makes rest (spared-quiet change spared)
       spared-makes (serves body_len at state found door waits owed own) spared =
           spared-front (Whole body_len) at state (elsewhere at.number own) spared
-      spared-makes (tells piece state) spared = spares-told (told-heard state.ports piece state untold) spared
+      spared-makes (tells piece state) spared =
+          spares-told (told-heard state.ports piece state untold) spared
       spared-makes (loses state) spared = spares-told (told-lose state.ports state untold) spared
-      spared-makes (overs confirmation state there) spared = spares-told (told-over state.ports confirmation state untold) spared
+      spared-makes (overs confirmation state there) spared =
+          spares-told (told-over state.ports confirmation state untold) spared
       spared-makes (grants confirmation at state there opened) spared =
           spares-told (told-grant state.ports state (grant-ends at.chain confirmation state) untold) spared
 
 -- an event that isn't of a port is of another
-pub elsewhere : (event : Happening) (last port : ℕ) → is_of event last port ≡ false → (number : ℕ) → IsOf event number
+pub elsewhere : (event : Happening) (last port : ℕ) → is_of event last port ≡ false → (number : ℕ)
+    → IsOf event number
     → port ≢ number
 elsewhere event last port other number of_it equal = by_change of_it.1
   where

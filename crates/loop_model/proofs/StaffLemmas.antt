@@ -39,12 +39,15 @@ coming-remove link number (one ∷ started) coming =
     by false rest = (coming.0, rest)
 
 -- one more is started
-coming-push : (link : LinkState) (started : List StartedJob) (one : StartedJob) → AreComing link started
+coming-push : (link : LinkState) (started : List StartedJob) (one : StartedJob)
+    → AreComing link started
     → IsComing one.job.kind one.job.number link → AreComing link (started ++ one ∷ [])
 coming-push link [] one coming is = (is, tt)
-coming-push link (first ∷ started) one coming is = (coming.0, coming-push link started one coming.1 is)
+coming-push link (first ∷ started) one coming is =
+    (coming.0, coming-push link started one coming.1 is)
 
-coming-found : (link : LinkState) (number : ℕ) (started : List StartedJob) (one : StartedJob) → AreComing link started
+coming-found : (link : LinkState) (number : ℕ) (started : List StartedJob) (one : StartedJob)
+    → AreComing link started
     → find_started number started ≡ Some one → IsComing one.job.kind one.job.number link
 coming-found link number [] one coming found = absurd (cc)
 coming-found link number (first ∷ started) one coming found =
@@ -73,19 +76,22 @@ coming-begun link job (one ∷ started) coming =
     (begun-one one.job.kind one.job.number job link coming.0, coming-begun link job started coming.1)
 
 -- a helper that is there has none
-linked-one : (kind : JobKind) (number port : ℕ) (new : LinkState) → IsComing kind number (states.Linked port)
+linked-one : (kind : JobKind) (number port : ℕ) (new : LinkState)
+    → IsComing kind number (states.Linked port)
     → IsComing kind number new
 linked-one kinds.Helper number port new coming = absurd (cc)
 linked-one kinds.Confirm number port new coming = tt
 
-coming-linked : (port : ℕ) (new : LinkState) (started : List StartedJob) → AreComing (states.Linked port) started
+coming-linked : (port : ℕ) (new : LinkState) (started : List StartedJob)
+    → AreComing (states.Linked port) started
     → AreComing new started
 coming-linked port new [] coming = tt
 coming-linked port new (one ∷ started) coming =
     (linked-one one.job.kind one.job.number port new coming.0, coming-linked port new started coming.1)
 
 -- and without the job by which it is being started there is none
-other-one : (kind : JobKind) (number job : ℕ) (new : LinkState) → IsComing kind number (states.Starting job)
+other-one : (kind : JobKind) (number job : ℕ) (new : LinkState)
+    → IsComing kind number (states.Starting job)
     → (number == job) ≡ false → IsComing kind number new
 other-one kinds.Helper number job new coming other =
     let same : number ≡ job = cc in
@@ -93,7 +99,8 @@ other-one kinds.Helper number job new coming other =
     absurd (cc)
 other-one kinds.Confirm number job new coming other = tt
 
-none-other : (job : ℕ) (new : LinkState) (started : List StartedJob) → AreComing (states.Starting job) started
+none-other : (job : ℕ) (new : LinkState) (started : List StartedJob)
+    → AreComing (states.Starting job) started
     → find_to_start job (jobs_of started) ≡ None → AreComing new started
 none-other job new [] coming none = tt
 none-other job new (one ∷ started) coming none =
@@ -128,7 +135,8 @@ lost_by (states.Starting job) last desk due started kept coming = (
 lost_by (states.Linked port) last desk due started kept coming =
     (kept, coming-linked port states.None started coming)
 
-pub staffed-lost : (state : State) → IsStaffed state.under_way → IsStaffed (lose state).state.under_way
+pub staffed-lost : (state : State) → IsStaffed state.under_way
+    → IsStaffed (lose state).state.under_way
 staffed-lost state staffed =
     let u = state.under_way in
     let both = lost_by u.link.state u.last_job u.confirmations u.to_start u.started staffed.jobs staffed.coming in
@@ -136,7 +144,8 @@ staffed-lost state staffed =
 
 -- ---- asks and confirmations
 
-put_by : (link : LinkState) (last : ℕ) (desk : List Confirmation) (due begun : List Job) → AreKept last desk due begun
+put_by : (link : LinkState) (last : ℕ) (desk : List Confirmation) (due begun : List Job)
+    → AreKept last desk due begun
     → AreKept (last_job_for link last) desk (due ++ helper_jobs link (last + 1)) begun
 put_by states.None last desk due begun kept = kept-helper last desk due begun kept
 put_by (states.Starting job) last desk due begun kept =
@@ -144,7 +153,8 @@ put_by (states.Starting job) last desk due begun kept =
 put_by (states.Linked port) last desk due begun kept =
     subst (λ jobs. AreKept last desk jobs begun) (sym (append-nil due)) kept
 
-pub staffed-put : (errand : Errand) (asker : ℕ) (u : UnderWay) → IsStaffed u → IsStaffed (with_ask errand asker u)
+pub staffed-put : (errand : Errand) (asker : ℕ) (u : UnderWay) → IsStaffed u
+    → IsStaffed (with_ask errand asker u)
 staffed-put errand asker u staffed = record {
   jobs = put_by u.link.state u.last_job u.confirmations u.to_start (jobs_of u.started) staffed.jobs;
   coming = coming-begun u.link.state (u.last_job + 1) u.started staffed.coming;
@@ -169,7 +179,8 @@ staffed-over job u staffed =
     }
 
 -- one whose child process came is changed
-pub staffed-changed : (u : UnderWay) (port : ℕ) (one : Confirmation) (f : Confirmation → Confirmation) → IsStaffed u
+pub staffed-changed : (u : UnderWay) (port : ℕ) (one : Confirmation) (f : Confirmation → Confirmation)
+    → IsStaffed u
     → find_job one.job u.confirmations ≡ Some one → one.port ≡ Some port → ((c : Confirmation) → (f c).job ≡ c.job)
     → IsStaffed (record u { confirmations = change_job one.job f u.confirmations })
 staffed-changed u port one f staffed found at keeps = record {
@@ -217,7 +228,8 @@ staffed-dropped u number staffed =
     })) (sym (append-nil u.started)) (staffed-left u number staffed)
 
 -- what is wanted: the helper that is being started by this job, or the confirmation
-starting_is : (number : ℕ) (link : LinkState) → is_started_by number link ≡ true → link ≡ states.Starting number
+starting_is : (number : ℕ) (link : LinkState) → is_started_by number link ≡ true
+    → link ≡ states.Starting number
 starting_is number states.None is = absurd (cc)
 starting_is number (states.Starting job) is = ap states.Starting (eqb-true job number is)
 starting_is number (states.Linked port) is = absurd (cc)
@@ -227,7 +239,8 @@ wanted_coming : (kind : JobKind) (number : ℕ) (u : UnderWay) → is_wanted kin
 wanted_coming kinds.Helper number u is = starting_is number u.link.state is
 wanted_coming kinds.Confirm number u is = tt
 
-wanted_there : (kind : JobKind) (number : ℕ) (u : UnderWay) → is_wanted kind number u ≡ true → kind ≡ kinds.Confirm
+wanted_there : (kind : JobKind) (number : ℕ) (u : UnderWay) → is_wanted kind number u ≡ true
+    → kind ≡ kinds.Confirm
     → find_job number u.confirmations ≡ None → ⊥
 wanted_there kinds.Helper number u is kind none = absurd (cc)
 wanted_there kinds.Confirm number u is kind none =
@@ -243,7 +256,8 @@ started_by true u number job ticket staffed found is =
     staffed-moved u number job ticket staffed found (wanted_there job.kind job.number u is)
     (wanted_coming job.kind job.number u is)
 
-pub staffed-started : (found : Option Job) (u : UnderWay) (number : ℕ) (ticket : List ℕ) → IsStaffed u
+pub staffed-started : (found : Option Job) (u : UnderWay) (number : ℕ) (ticket : List ℕ)
+    → IsStaffed u
     → find_to_start number u.to_start ≡ found → IsStaffed (record u {
       to_start = remove_to_start number u.to_start;
       started = u.started ++ started_if found ticket u;
@@ -254,12 +268,14 @@ staffed-started (Some job) u number ticket staffed is =
 
 -- ---- child processes name themselves
 
-job_found : (number : ℕ) (started : List StartedJob) (one : StartedJob) → find_started number started ≡ Some one
+job_found : (number : ℕ) (started : List StartedJob) (one : StartedJob)
+    → find_started number started ≡ Some one
     → find_to_start number (jobs_of started) ≡ Some one.job
 job_found number started one found = started-jobs number started ∙ ap (option_map the_job) found
 
 -- a started helper is the one that is being started
-named_starting : (u : UnderWay) (number : ℕ) (one : StartedJob) → IsStaffed u → find_started number u.started ≡ Some one
+named_starting : (u : UnderWay) (number : ℕ) (one : StartedJob) → IsStaffed u
+    → find_started number u.started ≡ Some one
     → one.job.kind ≡ kinds.Helper → u.link.state ≡ states.Starting number
 named_starting u number one staffed found is =
     let own : one.job.number ≡ number = found_key started_number number u.started one found in
@@ -274,7 +290,8 @@ not_linked u number port one staffed found is linked =
     sym (named_starting u number one staffed found is) ∙ linked in
     absurd (cc)
 
-pub staffed-helper : (u : UnderWay) (number : ℕ) (one : StartedJob) (link : HelperLink) → IsStaffed u
+pub staffed-helper : (u : UnderWay) (number : ℕ) (one : StartedJob) (link : HelperLink)
+    → IsStaffed u
     → find_started number u.started ≡ Some one → one.job.kind ≡ kinds.Helper
     → IsStaffed (record u { link = link; started = remove_started number u.started })
 staffed-helper u number one link staffed found is = record {
@@ -301,12 +318,14 @@ staffed-linked u number port one staffed found =
     }
 
 -- the confirmation of a started job is one that no child process came for
-awaited_by : (kind : JobKind) (found : Option Confirmation) → kind ≡ kinds.Confirm → FitsStarted kind found
+awaited_by : (kind : JobKind) (found : Option Confirmation) → kind ≡ kinds.Confirm
+    → FitsStarted kind found
     → IsAwaited found
 awaited_by kinds.Helper found is fits = absurd (cc)
 awaited_by kinds.Confirm found is fits = fits
 
-pub awaited : (u : UnderWay) (number : ℕ) (one : StartedJob) → IsStaffed u → find_started number u.started ≡ Some one
+pub awaited : (u : UnderWay) (number : ℕ) (one : StartedJob) → IsStaffed u
+    → find_started number u.started ≡ Some one
     → one.job.kind ≡ kinds.Confirm → IsAwaited (find_job number u.confirmations)
 awaited u number one staffed found is =
     awaited_by one.job.kind (find_job number u.confirmations) is

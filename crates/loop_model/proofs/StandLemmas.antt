@@ -48,7 +48,8 @@ child_kept (Some at) before kept opened =
     ap (λ d. not (is_client d)) was.2 ∙ sym (ap is_child was.1)
 
 -- a port that is open isn't the next that joins
-never_next : (port last : ℕ) (ports : List Port) → IsRising 0 last ports → is_some (find_port port ports) ≡ true
+never_next : (port last : ℕ) (ports : List Port) → IsRising 0 last ports
+    → is_some (find_port port ports) ≡ true
     → (suc last == port) ≡ false
 never_next port last ports rising opened =
     let one = some_port (find_port port ports) opened in
@@ -73,7 +74,8 @@ kept_by event state port rising other =
     rising found)
 
 -- so it was open
-opened_before : (event : Happening) (state : State) (port : ℕ) → IsRising 0 state.last_port state.ports
+opened_before : (event : Happening) (state : State) (port : ℕ)
+    → IsRising 0 state.last_port state.ports
     → (suc state.last_port == port) ≡ false → is_open port (handle event state).state ≡ true
     → is_open port state ≡ true
 opened_before event state port rising other opened =
@@ -88,7 +90,8 @@ opened_before event state port rising other opened =
 
 -- ---- what is owed
 
-child_or : (found : Option Port) → is_some found ≡ true → is_clients found ≡ false → is_child found ≡ true
+child_or : (found : Option Port) → is_some found ≡ true → is_clients found ≡ false
+    → is_child found ≡ true
 child_or None opened other = absurd (cc)
 child_or (Some at) opened other = ap not other
 
@@ -124,13 +127,15 @@ servable_handled state event (Write port) orderly never able opened =
 
 -- ---- and at a moment, before its event
 
-has_door : (client : Bool) (found : Option Port) → is_clients found ≡ client → (at : Port) → found ≡ Some at
+has_door : (client : Bool) (found : Option Port) → is_clients found ≡ client → (at : Port)
+    → found ≡ Some at
     → is_client at.door ≡ client
 has_door client None is at found = absurd (cc)
 has_door client (Some one) is at found =
     let same : one ≡ at = cc in ap (λ (p : Port). is_client p.door) (sym same) ∙ is
 
-clients_by : (client : Bool) (found : Option Port) → ((at : Port) → found ≡ Some at → is_client at.door ≡ client)
+clients_by : (client : Bool) (found : Option Port)
+    → ((at : Port) → found ≡ Some at → is_client at.door ≡ client)
     → is_some found ≡ true → is_clients found ≡ client
 clients_by client None door opened = absurd (cc)
 clients_by client (Some at) door opened = door at refl
@@ -149,7 +154,8 @@ owed_either_at false state moment port orderly client some opened =
     child_owed_at state moment port orderly (child_or (find_port port state.ports) was client) some
     (child_or (find_port port (at_moment moment state).ports) opened kept)
 
-servable_at : (state : State) (moment : Moment) (thing : Thing) → IsOrderly state → is_servable state thing ≡ true
+servable_at : (state : State) (moment : Moment) (thing : Thing) → IsOrderly state
+    → is_servable state thing ≡ true
     → stands thing (at_moment moment state) ≡ true → is_servable (at_moment moment state) thing ≡ true
 servable_at state moment (Accept door) orderly able opened =
     ap (λ n. nat_lt n (2 ^ 64 - 1)) (at_moment-follows moment state).last ∙ able
@@ -178,7 +184,8 @@ stood state moment event (Read port) orderly able opened =
 stood state moment event (Write port) orderly able opened =
     stood-port state moment event port orderly (open_owed (find_port port state.ports) state.under_way able) opened
 
-pub servable_after : (state : State) (moment : Moment) (event : Happening) (thing : Thing) → IsOrderly state
+pub servable_after : (state : State) (moment : Moment) (event : Happening) (thing : Thing)
+    → IsOrderly state
     → may_end event thing ≡ false → is_servable state thing ≡ true → stands thing (step state moment event).state ≡ true
     → is_servable (step state moment event).state thing ≡ true
 servable_after state moment event thing orderly never able opened =

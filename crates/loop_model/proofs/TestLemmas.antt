@@ -1,5 +1,5 @@
 -- Tests that are joined.
-use Rattle.std.proofs.Common.{◌≡◌, ◌⊎◌, inl, inr, Bool, true, false, refl, ◌&&◌, ◌||◌, not, if◌then◌else◌}
+use Rattle.std.proofs.Common.{◌≡◌, ◌⊎◌, inl, inr, Bool, true, false, refl, sym, ◌&&◌, ◌||◌, not, if◌then◌else◌}
 pub use Rattle.std.proofs.lemmas.Bool.{and_from as both_and, not_from_false as false_not, or_left, or_right}
 
 -- both hold
@@ -38,3 +38,19 @@ both_if false false there other = refl
 pub or_assoc : (a b c : Bool) → ((a || b) || c) ≡ (a || (b || c))
 or_assoc true b c = refl
 or_assoc false b c = refl
+
+-- no test holds and doesn't
+pub true_false : (test : Bool) → test ≡ true → test ≡ false → ⊥
+true_false true is isnt = cc
+true_false false is isnt = cc
+
+-- a test is another where each leads to the other
+pub alike : (a b : Bool) → (a ≡ true → b ≡ true) → (b ≡ true → a ≡ true) → a ≡ b
+alike true b there back = sym (there refl)
+alike false true there back = back refl
+alike false false there back = refl
+
+-- where neither holds, none of both does
+pub neither : (a b : Bool) → a ≡ false → b ≡ false → (a || b) ≡ false
+neither true b first second = absurd (cc)
+neither false b first second = second

@@ -28,7 +28,7 @@ is_clients (Some port) = is_client port.door
 abbrev pub ends_by : UnderWay → Bool
 ends_by under_way = is_helper_late under_way || list_any (is_late under_way) under_way.confirmations
 
--- so it is once the moment was taken in, so that it tells clients, and closes ports of child processes
+-- once the moment was taken in, a wait is over, which tells clients and closes ports of child processes
 abbrev pub ends_waits : Moment → State → Bool
 ends_waits moment state = ends_by (taken_in moment state).under_way
 

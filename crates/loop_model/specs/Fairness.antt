@@ -7,7 +7,7 @@ use Rattle.loop_model.specs.Servable.{is_servable}
 use Rattle.loop_model.specs.Things.{same_thing, set_of}
 use Rattle.loop_model.specs.declared.thing.Thing.{Thing}
 use Rattle.loop_model.specs.declared.thing.Thing.TheVariants.{Accept, Read, Write}
-use Rattle.loop_model.specs.LegalJournal.{LoopState, taken}
+use Rattle.loop_model.specs.LegalJournal.{LoopState, after_if_legal}
 use Rattle.loop_model.specs.Lines.{hot_of}
 
 -- ---- a service
@@ -45,15 +45,15 @@ pub record GoesRound (thing : Thing) (before after : List Thing) : Type 0 where
 
 -- the thing is ready, and can be served
 abbrev pub is_waiting : Thing → LoopState → Bool
-is_waiting thing turning = hot_of turning.line thing && is_servable turning.state thing
+is_waiting thing reading = hot_of reading.line thing && is_servable reading.state thing
 
 -- a test holds of the reading, where the journal reads
 abbrev pub if_any : (LoopState → Bool) → Option LoopState → Bool
 if_any test None = true
-if_any test (Some turning) = test turning
+if_any test (Some reading) = test reading
 
 -- the thing is so there, and after each of the entries
 abbrev pub waits_on : Thing → LoopState → List Entry → Bool
-waits_on thing turning [] = is_waiting thing turning
-waits_on thing turning (next ∷ later) =
-    is_waiting thing turning && if_any (λ after. waits_on thing after later) (taken turning next)
+waits_on thing reading [] = is_waiting thing reading
+waits_on thing reading (next ∷ later) =
+    is_waiting thing reading && if_any (λ after. waits_on thing after later) (after_if_legal reading next)

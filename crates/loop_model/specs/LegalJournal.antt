@@ -45,19 +45,19 @@ is_first_job job (first ∷ later) = (job.number == first.number) && same_kind j
 
 -- the first thing of the queue that can be served, the first job that waits, or what has to come
 abbrev pub comes_next : LoopState → Entry → Bool
-comes_next turning (entry.Bind door path answer) = false
-comes_next turning (entry.Poll wait items answer) =
-    is_polling turning.due && same_wait wait (wait_of turning.state)
-comes_next turning (entry.Accept door answer) =
-    is_free turning.due && is_next turning.state turning.line.queue (Accept door)
-comes_next turning (entry.Read port room bytes answer) =
-    is_free turning.due && (is_next turning.state turning.line.queue (Read port) && (room == read_room))
-comes_next turning (entry.Write port offered answer) =
-    is_free turning.due
-    && (is_next turning.state turning.line.queue (Write port) && bytes_eq offered (owed_of port turning.state))
-comes_next turning (entry.Close port answer) = is_closing port turning.due
-comes_next turning (entry.Start job answer) = is_free turning.due && is_first_job job (starts turning.state)
-comes_next turning (entry.Now answer) = reads_clock turning.due (is_idle turning.state turning.line)
+comes_next reading (entry.Bind door path answer) = false
+comes_next reading (entry.Poll wait items answer) =
+    is_polling reading.due && same_wait wait (wait_of reading.state)
+comes_next reading (entry.Accept door answer) =
+    is_free reading.due && is_next reading.state reading.line.queue (Accept door)
+comes_next reading (entry.Read port room bytes answer) =
+    is_free reading.due && (is_next reading.state reading.line.queue (Read port) && (room == read_room))
+comes_next reading (entry.Write port offered answer) =
+    is_free reading.due
+    && (is_next reading.state reading.line.queue (Write port) && bytes_eq offered (owed_of port reading.state))
+comes_next reading (entry.Close port answer) = is_closing port reading.due
+comes_next reading (entry.Start job answer) = is_free reading.due && is_first_job job (starts reading.state)
+comes_next reading (entry.Now answer) = reads_clock reading.due (is_idle reading.state reading.line)
 
 -- ---- how it reads then
 
@@ -83,33 +83,25 @@ abbrev pub closed_by : State → List Timed → List ℕ
 closed_by state [] = []
 closed_by state (timed ∷ later) = (step state timed.moment timed.event).closes
 
--- after an entry that leads to this state and this line, and that closed these ports
-abbrev pub left_by : Due → Entry → List ℕ → State → Line → LoopState
-left_by due next closes state line = in_state state line (due_after due closes (is_idle state line) next)
+-- how it reads after this entry, whose events lead to a state, and close ports
+abbrev pub after_entry : LoopState → Entry → LoopState
+after_entry reading next =
+    let events = events_brought reading.due next in
+    let closes = closed_by reading.state events in
+    let state = run reading.state events in
+    let line = moved reading.state reading.due state closes next reading.line in
+    in_state state line (due_after reading.due closes (is_idle state line) next)
 
--- after an entry that leads to this state
-abbrev pub led_to : LoopState → Entry → List ℕ → State → LoopState
-led_to turning next closes state =
-    left_by turning.due next closes state (moved turning.state turning.due state closes next turning.line)
+-- how it reads after this entry, where a test says that the entry may come
+abbrev pub after_if : Bool → LoopState → Entry → Option LoopState
+after_if true reading next = Some (after_entry reading next)
+after_if false reading next = None
 
--- after an entry that brings these events
-abbrev pub led_by : LoopState → Entry → List Timed → LoopState
-led_by turning next events = led_to turning next (closed_by turning.state events) (run turning.state events)
+-- how it reads after this entry, where that may come
+abbrev pub after_if_legal : LoopState → Entry → Option LoopState
+after_if_legal reading next = after_if (comes_next reading next) reading next
 
--- after an entry
-abbrev pub led : LoopState → Entry → LoopState
-led turning next = led_by turning next (events_brought turning.due next)
-
--- the reading goes on with this entry, where the test holds
-abbrev pub taken_if : Bool → LoopState → Entry → Option LoopState
-taken_if true turning next = Some (led turning next)
-taken_if false turning next = None
-
--- the entry may come, and this is how it reads then
-abbrev pub taken : LoopState → Entry → Option LoopState
-taken turning next = taken_if (comes_next turning next) turning next
-
--- the entries may come one after another
-abbrev pub turned : LoopState → List Entry → Option LoopState
-turned turning [] = Some turning
-turned turning (next ∷ later) = option_and_then (λ after. turned after later) (taken turning next)
+-- how it reads after these entries, where each may come behind those before it
+abbrev pub after_entries : LoopState → List Entry → Option LoopState
+after_entries reading [] = Some reading
+after_entries reading (next ∷ later) = option_and_then (λ after. after_entries after later) (after_if_legal reading next)

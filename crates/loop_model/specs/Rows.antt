@@ -14,7 +14,7 @@ use Rattle.helper_link.specs.declared.ask.AskKind.TheVariants as kinds
 use Rattle.helper_link.specs.declared.state.LinkState.TheVariants as states
 use Rattle.agent_model.specs.State.{OnAsk, State, first_state, new_port, no_settings, nothing_under_way}
 use Rattle.loop_model.specs.Dues.{Free}
-use Rattle.loop_model.specs.LegalJournal.{in_state, turned}
+use Rattle.loop_model.specs.LegalJournal.{after_entries, in_state}
 use Rattle.loop_model.specs.Lines.{Line}
 use Rattle.loop_model.specs.declared.thing.Thing.{Thing}
 
@@ -58,11 +58,11 @@ queue_of queue = line_of queue [] [] []
 
 -- the calls may come in this state, with this queue and nothing aside
 abbrev pub comes_in_turn : State → List Thing → List Entry → Bool
-comes_in_turn state queue entries = is_some (turned (in_state state (queue_of queue) Free) entries)
+comes_in_turn state queue entries = is_some (after_entries (in_state state (queue_of queue) Free) entries)
 
 -- the calls may come in the state in which the client waits and can be written to
 abbrev pub comes_as_it_waits : List Entry → Bool
-comes_as_it_waits entries = is_some (turned (in_state waiting_client (line_of [] [] [] (1 ∷ [])) Free) entries)
+comes_as_it_waits entries = is_some (after_entries (in_state waiting_client (line_of [] [] [] (1 ∷ [])) Free) entries)
 
 -- from the start, both listeners bound and nothing ready
 abbrev pub is_legal : List Entry → Bool

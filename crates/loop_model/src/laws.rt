@@ -14,7 +14,7 @@ ghost use Rattle.agent_model.specs.Step.{step};
 ghost use Rattle.loop_model.specs.Dues.{Free};
 ghost use Rattle.loop_model.specs.Elsewhere.{ends_waits, is_clients, is_due, is_of, may_end, stands, tells_others};
 ghost use Rattle.loop_model.specs.Fronts.{HasFront, RestsAfter};
-ghost use Rattle.loop_model.specs.LegalJournal.{LoopState, in_state, turned};
+ghost use Rattle.loop_model.specs.LegalJournal.{LoopState, after_entries, in_state};
 ghost use Rattle.loop_model.specs.Lines.{Line};
 ghost use Rattle.loop_model.specs.Orderly.{IsOrderly};
 ghost use Rattle.loop_model.specs.Servable.{is_servable};
@@ -23,14 +23,14 @@ ghost use Rattle.loop_model.specs.declared.thing.Thing.{Thing};
 /// Every front of a legal journal is legal, and the rest is legal from where it leads to.
 pub fn every_front_is_legal()
     ensures { (from to : LoopState) (first later : List Entry)
-        → turned from (first ++ later) ≡ Some to → HasFront from to first later }
+        → after_entries from (first ++ later) ≡ Some to → HasFront from to first later }
 {}
 
 /// No poll stands in a legal journal where something can be served, a job waits or a port is to be closed.
 pub fn nothing_waits_at_a_poll()
     ensures { (state : State) (line : Line) (to : LoopState) (first later : List Entry) (wait : Option ℕ)
         (items : List Ready) (answer : Result Polled WorldFault)
-        → turned (in_state state line Free) (first ++ entry.Poll wait items answer ∷ later) ≡ Some to
+        → after_entries (in_state state line Free) (first ++ entry.Poll wait items answer ∷ later) ≡ Some to
         → RestsAfter (in_state state line Free) first }
 {}
 

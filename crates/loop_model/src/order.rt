@@ -8,7 +8,7 @@ ghost use Rattle.loop_model.specs.Aside.{things_aside};
 ghost use Rattle.loop_model.specs.Things.{same_thing, set_of};
 ghost use Rattle.loop_model.specs.declared.thing.Thing.{Thing};
 ghost use Rattle.loop_model.specs.Fairness.{GoesRound, KeepsOrder, if_any, is_service, waits_on};
-ghost use Rattle.loop_model.specs.LegalJournal.{LoopState, taken, turned};
+ghost use Rattle.loop_model.specs.LegalJournal.{LoopState, after_entries, after_if_legal};
 ghost use Rattle.agent_model.specs.Events.{Happening};
 ghost use Rattle.agent_model.specs.Sound.{IsRising};
 ghost use Rattle.agent_model.specs.State.{State};
@@ -19,9 +19,9 @@ ghost use Rattle.loop_model.specs.Servable.{is_servable};
 
 /// What the list holds can be served, and what is set aside can't be, where that was so before, as when a run begins.
 pub fn the_list_holds_what_can_be_served()
-    ensures ordered { (from to : LoopState) (entries : List Entry) → turned from entries ≡ Some to
+    ensures ordered { (from to : LoopState) (entries : List Entry) → after_entries from entries ≡ Some to
         → IsOrdered from.state from.line → IsOrdered to.state to.line }
-    ensures quiet { (from to : LoopState) (entries : List Entry) → turned from entries ≡ Some to
+    ensures quiet { (from to : LoopState) (entries : List Entry) → after_entries from entries ≡ Some to
         → IsQuiet from.state from.line → IsQuiet to.state to.line }
 {}
 
@@ -45,9 +45,9 @@ pub fn nothing_that_is_ready_is_lost()
 /// Between two services of one thing each other thing was served that was ready and could be served all the while.
 pub fn all_wait_their_turn()
     ensures { (from to : LoopState) (thing other : Thing) (first last : Entry) (between : List Entry)
-        → IsQuiet from.state from.line → turned from (first ∷ (between ++ last ∷ [])) ≡ Some to
+        → IsQuiet from.state from.line → after_entries from (first ∷ (between ++ last ∷ [])) ≡ Some to
         → is_service thing first ≡ true → is_service thing last ≡ true → same_thing thing other ≡ false
-        → if_any (λ after. waits_on other after between) (taken from first) ≡ true
+        → if_any (λ after. waits_on other after between) (after_if_legal from first) ≡ true
         → list_any (is_service other) between ≡ true }
 {}
 

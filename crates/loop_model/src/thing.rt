@@ -1,3 +1,5 @@
+//! The things that can be served.
+
 use world_ports::Door;
 
 /// What can be served: a listener, or one direction of a connection by its number.

@@ -23,13 +23,13 @@ use Rattle.agent_model.specs.State.{State, find_port, owed_of, starts}
 use Rattle.agent_model.specs.Step.{step}
 use Rattle.loop_model.specs.Calls.{served_of}
 use Rattle.loop_model.specs.Dues.{Closing, Free, NowFor, Polling, due_look, due_of, port_of, same_wait, wait_of}
-use Rattle.loop_model.specs.LegalJournal.{in_state, is_first_job, led, taken}
+use Rattle.loop_model.specs.LegalJournal.{after_entry, after_if_legal, in_state, is_first_job}
 use Rattle.world_ports.specs.Worlds.{read_room}
 use Rattle.loop_model.specs.Lines.{Line, after_event, in_hand, is_idle}
 use Rattle.loop_model.specs.Queues.{first_servable, is_next, is_thing}
 use Rattle.loop_model.specs.declared.thing.Thing.{Thing}
 use Rattle.loop_model.specs.declared.thing.Thing.TheVariants.{Accept, Read, Write}
-use Rattle.loop_model.proofs.JournalLemmas.{taken-is}
+use Rattle.loop_model.proofs.JournalLemmas.{after_if_legal-is}
 use Rattle.loop_model.proofs.TestLemmas.{both_and}
 use Rattle.loop_model.proofs.ThingLemmas.{same_thing-refl}
 use Rattle.ready_loop.specs.Moves.{Advances, is_poll}
@@ -39,13 +39,13 @@ use Rattle.ready_loop.proofs.TurningLemmas.{advances_once}
 -- ---- the moment of an event, and closing
 
 pub now-any : (state : State) (line : Line) (event : Happening) (answer : Result Moment AllocError)
-    → taken (in_state state line (NowFor event)) (entry.Now answer)
-    ≡ Some (led (in_state state line (NowFor event)) (entry.Now answer))
+    → after_if_legal (in_state state line (NowFor event)) (entry.Now answer)
+    ≡ Some (after_entry (in_state state line (NowFor event)) (entry.Now answer))
 now-any state line event answer = refl
 
 pub now-taken : (state next : State) (closes : List ℕ) (line : Line) (event : Happening) (moment : Moment)
     → next ≡ (step state moment event).state → closes ≡ (step state moment event).closes
-    → taken (in_state state line (NowFor event)) (entry.Now (Ok moment))
+    → after_if_legal (in_state state line (NowFor event)) (entry.Now (Ok moment))
     ≡ Some (in_state next (after_event next closes (port_of event next.last_port) (served_of event) line)
     (due_of closes))
 now-taken state next closes line event moment is closed =
@@ -56,13 +56,13 @@ now-taken state next closes line event moment is closed =
     (sym closed)
 
 pub close-any : (state : State) (line : Line) (port : ℕ) (later : List ℕ) (answer : Result Unit AllocError)
-    → taken (in_state state line (Closing port later)) (entry.Close port answer)
-    ≡ Some (led (in_state state line (Closing port later)) (entry.Close port answer))
+    → after_if_legal (in_state state line (Closing port later)) (entry.Close port answer)
+    ≡ Some (after_entry (in_state state line (Closing port later)) (entry.Close port answer))
 close-any state line port later answer =
-    taken-is (in_state state line (Closing port later)) (entry.Close port answer) ((Decides-eqb port port).1 refl)
+    after_if_legal-is (in_state state line (Closing port later)) (entry.Close port answer) ((Decides-eqb port port).1 refl)
 
 pub close-taken : (state : State) (line : Line) (port : ℕ) (later : List ℕ)
-    → taken (in_state state line (Closing port later)) (entry.Close port (Ok tt))
+    → after_if_legal (in_state state line (Closing port later)) (entry.Close port (Ok tt))
     ≡ Some (in_state state line (due_of later))
 close-taken state line port later = close-any state line port later (Ok tt)
 
@@ -75,16 +75,18 @@ due-drop ports index below =
 
 -- ---- a look, and a poll
 
-pub look-any : (state : State) (line : Line) (answer : Result Moment AllocError) → is_idle state line ≡ true
-    → taken (in_state state line Free) (entry.Now answer)
-    ≡ Some (led (in_state state line Free) (entry.Now answer))
-look-any state line answer idle = taken-is (in_state state line Free) (entry.Now answer) idle
+pub look-any : (state : State) (line : Line) (answer : Result Moment AllocError)
+    → is_idle state line ≡ true
+    → after_if_legal (in_state state line Free) (entry.Now answer)
+    ≡ Some (after_entry (in_state state line Free) (entry.Now answer))
+look-any state line answer idle =
+    after_if_legal-is (in_state state line Free) (entry.Now answer) idle
 
 -- with the line that is left
 pub looked-at : (state next : State) (closes : List ℕ) (line left : Line) (moment : Moment)
     → is_idle state line ≡ true → next ≡ (step state moment Tick).state → closes ≡ (step state moment Tick).closes
     → left ≡ after_event next closes None None line
-    → taken (in_state state line Free) (entry.Now (Ok moment))
+    → after_if_legal (in_state state line Free) (entry.Now (Ok moment))
     ≡ Some (in_state next left (due_look closes (is_idle next left)))
 looked-at state next closes line left moment idle is closed there =
     let cs = (step state moment Tick).closes in
@@ -96,12 +98,14 @@ looked-at state next closes line left moment idle is closed there =
     ∙ ap (λ (l : Line). Some (in_state next l (due_look closes (is_idle next l)))) (sym there)
 
 -- a look that closes ports
-pub look-closes : (closes : List ℕ) (idle : Bool) → (length closes == 0) ≡ false → due_look closes idle ≡ due_of closes
+pub look-closes : (closes : List ℕ) (idle : Bool) → (length closes == 0) ≡ false
+    → due_look closes idle ≡ due_of closes
 look-closes [] idle some = cc
 look-closes (port ∷ ports) idle some = refl
 
 -- a look that closes none
-pub look-none : (closes : List ℕ) (idle : Bool) → (length closes == 0) ≡ true → due_look closes idle ≡ due_look [] idle
+pub look-none : (closes : List ℕ) (idle : Bool) → (length closes == 0) ≡ true
+    → due_look closes idle ≡ due_look [] idle
 look-none [] idle none = refl
 look-none (port ∷ ports) idle none =
     let some : (suc (length ports) == 0) ≡ true = none in absurd (grind (arith, nat_tests))
@@ -112,53 +116,55 @@ same_wait-refl (Some seconds) = (Decides-eqb seconds seconds).1 refl
 
 pub poll-any : (state : State) (line : Line) (wait : Option ℕ) (items : List Ready) (answer : Result Polled WorldFault)
     → wait ≡ wait_of state
-    → taken (in_state state line Polling) (entry.Poll wait items answer)
-    ≡ Some (led (in_state state line Polling) (entry.Poll wait items answer))
+    → after_if_legal (in_state state line Polling) (entry.Poll wait items answer)
+    ≡ Some (after_entry (in_state state line Polling) (entry.Poll wait items answer))
 poll-any state line wait items answer is =
-    taken-is (in_state state line Polling) (entry.Poll wait items answer)
+    after_if_legal-is (in_state state line Polling) (entry.Poll wait items answer)
     (ap (same_wait wait) (sym is) ∙ same_wait-refl wait)
 
 -- ---- what is served
 
 -- the first thing that can be served is in turn
-next_is : (state : State) (queue : List Thing) (thing : Thing) → first_servable state queue ≡ Some thing
+next_is : (state : State) (queue : List Thing) (thing : Thing)
+    → first_servable state queue ≡ Some thing
     → is_next state queue thing ≡ true
 next_is state queue thing found = ap (is_thing thing) found ∙ same_thing-refl thing
 
 pub accept-any : (state : State) (line : Line) (door : Door) (answer : Result Accepted WorldFault)
     → first_servable state line.queue ≡ Some (Accept door)
-    → taken (in_state state line Free) (entry.Accept door answer)
-    ≡ Some (led (in_state state line Free) (entry.Accept door answer))
+    → after_if_legal (in_state state line Free) (entry.Accept door answer)
+    ≡ Some (after_entry (in_state state line Free) (entry.Accept door answer))
 accept-any state line door answer found =
-    taken-is (in_state state line Free) (entry.Accept door answer) (next_is state line.queue (Accept door) found)
+    after_if_legal-is (in_state state line Free) (entry.Accept door answer) (next_is state line.queue (Accept door) found)
 
 pub read-any : (state : State) (line : Line) (port room : ℕ) (bytes : List ℕ) (answer : Result Got WorldFault)
     → first_servable state line.queue ≡ Some (Read port) → room ≡ read_room
-    → taken (in_state state line Free) (entry.Read port room bytes answer)
-    ≡ Some (led (in_state state line Free) (entry.Read port room bytes answer))
+    → after_if_legal (in_state state line Free) (entry.Read port room bytes answer)
+    ≡ Some (after_entry (in_state state line Free) (entry.Read port room bytes answer))
 read-any state line port room bytes answer found is =
-    taken-is (in_state state line Free) (entry.Read port room bytes answer)
+    after_if_legal-is (in_state state line Free) (entry.Read port room bytes answer)
     (both_and (is_next state line.queue (Read port)) (room == read_room)
     (next_is state line.queue (Read port) found) ((Decides-eqb room read_room).1 is))
 
 pub write-any : (state : State) (line : Line) (port : ℕ) (offered : List ℕ) (answer : Result Wrote WorldFault)
     → first_servable state line.queue ≡ Some (Write port) → offered ≡ owed_of port state
-    → taken (in_state state line Free) (entry.Write port offered answer)
-    ≡ Some (led (in_state state line Free) (entry.Write port offered answer))
+    → after_if_legal (in_state state line Free) (entry.Write port offered answer)
+    ≡ Some (after_entry (in_state state line Free) (entry.Write port offered answer))
 write-any state line port offered answer found is =
-    taken-is (in_state state line Free) (entry.Write port offered answer)
+    after_if_legal-is (in_state state line Free) (entry.Write port offered answer)
     (both_and (is_next state line.queue (Write port)) (bytes_eq offered (owed_of port state))
     (next_is state line.queue (Write port) found) ((bytes_decides offered (owed_of port state)).1 is))
 
 pub start-any : (state : State) (line : Line) (job : Job) (answer : Result (List ℕ) WorldFault)
     → is_first_job job (starts state) ≡ true
-    → taken (in_state state line Free) (entry.Start job answer)
-    ≡ Some (led (in_state state line Free) (entry.Start job answer))
-start-any state line job answer first = taken-is (in_state state line Free) (entry.Start job answer) first
+    → after_if_legal (in_state state line Free) (entry.Start job answer)
+    ≡ Some (after_entry (in_state state line Free) (entry.Start job answer))
+start-any state line job answer first =
+    after_if_legal-is (in_state state line Free) (entry.Start job answer) first
 
 -- a call that finds that the thing isn't ready any more
 pub serves_dropped : (state : State) (line after : Line) (thing : Thing) (old new : Option (List Entry)) (next : Entry)
-    → is_poll next ≡ false → taken (in_state state line Free) next ≡ Some (in_state state (in_hand thing line) Free)
+    → is_poll next ≡ false → after_if_legal (in_state state line Free) next ≡ Some (in_state state (in_hand thing line) Free)
     → after ≡ in_hand thing line → Grows old new (next ∷ [])
     → Advances (in_state state line Free) old new (in_state state after Free)
 serves_dropped state line after thing old new next quiet is gone told =
@@ -167,7 +173,8 @@ serves_dropped state line after thing old new next quiet is gone told =
 
 -- ---- what fits
 
-pub joined-fits : (state : State) (line : Line) (door : Door) → first_servable state line.queue ≡ Some (Accept door) → state.last_port < 2 ^ 64 - 1
+pub joined-fits : (state : State) (line : Line) (door : Door)
+    → first_servable state line.queue ≡ Some (Accept door) → state.last_port < 2 ^ 64 - 1
 joined-fits state line door found =
     (Decides-ltb state.last_port (2 ^ 64 - 1)).0 (first_is_found state line.queue (Accept door) found).servable
 
@@ -176,15 +183,18 @@ some_is None is = cc
 some_is (Some value) is = refl
 
 -- a port that is to be read is open
-pub read-open : (state : State) (line : Line) (port : ℕ) → first_servable state line.queue ≡ Some (Read port) → IsSome (find_port port state.ports)
+pub read-open : (state : State) (line : Line) (port : ℕ)
+    → first_servable state line.queue ≡ Some (Read port) → IsSome (find_port port state.ports)
 read-open state line port found =
     some_is (find_port port state.ports) (wanted_is_open (find_port port state.ports) (first_is_found state line.queue (Read port) found).servable)
 
 -- and so is one that is owed bytes
-pub write-open : (state : State) (line : Line) (port : ℕ) → first_servable state line.queue ≡ Some (Write port) → IsSome (find_port port state.ports)
+pub write-open : (state : State) (line : Line) (port : ℕ)
+    → first_servable state line.queue ≡ Some (Write port) → IsSome (find_port port state.ports)
 write-open state line port found =
     some_is (find_port port state.ports) (owed_is_open (find_port port state.ports) state (first_is_found state line.queue (Write port) found).servable)
 
-pub write-some : (state : State) (line : Line) (port : ℕ) → first_servable state line.queue ≡ Some (Write port) → 0 < length (owed_of port state)
+pub write-some : (state : State) (line : Line) (port : ℕ)
+    → first_servable state line.queue ≡ Some (Write port) → 0 < length (owed_of port state)
 write-some state line port found =
     (Decides-ltb 0 (length (owed_of port state))).0 (first_is_found state line.queue (Write port) found).servable

@@ -58,7 +58,8 @@ pub record IsStep (test next : ℕ → Bool) (port : ℕ) : Type 0 where
   pub above : (other : ℕ) → test other ≡ true → other < port
 
 -- among rising ports it is the last that passes
-last_by : (pass : Bool) (test next : ℕ → Bool) (port first : ℕ) (ports : List ℕ) → IsStep test next port
+last_by : (pass : Bool) (test next : ℕ → Bool) (port first : ℕ) (ports : List ℕ)
+    → IsStep test next port
     → test first ≡ pass → IsRisingList (first ∷ ports) → (port == first) ≡ false
     → filter next ports ≡ filter test ports ++ port ∷ []
     → kept (next first) first (filter next ports) ≡ kept pass first (filter test ports) ++ port ∷ []
@@ -70,7 +71,8 @@ last_by false test next port first ports step is rising other rest =
     ∙ rest
 
 -- what is above the port passes neither
-above_next : (test next : ℕ → Bool) (port : ℕ) (ports : List ℕ) → IsStep test next port → IsRisingNumbers port ports
+above_next : (test next : ℕ → Bool) (port : ℕ) (ports : List ℕ) → IsStep test next port
+    → IsRisingNumbers port ports
     → (filter next ports ≡ []) × (filter test ports ≡ [])
 above_next test next port ports step rising = (
   numbers_alike next (λ other. false) ports
@@ -81,7 +83,8 @@ above_next test next port ports step rising = (
 )
   where
     by_test : (b : Bool) (other : ℕ) → test other ≡ b → port < other → b ≡ false
-    by_test true other is above = let lower : other < port = step.above other is in absurd (omega arith)
+    by_test true other is above =
+        let lower : other < port = step.above other is in absurd (omega arith)
     by_test false other is above = refl
 
     not_before : (other : ℕ) → port < other → test other ≡ false
@@ -92,7 +95,8 @@ above_next test next port ports step rising = (
         let apart : (port == other) ≡ false = grind (arith, nat_tests) in
         ap (λ (b : Bool). b || (port == other)) (not_before other above) ∙ apart
 
-filter-there : (test next : ℕ → Bool) (port : ℕ) (ports : List ℕ) → IsStep test next port → IsRisingList ports
+filter-there : (test next : ℕ → Bool) (port : ℕ) (ports : List ℕ) → IsStep test next port
+    → IsRisingList ports
     → is_among port ports ≡ true → filter next ports ≡ filter test ports ++ port ∷ []
 filter-there test next port [] step rising there = absurd (cc)
 filter-there test next port (first ∷ ports) step rising there =
@@ -118,7 +122,8 @@ filter-there test next port (first ∷ ports) step rising there =
         last_by (test first) test next port first ports step refl rising is (rest there)
 
 -- where the port isn't among them, they pass as before
-next_same : (test next : ℕ → Bool) (port : ℕ) (ports : List ℕ) → IsStep test next port → is_among port ports ≡ false
+next_same : (test next : ℕ → Bool) (port : ℕ) (ports : List ℕ) → IsStep test next port
+    → is_among port ports ≡ false
     → (other : ℕ) → is_among other ports ≡ true → next other ≡ test other
 next_same test next port ports step absent other there =
     step.with other ∙ ap (λ (b : Bool). test other || b) (apart (port == other) refl) ∙ or_false (test other)
@@ -151,9 +156,11 @@ filter-left test next port (first ∷ ports) step =
         ∙ ap (λ (ps : List ℕ). first ∷ ps) rest
         ∙ sym (ap (λ (b : Bool). kept (not b) first (others next ports)) is)
 
-writes-more : (ports : List ℕ) (port : ℕ) → writes_of (ports ++ port ∷ []) ≡ writes_of ports ++ Write port ∷ []
+writes-more : (ports : List ℕ) (port : ℕ)
+    → writes_of (ports ++ port ∷ []) ≡ writes_of ports ++ Write port ∷ []
 writes-more [] port = refl
-writes-more (first ∷ ports) port = ap (λ (ts : List Thing). Write first ∷ ts) (writes-more ports port)
+writes-more (first ∷ ports) port =
+    ap (λ (ts : List Thing). Write first ∷ ts) (writes-more ports port)
 
 -- the next port comes back
 pub brought-next : (test next : ℕ → Bool) (port : ℕ) (line : Line) → IsStep test next port

@@ -1,76 +1,16 @@
--- What a test lets pass: all, none, or as many as another test.
-use Rattle.std.proofs.Common.{◌≡◌, ◌∙◌, Bool, true, false, List, [], ◌∷◌, refl, sym, ap, cond, not, ◌&&◌, ◌||◌, ℕ, ◌==◌, arith}
+-- What a test lets pass of numbers and of doors, and a thing that is taken from beside.
+use Rattle.std.proofs.Common.{◌≡◌, ◌∙◌, Bool, true, false, List, [], ◌∷◌, refl, sym, ap, cond, not, ◌||◌, ℕ, ◌==◌, arith}
 use Rattle.std.specs.List.{filter}
-use Rattle.loop_model.specs.Things.{same_thing, set_of, same_door}
+use Rattle.loop_model.specs.Things.{set_of, same_door}
 use Rattle.loop_model.specs.declared.thing.Thing.{Thing}
 use Rattle.loop_model.specs.Aside.{Aside, taken_back, things_aside, accepts_of}
-use Rattle.loop_model.specs.Queues.{dropped}
 use Rattle.std.proofs.lemmas.Bool.Decides.{nat_tests}
 use Rattle.world_ports.specs.declared.events.Door.{Door}
 use Rattle.lists.specs.Rising.{is_among}
 use Rattle.loop_model.specs.declared.thing.Thing.TheVariants.{Accept, Read, Write}
 use Rattle.loop_model.proofs.TestLemmas.{or_left, or_right}
-use Rattle.loop_model.proofs.ThingLemmas.{false_by, same_thing-refl, same_thing-true}
+use Rattle.loop_model.proofs.ThingLemmas.{same_thing-refl, same_thing-true}
 use Rattle.loop_model.proofs.AsideLemmas.{aside-accept, aside-read, aside-write}
-
--- no test holds and doesn't
-pub true_false : (test : Bool) → test ≡ true → test ≡ false → ⊥
-true_false true is isnt = cc
-true_false false is isnt = cc
-
--- ---- of things
-
--- where each passes the test, all are left
-pub filter_all : (test : Thing → Bool) (things : List Thing)
-    → ((thing : Thing) → set_of things thing ≡ true → test thing ≡ true) → filter test things ≡ things
-filter_all test [] all = refl
-filter_all test (first ∷ things) all =
-    ap (λ (b : Bool). cond b (first ∷ filter test things) (filter test things))
-    (all first (or_left (same_thing first first) (set_of things first) (same_thing-refl first)))
-    ∙ ap (λ (ts : List Thing). first ∷ ts)
-    (filter_all test things (λ thing there. all thing (or_right (same_thing first thing) (set_of things thing) there)))
-
--- where none does, none is
-pub filter_none : (test : Thing → Bool) (things : List Thing)
-    → ((thing : Thing) → set_of things thing ≡ true → test thing ≡ false) → filter test things ≡ []
-filter_none test [] none = refl
-filter_none test (first ∷ things) none =
-    ap (λ (b : Bool). cond b (first ∷ filter test things) (filter test things))
-    (none first (or_left (same_thing first first) (set_of things first) (same_thing-refl first)))
-    ∙ filter_none test things (λ thing there. none thing (or_right (same_thing first thing) (set_of things thing) there))
-
--- tests that agree on what stands there leave the same
-pub filter_alike : (test other : Thing → Bool) (things : List Thing)
-    → ((thing : Thing) → set_of things thing ≡ true → test thing ≡ other thing)
-    → filter test things ≡ filter other things
-filter_alike test other [] same = refl
-filter_alike test other (first ∷ things) same =
-    ap (λ (b : Bool). cond b (first ∷ filter test things) (filter test things))
-    (same first (or_left (same_thing first first) (set_of things first) (same_thing-refl first)))
-    ∙ ap (λ (ts : List Thing). cond (other first) (first ∷ ts) ts)
-    (filter_alike test other things
-    (λ thing there. same thing (or_right (same_thing first thing) (set_of things thing) there)))
-
--- one test after another
-pub filter_twice : (first later : Thing → Bool) (things : List Thing)
-    → filter later (filter first things) ≡ filter (λ thing. first thing && later thing) things
-filter_twice first later [] = refl
-filter_twice first later (thing ∷ things) =
-    by_test (first thing) refl (filter_twice first later things)
-  where
-    by_test : (b : Bool) → first thing ≡ b
-        → filter later (filter first things) ≡ filter (λ t. first t && later t) things
-        → filter later (cond (first thing) (thing ∷ filter first things) (filter first things))
-        ≡ cond (first thing && later thing) (thing ∷ filter (λ t. first t && later t) things) (filter (λ t. first t && later t) things)
-    by_test true is rest =
-        rw is (ap (λ (ts : List Thing). cond (later thing) (thing ∷ ts) ts) rest)
-    by_test false is rest = rw is rest
-
--- without what isn't there
-pub absent-dropped : (thing : Thing) (things : List Thing) → set_of things thing ≡ false → dropped thing things ≡ things
-absent-dropped thing things absent = filter_all (λ other. not (same_thing thing other)) things (λ other there.
-    ap not (false_by (same_thing thing other) (λ same.
-    true_false (set_of things thing) (ap (set_of things) (same_thing-true thing other same) ∙ there) absent)))
 
 -- ---- of numbers
 
@@ -79,10 +19,12 @@ abbrev pub kept : Bool → ℕ → List ℕ → List ℕ
 kept test first ports = cond test (first ∷ ports) ports
 
 itself_among : (first : ℕ) (ports : List ℕ) → (first == first || is_among first ports) ≡ true
-itself_among first ports = or_left (first == first) (is_among first ports) (grind (arith, nat_tests))
+itself_among first ports =
+    or_left (first == first) (is_among first ports) (grind (arith, nat_tests))
 
 -- where each passes the test, all are left
-pub numbers_all : (test : ℕ → Bool) (ports : List ℕ) → ((port : ℕ) → is_among port ports ≡ true → test port ≡ true)
+pub numbers_all : (test : ℕ → Bool) (ports : List ℕ)
+    → ((port : ℕ) → is_among port ports ≡ true → test port ≡ true)
     → filter test ports ≡ ports
 numbers_all test [] all = refl
 numbers_all test (first ∷ ports) all =
@@ -121,7 +63,8 @@ without_absent : (ports : List ℕ) (port : ℕ) → is_among port ports ≡ fal
 without_absent ports port absent =
     numbers_all (λ other. not (port == other)) ports (λ other there. other_than other (port == other) refl there)
   where
-    other_than : (other : ℕ) (same : Bool) → (port == other) ≡ same → is_among other ports ≡ true → not same ≡ true
+    other_than : (other : ℕ) (same : Bool) → (port == other) ≡ same → is_among other ports ≡ true
+        → not same ≡ true
     other_than other true is there =
         let here : port ≡ other = grind (arith, nat_tests) in
         let also : is_among port ports ≡ true = ap (λ (n : ℕ). is_among n ports) here ∙ there in

@@ -13,10 +13,9 @@ use Rattle.loop_model.specs.declared.thing.Thing.TheVariants.{Accept, Read, Writ
 use Rattle.loop_model.proofs.AheadLemmas.{gone_at}
 use Rattle.loop_model.proofs.AsideLemmas.{set_of-append, set_of-filter, set_of-put_aside, set_of-taken_back}
 use Rattle.loop_model.proofs.BackLemmas.{calls-recalled}
-use Rattle.loop_model.proofs.TestLemmas.{and_both, or_either, or_left, or_right}
+use Rattle.loop_model.proofs.TestLemmas.{and_both, neither, or_either, or_left, or_right, true_false}
 use Rattle.loop_model.proofs.ThingLemmas.{false_by}
 use Rattle.ready_loop.specs.Standing.{IsCold, IsStirred}
-use Rattle.ready_loop.proofs.FilterLemmas.{true_false}
 
 -- ---- what is ready
 
@@ -41,10 +40,6 @@ cold-in_hand state line thing ordered able =
     (λ there. true_false (is_servable state thing) able (ordered.quiet thing there))
 
 -- nor is it where another thing becomes ready
-neither : (a b : Bool) → a ≡ false → b ≡ false → (a || b) ≡ false
-neither true b first second = absurd (true_false true refl first)
-neither false b first second = second
-
 cold_placed : (able : Bool) (thing other : Thing) (line : Line) → same_thing other thing ≡ false
     → hot_of line thing ≡ false
     → hot_of (if able then record line { queue = line.queue ++ other ∷ [] } else record line { aside = put_aside other line.aside }) thing ≡ false
@@ -74,11 +69,13 @@ cold-queued : (state : State) (thing other : Thing) (line : Line) → same_thing
     → hot_of line thing ≡ false → hot_of (queued state other line) thing ≡ false
 cold-queued state thing other line apart cold = by_test (hot_of line other)
   where
-    by_test : (there : Bool) → hot_of (if there then line else placed state other line) thing ≡ false
+    by_test : (there : Bool)
+        → hot_of (if there then line else placed state other line) thing ≡ false
     by_test true = cold
     by_test false = cold_placed (is_servable state other) thing other line apart cold
 
-pub cold-queued_port : (state : State) (port : ℕ) (door : Door) (line : Line) → hot_of line (Accept door) ≡ false
+pub cold-queued_port : (state : State) (port : ℕ) (door : Door) (line : Line)
+    → hot_of line (Accept door) ≡ false
     → hot_of (queued_port state port line) (Accept door) ≡ false
 cold-queued_port state port door line cold =
     cold-queued state (Accept door) (Write port) (queued state (Read port) line) refl
@@ -121,7 +118,8 @@ settled-either state closes line thing there =
     ∙ all-either (filter (is_stuck state) line.queue) line.aside thing
     (gone-less closes (all_aside (filter (is_stuck state) line.queue) line.aside) thing there)
 
-cold-settled : (state : State) (closes : List ℕ) (line : Line) (thing : Thing) → hot_of line thing ≡ false
+cold-settled : (state : State) (closes : List ℕ) (line : Line) (thing : Thing)
+    → hot_of line thing ≡ false
     → hot_of (settled state closes line) thing ≡ false
 cold-settled state closes line thing = cold-less line (settled state closes line) thing (λ hot.
     hot-parts thing line
@@ -137,7 +135,8 @@ cold-settled state closes line thing = cold-less line (settled state closes line
           ]
     ])
 
-cold-recalled : (state : State) (own : Option ℕ) (line : Line) (thing : Thing) → hot_of line thing ≡ false
+cold-recalled : (state : State) (own : Option ℕ) (line : Line) (thing : Thing)
+    → hot_of line thing ≡ false
     → hot_of (recalled state own line) thing ≡ false
 cold-recalled state own line thing = cold-less line (recalled state own line) thing (λ hot.
     let calls = calls-recalled state own line in
@@ -153,7 +152,8 @@ cold-recalled state own line thing = cold-less line (recalled state own line) th
     ])
 
 -- what was served isn't ready before it is put back
-pub cold-back : (state : State) (closes : List ℕ) (own : Option ℕ) (hand : Option Thing) (line : Line) → IsCold hand line
+pub cold-back : (state : State) (closes : List ℕ) (own : Option ℕ) (hand : Option Thing) (line : Line)
+    → IsCold hand line
     → IsCold hand (recalled state own (settled state closes line))
 cold-back state closes own None line cold = tt
 cold-back state closes own (Some thing) line cold =

@@ -5,7 +5,7 @@ use Rattle.world_ports.specs.declared.entry.Entry.TheVariants as entry
 use Rattle.world_ports.specs.declared.events.Door.{Door}
 use Rattle.agent_model.specs.State.{Port, State, UnderWay, find_port, is_client, is_some_bytes, owed_by, wants_by}
 use Rattle.loop_model.specs.Dues.{Free}
-use Rattle.loop_model.specs.LegalJournal.{in_state, led}
+use Rattle.loop_model.specs.LegalJournal.{after_entry, in_state}
 use Rattle.loop_model.specs.Lines.{IsOrdered, Line, hot_of, in_hand, queued_port}
 use Rattle.loop_model.specs.Queues.{first_servable}
 use Rattle.loop_model.specs.Things.{same_thing, set_of}
@@ -39,7 +39,8 @@ none_wants : (found : Option Port) → is_some found ≡ false → wants_by foun
 none_wants None closed = refl
 none_wants (Some at) closed = absurd (cc)
 
-none_owed : (found : Option Port) (u : UnderWay) → is_some found ≡ false → is_some_bytes (owed_by found u) ≡ false
+none_owed : (found : Option Port) (u : UnderWay) → is_some found ≡ false
+    → is_some_bytes (owed_by found u) ≡ false
 none_owed None u closed = refl
 none_owed (Some at) u closed = absurd (cc)
 
@@ -56,12 +57,14 @@ abbrev pub joined_line : State → Door → ℕ → Line → Line
 joined_line state door number line =
     record (queued_port state number line) { joined = is_client door || line.joined }
 
-pub adds-joined : (state : State) (door : Door) (number : ℕ) (line : Line) → Adds line (joined_line state door number line)
+pub adds-joined : (state : State) (door : Door) (number : ℕ) (line : Line)
+    → Adds line (joined_line state door number line)
 adds-joined state door number line =
     let adds = adds-queued_port state number line in
     record { news = adds.news; queue = adds.queue }
 
-pub cold-joined : (state : State) (door : Door) (number : ℕ) (line : Line) → hot_of line (Accept door) ≡ false
+pub cold-joined : (state : State) (door : Door) (number : ℕ) (line : Line)
+    → hot_of line (Accept door) ≡ false
     → hot_of (joined_line state door number line) (Accept door) ≡ false
 cold-joined state door number line cold = cold-queued_port state number door line cold
 
@@ -71,6 +74,6 @@ pub ordered-joined : (state : State) (door : Door) (number : ℕ) (line : Line) 
 ordered-joined state door number line ordered found =
     let next = entry.Accept door (Ok (accepted.Port number)) in
     let from = in_state state line Free in
-    let both : IsOrdered (led from next).state (led from next).line =
-    ordered_taken from (led from next) next (accept-any state line door (Ok (accepted.Port number)) found) ordered in
+    let both : IsOrdered (after_entry from next).state (after_entry from next).line =
+    ordered_taken from (after_entry from next) next (accept-any state line door (Ok (accepted.Port number)) found) ordered in
     both

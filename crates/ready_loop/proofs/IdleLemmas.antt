@@ -24,7 +24,11 @@ pub record IsFound (state : State) (queue : List Thing) (thing : Thing) : Type 0
   pub ready : set_of queue thing ≡ true
   pub servable : is_servable state thing ≡ true
 
-found_by : (test : Bool) (state : State) (first : Thing) (queue : List Thing) (thing : Thing) → is_servable state first ≡ test → (first_servable state queue ≡ Some thing → IsFound state queue thing) → (if test then Some first else first_servable state queue) ≡ Some thing → IsFound state (first ∷ queue) thing
+found_by : (test : Bool) (state : State) (first : Thing) (queue : List Thing) (thing : Thing)
+    → is_servable state first ≡ test
+    → (first_servable state queue ≡ Some thing → IsFound state queue thing)
+    → (if test then Some first else first_servable state queue) ≡ Some thing
+    → IsFound state (first ∷ queue) thing
 found_by true state first queue thing is rest found =
     let same : first ≡ thing = cc in record {
       ready = or_left (same_thing first thing) (set_of queue thing) (ap (λ (t : Thing). same_thing first t) (sym same) ∙ same_thing-refl first);
@@ -36,7 +40,8 @@ found_by false state first queue thing is rest found =
       servable = later.servable;
     }
 
-pub first_is_found : (state : State) (queue : List Thing) (thing : Thing) → first_servable state queue ≡ Some thing → IsFound state queue thing
+pub first_is_found : (state : State) (queue : List Thing) (thing : Thing)
+    → first_servable state queue ≡ Some thing → IsFound state queue thing
 first_is_found state [] thing found = cc
 first_is_found state (first ∷ queue) thing found =
     found_by (is_servable state first) state first queue thing refl (first_is_found state queue thing) found
@@ -46,7 +51,8 @@ pub wanted_is_open : (port : Option Port) → wants_by port ≡ true → is_some
 wanted_is_open None is = cc
 wanted_is_open (Some port) is = refl
 
-pub owed_is_open : (port : Option Port) (state : State) → is_some_bytes (owed_by port state.under_way) ≡ true → is_some port ≡ true
+pub owed_is_open : (port : Option Port) (state : State)
+    → is_some_bytes (owed_by port state.under_way) ≡ true → is_some port ≡ true
 owed_is_open None state is = cc
 owed_is_open (Some port) state is = refl
 
@@ -84,7 +90,8 @@ servable-any state line ordered =
 
 no_jobs : (jobs : List Job) → (length jobs == 0) ≡ true → has_job jobs ≡ false
 no_jobs [] empty = refl
-no_jobs (job ∷ jobs) empty = let some : (suc (length jobs) == 0) ≡ true = empty in grind (arith, nat_tests)
+no_jobs (job ∷ jobs) empty =
+    let some : (suc (length jobs) == 0) ≡ true = empty in grind (arith, nat_tests)
 
 not_not : (b : Bool) → not (not b) ≡ b
 not_not true = refl

@@ -14,7 +14,8 @@ use Rattle.ready_loop.specs.declared.marks.Mark.{Mark}
 
 -- ---- where a mark stands
 
-above-at : (low : ℕ) (marks : List Mark) (i : ℕ) (other : Mark) → IsRisingNumbers low (ports_of marks)
+above-at : (low : ℕ) (marks : List Mark) (i : ℕ) (other : Mark)
+    → IsRisingNumbers low (ports_of marks)
     → i < length marks → low < (get_or marks i other).port
 above-at low [] i other rise within = absurd (omega arith)
 above-at low (mark ∷ marks) zero other rise within = rise.0
@@ -22,11 +23,13 @@ above-at low (mark ∷ marks) (suc i) other rise within =
     let rest : mark.port < (get_or marks i other).port = above-at mark.port marks i other rise.1 (omega arith) in
     omega (arith, rise.0)
 
-ordered-at : (marks : List Mark) (i j : ℕ) (other : Mark) → IsRisingList (ports_of marks) → i < j → j < length marks
+ordered-at : (marks : List Mark) (i j : ℕ) (other : Mark) → IsRisingList (ports_of marks) → i < j
+    → j < length marks
     → (get_or marks i other).port < (get_or marks j other).port
 ordered-at [] i j other rise order within = absurd (omega arith)
 ordered-at (mark ∷ marks) i zero other rise order within = absurd (omega arith)
-ordered-at (mark ∷ marks) zero (suc j) other rise order within = above-at mark.port marks j other rise (omega arith)
+ordered-at (mark ∷ marks) zero (suc j) other rise order within =
+    above-at mark.port marks j other rise (omega arith)
 ordered-at (mark ∷ marks) (suc i) (suc j) other rise order within =
     ordered-at marks i j other (rising_list mark.port (ports_of marks) rise) (omega arith) (omega arith)
 
@@ -40,7 +43,8 @@ comparisons_rise port marks rise =
     ])
 
 -- a mark of the port is the port's
-pub place-at : (port : ℕ) (marks : List Mark) (place : ℕ) → IsRisingList (ports_of marks) → HasPort port marks place
+pub place-at : (port : ℕ) (marks : List Mark) (place : ℕ) → IsRisingList (ports_of marks)
+    → HasPort port marks place
     → IsPlace port marks place
 place-at port [] place rise at = absurd (omega (arith, at.within))
 place-at port (mark ∷ marks) zero rise at =
@@ -96,7 +100,8 @@ gap-at port (mark ∷ marks) (suc place) within less greater =
     }
 
 -- what a binary search by port answers
-pub searched_marks : (port : ℕ) (marks : List Mark) (r : Result ℕ ℕ) → IsSearchInRange r (length marks)
+pub searched_marks : (port : ℕ) (marks : List Mark) (r : Result ℕ ℕ)
+    → IsSearchInRange r (length marks)
     → IsBinarySearchResult (λ (mark : Mark). nat_cmp mark.port port) marks r → IsRisingList (ports_of marks)
     → MatchResult r (IsPlace port marks) (IsGap port marks)
 searched_marks port marks (Ok place) within answer rise =
@@ -136,23 +141,26 @@ abbrev pub put_if : Bool → ℕ → List ℕ → List ℕ
 put_if true port ports = inserted port ports
 put_if false port ports = filter (λ other. not (port == other)) ports
 
--- the same, as the lists do it
+-- with the port among these, or without it, as `lists` says it
 abbrev put_in_order : Bool → ℕ → List ℕ → List ℕ
 put_in_order true port ports = inserted port ports
 put_in_order false port ports = removed port ports
 
 module _ (test : Mark → Bool) where
   -- they rise
-  rise-at : (low : ℕ) (marks : List Mark) → IsRisingNumbers low (ports_of marks) → IsRisingNumbers low (ports_at test marks)
+  rise-at : (low : ℕ) (marks : List Mark) → IsRisingNumbers low (ports_of marks)
+      → IsRisingNumbers low (ports_at test marks)
   rise-at low [] rise = tt
   rise-at low (mark ∷ marks) rise = by_test (test mark) (rise-at mark.port marks rise.1)
     where
       by_test : (b : Bool) → IsRisingNumbers mark.port (ports_at test marks)
           → IsRisingNumbers low (if b then mark.port ∷ ports_at test marks else ports_at test marks)
       by_test true rest = (rise.0, rest)
-      by_test false rest = rising_lower low mark.port (ports_at test marks) (omega (arith, rise.0)) rest
+      by_test false rest =
+          rising_lower low mark.port (ports_at test marks) (omega (arith, rise.0)) rest
 
-  pub rise_list-at : (marks : List Mark) → IsRisingList (ports_of marks) → IsRisingList (ports_at test marks)
+  pub rise_list-at : (marks : List Mark) → IsRisingList (ports_of marks)
+      → IsRisingList (ports_at test marks)
   rise_list-at [] rise = tt
   rise_list-at (mark ∷ marks) rise = by_test (test mark) (rise-at mark.port marks rise)
     where
@@ -162,7 +170,8 @@ module _ (test : Mark → Bool) where
       by_test false rest = rising_list mark.port (ports_at test marks) rest
 
   -- one of them has a mark that passes
-  pub among-at : (port : ℕ) (marks : List Mark) → IsRisingList (ports_of marks) → test (no_mark port) ≡ false
+  pub among-at : (port : ℕ) (marks : List Mark) → IsRisingList (ports_of marks)
+      → test (no_mark port) ≡ false
       → is_among port (ports_at test marks) ≡ test (mark_of port marks)
   among-at port [] rise none = sym none
   among-at port (mark ∷ marks) rise none =
@@ -202,9 +211,11 @@ module _ (test : Mark → Bool) where
       here : (n m : Bool) → (new.port == mark.port) ≡ true
           → (if n then new.port ∷ rest else rest) ≡ put_in_order n new.port (if m then mark.port ∷ rest else rest)
       here true true same = grind (arith, nat_tests)
-      here true false same = sym (inserted_below new.port mark.port rest (grind (arith, nat_tests)) above)
+      here true false same =
+          sym (inserted_below new.port mark.port rest (grind (arith, nat_tests)) above)
       here false true same = grind (arith, nat_tests)
-      here false false same = sym (removed_below new.port mark.port rest (grind (arith, nat_tests)) above)
+      here false false same =
+          sym (removed_below new.port mark.port rest (grind (arith, nat_tests)) above)
 
       -- in front
       front : (n : Bool) (ports : List ℕ) → IsRisingNumbers new.port ports
@@ -213,39 +224,47 @@ module _ (test : Mark → Bool) where
       front false ports rises = sym (removed_below new.port new.port ports (omega arith) rises)
 
       -- behind
-      behind : (n m : Bool) (later : List ℕ) → (new.port == mark.port) ≡ false → nat_lt new.port mark.port ≡ false
+      behind : (n m : Bool) (later : List ℕ) → (new.port == mark.port) ≡ false
+          → nat_lt new.port mark.port ≡ false
           → later ≡ put_in_order n new.port rest
           → (if m then mark.port ∷ later else later) ≡ put_in_order n new.port (if m then mark.port ∷ rest else rest)
-      behind true true later apart greater is = rw (apart, greater) (ap (λ (ports : List ℕ). mark.port ∷ ports) is)
-      behind false true later apart greater is = rw apart (ap (λ (ports : List ℕ). mark.port ∷ ports) is)
+      behind true true later apart greater is =
+          rw (apart, greater) (ap (λ (ports : List ℕ). mark.port ∷ ports) is)
+      behind false true later apart greater is =
+          rw apart (ap (λ (ports : List ℕ). mark.port ∷ ports) is)
       behind n false later apart greater is = is
 
-      by_order : (same less : Bool) → (new.port == mark.port) ≡ same → nat_lt new.port mark.port ≡ less
+      by_order : (same less : Bool) → (new.port == mark.port) ≡ same
+          → nat_lt new.port mark.port ≡ less
           → ports_at test (marked new marks) ≡ put_in_order (test new) new.port rest
           → ports_at test (if same then new ∷ marks else (if less then new ∷ mark ∷ marks else mark ∷ marked new marks))
           ≡ put_in_order (test new) new.port (ports_at test (mark ∷ marks))
       by_order true less same order later = here (test new) (test mark) same
       by_order false true same order later =
           front (test new) (ports_at test (mark ∷ marks)) (rise-at new.port (mark ∷ marks) (grind (arith, nat_tests), rise))
-      by_order false false same order later = behind (test new) (test mark) (ports_at test (marked new marks)) same order later
+      by_order false false same order later =
+          behind (test new) (test mark) (ports_at test (marked new marks)) same order later
 
   pub at-marked : (new : Mark) (marks : List Mark) → IsRisingList (ports_of marks)
       → ports_at test (marked new marks) ≡ put_if (test new) new.port (ports_at test marks)
   at-marked new marks rise = at-put new marks rise ∙ by_test (test new)
     where
-      by_test : (b : Bool) → put_in_order b new.port (ports_at test marks) ≡ put_if b new.port (ports_at test marks)
+      by_test : (b : Bool)
+          → put_in_order b new.port (ports_at test marks) ≡ put_if b new.port (ports_at test marks)
       by_test true = refl
       by_test false = removed-filter new.port (ports_at test marks) (rise_list-at marks rise)
 
   -- where the test tells no difference
-  pub at-marked_same : (new : Mark) (marks : List Mark) → IsRisingList (ports_of marks) → test (no_mark new.port) ≡ false
+  pub at-marked_same : (new : Mark) (marks : List Mark) → IsRisingList (ports_of marks)
+      → test (no_mark new.port) ≡ false
       → test new ≡ test (mark_of new.port marks) → ports_at test (marked new marks) ≡ ports_at test marks
   at-marked_same new marks rise none same =
       at-put new marks rise ∙ by_test (test new) (among-at new.port marks rise none ∙ sym same)
     where
       by_test : (b : Bool) → is_among new.port (ports_at test marks) ≡ b
           → put_in_order b new.port (ports_at test marks) ≡ ports_at test marks
-      by_test true there = inserted-among new.port (ports_at test marks) (rise_list-at marks rise) there
+      by_test true there =
+          inserted-among new.port (ports_at test marks) (rise_list-at marks rise) there
       by_test false there = removed-not_among new.port (ports_at test marks) there
 
   -- without a port's mark
@@ -258,7 +277,8 @@ module _ (test : Mark → Bool) where
       rest : List ℕ
       rest = ports_at test marks
 
-      here : (b : Bool) → (port == mark.port) ≡ true → rest ≡ removed port (if b then mark.port ∷ rest else rest)
+      here : (b : Bool) → (port == mark.port) ≡ true
+          → rest ≡ removed port (if b then mark.port ∷ rest else rest)
       here true same = rw same refl
       here false same = sym (removed_below port mark.port rest (grind (arith, nat_tests)) (rise-at mark.port marks rise))
 
@@ -267,7 +287,8 @@ module _ (test : Mark → Bool) where
       behind true later apart is = rw apart (ap (λ (ports : List ℕ). mark.port ∷ ports) is)
       behind false later apart is = is
 
-      by_port : (same : Bool) → (port == mark.port) ≡ same → ports_at test (unmarked port marks) ≡ removed port rest
+      by_port : (same : Bool) → (port == mark.port) ≡ same
+          → ports_at test (unmarked port marks) ≡ removed port rest
           → ports_at test (if same then marks else mark ∷ unmarked port marks) ≡ removed port (ports_at test (mark ∷ marks))
       by_port true same later = here (test mark) same
       by_port false same later = behind (test mark) (ports_at test (unmarked port marks)) same later
@@ -279,11 +300,13 @@ module _ (test : Mark → Bool) where
 
 -- ---- the ports rise yet
 
-pub rise-marked : (new : Mark) (marks : List Mark) → IsRisingList (ports_of marks) → IsRisingList (ports_of (marked new marks))
+pub rise-marked : (new : Mark) (marks : List Mark) → IsRisingList (ports_of marks)
+    → IsRisingList (ports_of (marked new marks))
 rise-marked new marks rise =
     subst IsRisingList (sym (at-put (λ mark. true) new marks rise)) (rising_list-inserted new.port (ports_of marks) rise)
 
-pub rise-unmarked : (port : ℕ) (marks : List Mark) → IsRisingList (ports_of marks) → IsRisingList (ports_of (unmarked port marks))
+pub rise-unmarked : (port : ℕ) (marks : List Mark) → IsRisingList (ports_of marks)
+    → IsRisingList (ports_of (unmarked port marks))
 rise-unmarked port marks rise =
     subst IsRisingList (sym (at-taken (λ mark. true) port marks rise)) (rising_list-removed port (ports_of marks) rise)
 
@@ -309,12 +332,14 @@ module _ (port place : ℕ) (marks seen : List Mark) (found : Mark) (change : Ma
       ∙ sym (ap (λ (b : Bool). if b then marked (change (mark_of port marks)) marks else marks)
       (ap (λ (p : ℕ). is_among p (ports_of marks)) own ∙ here.there))
 
-  pub rise-in_place : IsRisingList (ports_of marks) → IsRisingList (ports_of (slice_set marks place (change found)))
+  pub rise-in_place : IsRisingList (ports_of marks)
+      → IsRisingList (ports_of (slice_set marks place (change found)))
   rise-in_place rise =
       subst (λ (ms : List Mark). IsRisingList (ports_of ms)) (sym marked-in_place)
       (rise-marked (change (mark_of port marks)) marks rise)
 
-pub rise-put : (new : Mark) (place : ℕ) (marks seen : List Mark) → seen ≡ marks → IsGap new.port seen place
+pub rise-put : (new : Mark) (place : ℕ) (marks seen : List Mark) → seen ≡ marks
+    → IsGap new.port seen place
     → IsRisingList (ports_of marks) → IsRisingList (ports_of (insert marks place new))
 rise-put new place marks seen same gap rise =
     let here : IsGap new.port marks place = subst (λ (ms : List Mark). IsGap new.port ms place) same gap in

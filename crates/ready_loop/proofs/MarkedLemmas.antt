@@ -2,7 +2,6 @@
 use Rattle.std.proofs.Common.{◌≡◌, ◌∙◌, ℕ, Bool, true, false, List, [], ◌∷◌, ◌++◌, Some, cond, drop, refl, sym, ap, subst, not, ◌&&◌, ◌||◌, if◌then◌else◌}
 use Rattle.agent_model.specs.State.{State}
 use Rattle.loop_model.specs.Aside.{Aside, put_aside, taken_back, things_aside}
-use Rattle.loop_model.specs.Elsewhere.{stands}
 use Rattle.loop_model.specs.Lines.{Line, hot_of, placed, returned}
 use Rattle.loop_model.specs.Queues.{dropped}
 use Rattle.loop_model.specs.Servable.{is_servable}
@@ -17,11 +16,13 @@ use Rattle.loop_model.proofs.ThingLemmas.{cooled, heated, same_thing-refl}
 use Rattle.ready_loop.specs.Marks.{IsMarked, Standings, forgotten, stood}
 use Rattle.ready_loop.specs.Standing.{IsFront, IsOnce, listed_last}
 use Rattle.ready_loop.specs.declared.marks.Standing.TheVariants as at
-use Rattle.ready_loop.proofs.FilterLemmas.{absent-dropped, absent-taken}
+use Rattle.loop_model.proofs.FilterLemmas.{absent-dropped}
+use Rattle.ready_loop.proofs.FilterLemmas.{absent-taken}
 use Rattle.ready_loop.proofs.LineLemmas.{cold-both}
 use Rattle.ready_loop.proofs.StandingLemmas.{front-dropped, once-filter, once-put, once-queued, once-taken, same_thing-swapped}
 
-set_of-more : (thing : Thing) (queue : List Thing) → set_of (queue ++ thing ∷ []) ≡ heated thing (set_of queue)
+set_of-more : (thing : Thing) (queue : List Thing)
+    → set_of (queue ++ thing ∷ []) ≡ heated thing (set_of queue)
 set_of-more thing queue = same_sets (set_of (queue ++ thing ∷ [])) (heated thing (set_of queue)) (λ other.
     set_of-append queue (thing ∷ []) other ∙ swapped (set_of queue other) (same_thing thing other))
   where
@@ -32,14 +33,16 @@ set_of-more thing queue = same_sets (set_of (queue ++ thing ∷ [])) (heated thi
     swapped false false = refl
 
 -- what isn't ready, or was set aside, isn't aside any more
-taken-absent : (thing : Thing) (aside : Aside) → set_of (things_aside (taken_back thing aside)) thing ≡ false
+taken-absent : (thing : Thing) (aside : Aside)
+    → set_of (things_aside (taken_back thing aside)) thing ≡ false
 taken-absent thing aside =
     ap (λ (hot : Hot). hot thing) (set_of-taken_back thing aside)
     ∙ ap (λ (b : Bool). not b && set_of (things_aside aside) thing) (same_thing-refl thing)
 
 module _ (thing : Thing) (queue : List Thing) (standings : Standings) (is : IsMarked queue standings) where
   -- a thing that wasn't there stands last
-  pub marked-last : set_of queue thing ≡ false → IsMarked (queue ++ thing ∷ []) (stood thing at.Listed standings)
+  pub marked-last : set_of queue thing ≡ false
+      → IsMarked (queue ++ thing ∷ []) (stood thing at.Listed standings)
   marked-last absent = record {
     once = once-queued queue (taken_back thing standings.aside) (once-taken queue standings.aside is.once thing) thing absent
         (taken-absent thing standings.aside);
@@ -75,8 +78,10 @@ module _ (thing : Thing) (queue : List Thing) (standings : Standings) (is : IsMa
       (front-dropped thing queue front is.once.apart ∙ sym rest) marked-dropped
 
 -- a thing that stands last is taken out again
-dropped-last : (thing : Thing) (queue : List Thing) → set_of queue thing ≡ false → dropped thing (queue ++ thing ∷ []) ≡ queue
-dropped-last thing [] absent = ap (λ (b : Bool). cond (not b) (thing ∷ []) []) (same_thing-refl thing)
+dropped-last : (thing : Thing) (queue : List Thing) → set_of queue thing ≡ false
+    → dropped thing (queue ++ thing ∷ []) ≡ queue
+dropped-last thing [] absent =
+    ap (λ (b : Bool). cond (not b) (thing ∷ []) []) (same_thing-refl thing)
 dropped-last thing (first ∷ queue) absent =
     let apart = or_none (same_thing first thing) (set_of queue thing) absent in
     ap (λ (b : Bool). cond (not b) (first ∷ dropped thing (queue ++ thing ∷ [])) (dropped thing (queue ++ thing ∷ [])))
@@ -88,7 +93,8 @@ dropped-last thing (first ∷ queue) absent =
     or_none false b none = (refl, none)
 
 -- where memory ran out
-pub marked-undone : (thing : Thing) (queue : List Thing) (standings : Standings) → IsMarked queue standings
+pub marked-undone : (thing : Thing) (queue : List Thing) (standings : Standings)
+    → IsMarked queue standings
     → set_of queue thing ≡ false → IsMarked queue (stood thing at.Neither (stood thing at.Listed standings))
 marked-undone thing queue standings is absent =
     subst (λ (things : List Thing). IsMarked things (stood thing at.Neither (stood thing at.Listed standings)))
@@ -96,14 +102,16 @@ marked-undone thing queue standings is absent =
     (marked-dropped thing (queue ++ thing ∷ []) (stood thing at.Listed standings) (marked-last thing queue standings is absent))
 
 -- a port was closed
-pub marked-forgotten : (port : ℕ) (queue : List Thing) (standings : Standings) → IsMarked queue standings
+pub marked-forgotten : (port : ℕ) (queue : List Thing) (standings : Standings)
+    → IsMarked queue standings
     → IsMarked (dropped (Write port) (dropped (Read port) queue)) (forgotten port standings)
 marked-forgotten port queue standings is =
     marked-dropped (Write port) (dropped (Read port) queue) (stood (Read port) at.Neither standings)
     (marked-dropped (Read port) queue standings is)
 
 -- the front isn't aside
-pub front-apart : (thing : Thing) (queue : List Thing) (aside : Aside) → IsOnce queue aside → IsFront thing queue
+pub front-apart : (thing : Thing) (queue : List Thing) (aside : Aside) → IsOnce queue aside
+    → IsFront thing queue
     → set_of (things_aside aside) thing ≡ false
 front-apart thing [] aside once front = absurd front
 front-apart thing (first ∷ queue) aside once front =
@@ -113,18 +121,21 @@ front-apart thing (first ∷ queue) aside once front =
 
 -- what can be served stands last
 module _ (state : State) (thing : Thing) (line : Line) (cold : hot_of line thing ≡ false) where
-  pub listed-placed : is_servable state thing ≡ true → listed_last thing line ≡ placed state thing line
+  pub listed-placed : is_servable state thing ≡ true
+      → listed_last thing line ≡ placed state thing line
   listed-placed able =
       ap (λ (aside : Aside). record line { queue = line.queue ++ thing ∷ []; aside = aside })
       (absent-taken thing line.aside (cold-both thing line cold).1)
       ∙ sym (ap (λ (b : Bool). if b then record line { queue = line.queue ++ thing ∷ [] } else record line { aside = put_aside thing line.aside }) able)
 
-  pub listed-returned : is_servable state thing ≡ true → listed_last thing line ≡ returned state (Some thing) line
+  pub listed-returned : is_servable state thing ≡ true
+      → listed_last thing line ≡ returned state (Some thing) line
   listed-returned able =
       listed-placed able ∙ sym (ap (λ (b : Bool). if b then placed state thing line else line) (stands_able state thing able))
 
 -- what is ready by the standings is ready
-pub marked-hot : (thing : Thing) (queue : List Thing) (standings : Standings) → IsMarked queue standings
+pub marked-hot : (thing : Thing) (queue : List Thing) (standings : Standings)
+    → IsMarked queue standings
     → (set_of (things_aside standings.listed) thing || set_of (things_aside standings.aside) thing)
     ≡ set_of (queue ++ things_aside standings.aside) thing
 marked-hot thing queue standings is =

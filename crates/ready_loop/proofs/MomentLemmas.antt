@@ -19,7 +19,8 @@ moment-quiet (goes_on new goes) = refl
 moment-quiet (names job number new) = refl
 moment-quiet (links job number new) = refl
 
-moment-lose_if : (fault : Option LinkFault) (state : State) → (lose_if fault state).state.moment ≡ state.moment
+moment-lose_if : (fault : Option LinkFault) (state : State)
+    → (lose_if fault state).state.moment ≡ state.moment
 moment-lose_if None state = refl
 moment-lose_if (Some fault) state = refl
 
@@ -35,7 +36,8 @@ moment-makes (loses state) = refl
 moment-makes (overs confirmation state there) = refl
 moment-makes (grants confirmation port state there found) = refl
 
-moment-handle : (event : Happening) (state : State) → (handle event state).state.moment ≡ state.moment
+moment-handle : (event : Happening) (state : State)
+    → (handle event state).state.moment ≡ state.moment
 moment-handle event state =
     by_event (λ (outcome : Outcome). outcome.state.moment ≡ state.moment) event state (λ door. refl)
     (λ outcome makes. moment-makes makes)

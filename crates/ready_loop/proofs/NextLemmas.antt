@@ -28,7 +28,8 @@ none_by : (here above owes : Bool) (test : Port → Bool) (after port : ℕ) (fi
     → passes test (if here then Some first else find_port port ports) ≡ false
 none_by here true true test after port first ports same over is beyond none rest = absurd (cc)
 none_by true true false test after port first ports same over is beyond none rest = is
-none_by true false owes test after port first ports same over is beyond none rest = absurd (grind (arith, nat_tests))
+none_by true false owes test after port first ports same over is beyond none rest =
+    absurd (grind (arith, nat_tests))
 none_by false true false test after port first ports same over is beyond none rest = rest none
 none_by false false owes test after port first ports same over is beyond none rest = rest none
 
@@ -61,7 +62,8 @@ between_later : (here above owes : Bool) (test : Port → Bool) (after port : �
     → passes test (if here then Some first else find_port port ports) ≡ false
 between_later here true true test after port first ports same over is not beyond rest = absurd (cc)
 between_later true true false test after port first ports same over is not beyond rest = is
-between_later true false owes test after port first ports same over is not beyond rest = absurd (grind (arith, nat_tests))
+between_later true false owes test after port first ports same over is not beyond rest =
+    absurd (grind (arith, nat_tests))
 between_later false above owes test after port first ports same over is not beyond rest = rest
 
 some_by : (found_here : Bool) (test : Port → Bool) (low high after next : ℕ) (first : Port) (ports : List Port)
@@ -94,7 +96,8 @@ some_by false test low high after next first ports is lower rising found rest =
           test after port first ports refl refl refl is beyond (later.between port beyond less);
     }
 
-pub next_by-is : (test : Port → Bool) (low high after next : ℕ) (ports : List Port) → IsRising low high ports
+pub next_by-is : (test : Port → Bool) (low high after next : ℕ) (ports : List Port)
+    → IsRising low high ports
     → next_by test after ports ≡ Some next → IsNextBy test low high after next ports
 next_by-is test low high after next [] rising found = absurd (cc)
 next_by-is test low high after next (first ∷ ports) rising found =
@@ -103,7 +106,8 @@ next_by-is test low high after next (first ∷ ports) rising found =
 
 -- the ports that pass, up to this number
 abbrev pub upto : (Port → Bool) → List Port → ℕ → ℕ → Bool
-upto test ports after port = passes test (find_port port ports) && (nat_lt 0 port && not (nat_lt after port))
+upto test ports after port =
+    passes test (find_port port ports) && (nat_lt 0 port && not (nat_lt after port))
 
 -- the next one is one step
 pub next-step : (test : Port → Bool) (low high after next : ℕ) (ports : List Port)
@@ -154,7 +158,8 @@ next-step test low high after next ports is = record {
         grind (arith, nat_tests)
 
 -- no port is up to 0
-pub upto-zero : (test : Port → Bool) (ports : List Port) (line : Line) → line ≡ called_by (upto test ports 0) line
+pub upto-zero : (test : Port → Bool) (ports : List Port) (line : Line)
+    → line ≡ called_by (upto test ports 0) line
 upto-zero test ports line =
     sym (called_by-none (upto test ports 0) line (λ port there. no_both (passes test (find_port port ports)) (nat_lt 0 port)))
   where
@@ -164,7 +169,8 @@ upto-zero test ports line =
     no_both false b = refl
 
 -- where there is no next one these are all that pass
-pub upto-all : (test : Port → Bool) (high after port : ℕ) (ports : List Port) → IsRising 0 high ports
+pub upto-all : (test : Port → Bool) (high after port : ℕ) (ports : List Port)
+    → IsRising 0 high ports
     → next_by test after ports ≡ None → upto test ports after port ≡ passes test (find_port port ports)
 upto-all test high after port ports rising none = by_place (nat_lt 0 port) (nat_lt after port) refl refl
   where

@@ -18,7 +18,8 @@ use Rattle.ready_loop.specs.Standing.{IsStirred, may_stir, next_called}
 use Rattle.loop_model.proofs.TestLemmas.{both_if}
 use Rattle.loop_model.proofs.ThingLemmas.{false_by, same_thing-true}
 use Rattle.loop_model.proofs.AsideLemmas.{accepts-read, accepts-write, aside-accept, aside-read, aside-write, reads-accept, reads-read, reads-write, set_of-taken_back}
-use Rattle.ready_loop.proofs.FilterLemmas.{doors_all, filter_none, kept, numbers_all}
+use Rattle.loop_model.proofs.FilterLemmas.{filter_none}
+use Rattle.ready_loop.proofs.FilterLemmas.{doors_all, kept, numbers_all}
 use Rattle.ready_loop.proofs.CallingLemmas.{brought-next, called_by, called_by-alike}
 use Rattle.ready_loop.proofs.NextLemmas.{IsNextBy, next-step, next_by, next_by-is, passes, upto, upto-all}
 
@@ -55,17 +56,20 @@ called_by-all state all line stirred =
         let stirs : may_stir state None all (Accept door) ≡ true = stirred (Accept door) (aside-accept line.aside door ∙ there) is in
         cc)
 
-    no_read : (port : ℕ) → is_among port line.aside.reads ≡ true → is_servable state (Read port) ≡ false
+    no_read : (port : ℕ) → is_among port line.aside.reads ≡ true
+        → is_servable state (Read port) ≡ false
     no_read port there = false_by (is_servable state (Read port)) (λ is.
         let stirs : may_stir state None all (Read port) ≡ true = stirred (Read port) (aside-read line.aside port ∙ there) is in
         cc)
 
-    of_door : (thing : Thing) → set_of (accepts_of line.aside.doors) thing ≡ true → is_servable state thing ≡ false
+    of_door : (thing : Thing) → set_of (accepts_of line.aside.doors) thing ≡ true
+        → is_servable state thing ≡ false
     of_door (Accept door) there = no_door door there
     of_door (Read port) there = let none : set_of (accepts_of line.aside.doors) (Read port) ≡ false = accepts-read line.aside.doors port in cc
     of_door (Write port) there = let none : set_of (accepts_of line.aside.doors) (Write port) ≡ false = accepts-write line.aside.doors port in cc
 
-    of_read : (thing : Thing) → set_of (reads_of line.aside.reads) thing ≡ true → is_servable state thing ≡ false
+    of_read : (thing : Thing) → set_of (reads_of line.aside.reads) thing ≡ true
+        → is_servable state thing ≡ false
     of_read (Accept door) there = let none : set_of (reads_of line.aside.reads) (Accept door) ≡ false = reads-accept line.aside.reads door in cc
     of_read (Read port) there = no_read port (sym (reads-read line.aside.reads port) ∙ there)
     of_read (Write port) there = let none : set_of (reads_of line.aside.reads) (Write port) ≡ false = reads-write line.aside.reads port in cc
@@ -96,7 +100,8 @@ called_by-all state all line stirred =
 
 abbrev pub is_called : Bool → UnderWay → Port → Bool
 is_called true under_way port = is_some_bytes (owed_by_port port under_way)
-is_called false under_way port = not (is_client port.door) && is_some_bytes (owed_by_port port under_way)
+is_called false under_way port =
+    not (is_client port.door) && is_some_bytes (owed_by_port port under_way)
 
 owed-by : (after : ℕ) (ports : List Port) (under_way : UnderWay)
     → next_owed_in after ports under_way ≡ next_by (is_called true under_way) after ports
@@ -134,9 +139,11 @@ called-passes false (Some port) under_way other =
 
 -- the line with those up to this number back in the queue
 abbrev pub called_upto : Bool → State → ℕ → Line → Line
-called_upto all state after line = called_by (upto (is_called all state.under_way) state.ports after) line
+called_upto all state after line =
+    called_by (upto (is_called all state.under_way) state.ports after) line
 
-pub called-next : (all : Bool) (state : State) (after next : ℕ) → IsRising 0 state.last_port state.ports
+pub called-next : (all : Bool) (state : State) (after next : ℕ)
+    → IsRising 0 state.last_port state.ports
     → Some next ≡ next_called all after state
     → IsNextBy (is_called all state.under_way) 0 state.last_port after next state.ports
 called-next all state after next rising found =
@@ -153,7 +160,8 @@ called-more all state after next line now rising found numbers is =
     ∙ brought-next (upto test state.ports after) (upto test state.ports next) next line
     (next-step test 0 state.last_port after next state.ports (called-next all state after next rising found)) numbers
 
-pub called-rest : (all : Bool) (state : State) (after : ℕ) (line : Line) → IsRising 0 state.last_port state.ports
+pub called-rest : (all : Bool) (state : State) (after : ℕ) (line : Line)
+    → IsRising 0 state.last_port state.ports
     → None ≡ next_called all after state → IsStirred state None all line
     → called_upto all state after line ≡ called_all state line
 called-rest all state after line rising none stirred =
@@ -177,7 +185,8 @@ called-aside state thing line other there serves =
     (both_if (set_of (things_aside line.aside) thing) (is_servable state thing) called_back line) there)
   where
     called_back : Line
-    called_back = record line { queue = line.queue ++ thing ∷ []; aside = taken_back thing line.aside }
+    called_back =
+        record line { queue = line.queue ++ thing ∷ []; aside = taken_back thing line.aside }
 
     parts_of : (a b : Bool) → (not a && b) ≡ true → (b ≡ true) × (a ≡ false)
     parts_of true b both = absurd (cc)
@@ -204,7 +213,8 @@ called-aside state thing line other there serves =
     by_test false is there = (there, apart (same_thing thing other) refl is there)
 
 -- with its own port back in the queue, it is another's
-pub own-stirred : (state : State) (own : Option ℕ) (all : Bool) (line : Line) → IsStirred state own all line
+pub own-stirred : (state : State) (own : Option ℕ) (all : Bool) (line : Line)
+    → IsStirred state own all line
     → IsStirred state None all (called_own state own line)
 own-stirred state None all line stirred = stirred
 own-stirred state (Some port) all line stirred = λ thing there serves.
@@ -212,7 +222,8 @@ own-stirred state (Some port) all line stirred = λ thing there serves.
     let first = called-aside state (Read port) line thing second.0 serves in
     not_own thing first.1 second.1 (stirred thing first.0 serves)
   where
-    not_own : (thing : Thing) → same_thing (Read port) thing ≡ false → same_thing (Write port) thing ≡ false
+    not_own : (thing : Thing) → same_thing (Read port) thing ≡ false
+        → same_thing (Write port) thing ≡ false
         → may_stir state (Some port) all thing ≡ true → may_stir state None all thing ≡ true
     not_own (Accept door) read write stirs = stirs
     not_own (Read other) read write stirs = sym read ∙ stirs

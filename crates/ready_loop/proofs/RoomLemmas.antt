@@ -6,10 +6,12 @@ use Rattle.ready_loop.specs.Rooms.{IsWiped}
 
 -- so many zeros are wiped
 pub zeros_are_wiped : (bytes : List ℕ) (count : ℕ) → bytes ≡ replicate count 0 → IsWiped bytes
-zeros_are_wiped bytes count is = is ∙ ap (λ (n : ℕ). replicate n 0) (sym (ap length is ∙ length-replicate count 0))
+zeros_are_wiped bytes count is =
+    is ∙ ap (λ (n : ℕ). replicate n 0) (sym (ap length is ∙ length-replicate count 0))
 
 -- zeros before what is left of zeros
-pub wiped_again : (filled now before : List ℕ) (count some : ℕ) → filled ≡ replicate some 0 → drop count now ≡ drop count before → IsWiped before → IsWiped (filled ++ drop count now)
+pub wiped_again : (filled now before : List ℕ) (count some : ℕ) → filled ≡ replicate some 0
+    → drop count now ≡ drop count before → IsWiped before → IsWiped (filled ++ drop count now)
 wiped_again filled now before count some is rest wiped =
     let left : drop count now ≡ replicate (length before - count) 0 =
     rest ∙ ap (drop count) wiped ∙ drop-replicate count (length before) 0 in

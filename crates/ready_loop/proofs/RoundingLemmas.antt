@@ -24,10 +24,11 @@ use Rattle.ready_loop.specs.Standing.{IsAt, Rounds}
 use Rattle.ready_loop.specs.declared.outcome.HubFault.{HubFault}
 use Rattle.ready_loop.specs.declared.outcome.Turn.{Turn}
 use Rattle.ready_loop.proofs.KeepingLemmas.{then_ok, turn_ok}
-use Rattle.ready_loop.proofs.FilterLemmas.{filter_all}
+use Rattle.loop_model.proofs.FilterLemmas.{filter_all}
 
 -- what is served stands first
-stood-first : (state : State) (thing : Thing) (queue : List Thing) → IsListed state queue → AreApart queue
+stood-first : (state : State) (thing : Thing) (queue : List Thing) → IsListed state queue
+    → AreApart queue
     → first_servable state queue ≡ Some thing → queue ≡ thing ∷ dropped thing queue
 stood-first state thing queue listed apart found =
     first_is state thing queue listed apart (ap (is_thing thing) found ∙ same_thing-refl thing)
@@ -71,7 +72,8 @@ rounds-ended state left closes own thing line listed apart found never =
     (stood-first state thing line.queue listed apart found) never
 
 -- no event came of it
-pub rounds-none : (state : State) (thing : Thing) (line : Line) → IsListed state line.queue → AreApart line.queue
+pub rounds-none : (state : State) (thing : Thing) (line : Line) → IsListed state line.queue
+    → AreApart line.queue
     → first_servable state line.queue ≡ Some thing → GoesRound thing line.queue (in_hand thing line).queue
 rounds-none state thing line listed apart found =
     let after = dropped thing line.queue in
@@ -124,7 +126,8 @@ keeps-empty after = record { new = after; order = refl }
 
 -- ---- a turn of the list
 
-rounds-front : (thing : Thing) (before after : List Thing) → GoesRound thing before after → Rounds false before after
+rounds-front : (thing : Thing) (before after : List Thing) → GoesRound thing before after
+    → Rounds false before after
 rounds-front thing before after round =
     subst (λ (ts : List Thing). Rounds false ts after) (sym round.first)
     (subst (λ (ts : List Thing). GoesRound thing ts after) round.first round)
@@ -152,7 +155,8 @@ keeps-served result turn starts line self after is same waits keeps =
     rounds_on result turn starts true line self after is same waits keeps (λ order. order)
 
 -- the list is empty
-pub rounds-empty : (starts : Bool) (line self : Line) (after : List Thing) → line.queue ≡ [] → line ≡ self
+pub rounds-empty : (starts : Bool) (line self : Line) (after : List Thing) → line.queue ≡ []
+    → line ≡ self
     → starts ≡ false → Rounds starts self.queue after
 rounds-empty starts line self after is same waits =
     subst (λ (b : Bool). Rounds b self.queue after) (sym waits)

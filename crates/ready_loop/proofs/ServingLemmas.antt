@@ -1,5 +1,5 @@
 -- A whole run, from the listeners on.
-use Rattle.std.proofs.Common.{◌≡◌, ◌∙◌, ◌⊎◌, inl, inr, ℕ, Bool, true, false, List, [], ◌∷◌, ◌++◌, Option, Some, None, Result, Ok, Err, refl, sym, ap, subst, append_assoc, not, ◌==◌, ◌&&◌, ◌||◌}
+use Rattle.std.proofs.Common.{◌≡◌, ◌∙◌, ◌⊎◌, inl, inr, ℕ, Bool, true, false, List, [], ◌∷◌, ◌++◌, Option, Some, None, Result, Ok, Err, refl, ap, subst, append_assoc, not, ◌==◌, ◌&&◌, ◌||◌}
 use Rattle.std.specs.Prelude.{option_and_then, option_map}
 use Rattle.std.specs.List.{list_any}
 use Rattle.std.specs.Str.{bytes_eq}
@@ -20,8 +20,8 @@ use Rattle.agent_model.specs.State.{State, client_count}
 use Rattle.agent_model.specs.Step.{step}
 use Rattle.loop_model.specs.Dues.{Free, due_look, is_polling, same_wait, wait_of}
 use Rattle.loop_model.specs.Lines.{Line, is_idle}
-use Rattle.loop_model.specs.LegalJournal.{LoopState, in_state, led, taken, taken_if, turned}
-use Rattle.ready_loop.specs.Moves.{Advances, Looks, Stops, Turns, is_poll}
+use Rattle.loop_model.specs.LegalJournal.{LoopState, after_entries, after_entry, after_if, after_if_legal, in_state}
+use Rattle.ready_loop.specs.Moves.{Advances, LooksAndPolls, Stops, Turns, is_poll}
 use Rattle.ready_loop.specs.Serving.{HalfBound, Opens, Refused, Running, Runs, RunsUpTo, Serves, Setting, Stage, Unbound, begun, children_path, gone_on, is_deserted, may_come, ran, running_if, stage_if}
 use Rattle.ready_loop.specs.declared.outcome.HubFault.{HubFault}
 use Rattle.ready_loop.specs.declared.outcome.HubFault.TheVariants as faults
@@ -34,28 +34,37 @@ use Rattle.ready_loop.proofs.TurningLemmas.{grows_more}
 
 -- ---- one part after another
 
-ran_by : (setting : Setting) (going : Option Stage) (first later : List Entry) → ((stage : Stage) → ran setting stage (first ++ later) ≡ option_and_then (λ after. ran setting after later) (ran setting stage first)) → option_and_then (λ after. ran setting after (first ++ later)) going ≡ option_and_then (λ after. ran setting after later) (option_and_then (λ after. ran setting after first) going)
+ran_by : (setting : Setting) (going : Option Stage) (first later : List Entry)
+    → ((stage : Stage) → ran setting stage (first ++ later) ≡ option_and_then (λ after. ran setting after later) (ran setting stage first))
+    → option_and_then (λ after. ran setting after (first ++ later)) going ≡ option_and_then (λ after. ran setting after later) (option_and_then (λ after. ran setting after first) going)
 ran_by setting None first later rest = refl
 ran_by setting (Some stage) first later rest = rest stage
 
-pub ran-append : (setting : Setting) (from : Stage) (first later : List Entry) → ran setting from (first ++ later) ≡ option_and_then (λ after. ran setting after later) (ran setting from first)
+pub ran-append : (setting : Setting) (from : Stage) (first later : List Entry)
+    → ran setting from (first ++ later) ≡ option_and_then (λ after. ran setting after later) (ran setting from first)
 ran-append setting from [] later = refl
 ran-append setting from (next ∷ first) later =
     ran_by setting (gone_on setting from next) first later (λ stage. ran-append setting stage first later)
 
-ran_on : (setting : Setting) (from mid to : Stage) (first later : List Entry) → ran setting from first ≡ Some mid → ran setting mid later ≡ Some to → ran setting from (first ++ later) ≡ Some to
+ran_on : (setting : Setting) (from mid to : Stage) (first later : List Entry)
+    → ran setting from first ≡ Some mid → ran setting mid later ≡ Some to
+    → ran setting from (first ++ later) ≡ Some to
 ran_on setting from mid to first later legal more =
     ran-append setting from first later ∙ ap (option_and_then (λ (after : Stage). ran setting after later)) legal ∙ more
 
 -- a run, and then more of it
-pub runs_more : {setting : Setting} {from mid to : Stage} {old between new : Option (List Entry)} → Runs setting from old between mid → Runs setting mid between new to → Runs setting from old new to
+pub runs_more : {setting : Setting} {from mid to : Stage} {old between new : Option (List Entry)}
+    → Runs setting from old between mid → Runs setting mid between new to
+    → Runs setting from old new to
 runs_more {setting} {from} {mid} {to} {old} {between} {new} first later = record {
   added = first.added ++ later.added;
   told = grows_more old between new first.added later.added first.told later.told;
   legal = ran_on setting from mid to first.added later.added first.legal later.legal;
 }
 
-upto_more : {setting : Setting} {from mid : Stage} {old between new : Option (List Entry)} {last : Entry} → Runs setting from old between mid → RunsUpTo setting mid between new last → RunsUpTo setting from old new last
+upto_more : {setting : Setting} {from mid : Stage} {old between new : Option (List Entry)} {last : Entry}
+    → Runs setting from old between mid → RunsUpTo setting mid between new last
+    → RunsUpTo setting from old new last
 upto_more {setting} {from} {mid} {old} {between} {new} {last} first later = record {
   to = later.to;
   before = first.added ++ later.before;
@@ -66,11 +75,13 @@ upto_more {setting} {from} {mid} {old} {between} {new} {last} first later = reco
 }
 
 -- a run, and then its end
-pub serves_more : (result : ServeEnd) (setting : Setting) (from mid : Stage) (old between new : Option (List Entry)) → Runs setting from old between mid → Serves result setting mid between new → Serves result setting from old new
+pub serves_more : (result : ServeEnd) (setting : Setting) (from mid : Stage) (old between new : Option (List Entry))
+    → Runs setting from old between mid → Serves result setting mid between new
+    → Serves result setting from old new
 serves_more ends.Over setting from mid old between new first later =
     record { wait = later.wait; items = later.items; calls = upto_more first later.calls }
 serves_more ends.Idle setting from mid old between new first later = record {
-  turning = later.turning;
+  reading = later.reading;
   calls = runs_more first later.calls;
   asked = later.asked;
   deserted = later.deserted;
@@ -89,7 +100,11 @@ or_false : (here there : Bool) → (here || there) ≡ false → (here ≡ false
 or_false true there none = cc
 or_false false there none = (refl, none)
 
-quiet_step : (setting : Setting) (from to : LoopState) (next : Entry) (later : List Entry) (found : Option LoopState) → is_poll next ≡ false → taken from next ≡ found → option_and_then (λ after. turned after later) found ≡ Some to → ((after : LoopState) → turned after later ≡ Some to → ran setting (Running after) later ≡ Some (Running to)) → option_and_then (λ after. ran setting after later) (gone_on setting (Running from) next) ≡ Some (Running to)
+quiet_step : (setting : Setting) (from to : LoopState) (next : Entry) (later : List Entry) (found : Option LoopState)
+    → is_poll next ≡ false → after_if_legal from next ≡ found
+    → option_and_then (λ after. after_entries after later) found ≡ Some to
+    → ((after : LoopState) → after_entries after later ≡ Some to → ran setting (Running after) later ≡ Some (Running to))
+    → option_and_then (λ after. ran setting after later) (gone_on setting (Running from) next) ≡ Some (Running to)
 quiet_step setting from to next later None quiet is legal rest = cc
 quiet_step setting from to next later (Some after) quiet is legal rest =
     ap (λ (b : Bool). option_and_then (λ (s : Stage). ran setting s later) (running_if (not (b && (setting.until_idle && is_deserted from))) from next)) quiet
@@ -97,58 +112,75 @@ quiet_step setting from to next later (Some after) quiet is legal rest =
     ∙ rest after legal
 
 -- what the loop turns through is a run
-quiet_runs : (setting : Setting) (from to : LoopState) (entries : List Entry) → list_any is_poll entries ≡ false → turned from entries ≡ Some to → ran setting (Running from) entries ≡ Some (Running to)
+quiet_runs : (setting : Setting) (from to : LoopState) (entries : List Entry)
+    → list_any is_poll entries ≡ false → after_entries from entries ≡ Some to
+    → ran setting (Running from) entries ≡ Some (Running to)
 quiet_runs setting from to [] quiet legal = ap (option_map Running) legal
 quiet_runs setting from to (next ∷ later) quiet legal =
     let parts = or_false (is_poll next) (list_any is_poll later) quiet in
-    quiet_step setting from to next later (taken from next) parts.0 refl legal (λ after rest. quiet_runs setting after to later parts.1 rest)
+    quiet_step setting from to next later (after_if_legal from next) parts.0 refl legal (λ after rest. quiet_runs setting after to later parts.1 rest)
 
 -- ---- a look and a poll
 
-poll_step : (setting : Setting) (mid to : LoopState) (poll : Entry) (found : Option LoopState) (may : Bool) → may ≡ true → taken mid poll ≡ found → option_and_then (λ after. turned after []) found ≡ Some to → option_and_then (λ after. ran setting after []) (running_if may mid poll) ≡ Some (Running to)
+poll_step : (setting : Setting) (mid to : LoopState) (poll : Entry) (found : Option LoopState) (may : Bool)
+    → may ≡ true → after_if_legal mid poll ≡ found
+    → option_and_then (λ after. after_entries after []) found ≡ Some to
+    → option_and_then (λ after. ran setting after []) (running_if may mid poll) ≡ Some (Running to)
 poll_step setting mid to poll found may may_is is legal =
     ap (λ (b : Bool). option_and_then (λ (s : Stage). ran setting s []) (running_if b mid poll)) may_is
     ∙ ap (λ (t : Option LoopState). option_and_then (λ (s : Stage). ran setting s []) (option_map Running t)) is
-    ∙ (elim found as (λ t. option_and_then (λ (after : LoopState). turned after []) t ≡ Some to → option_and_then (λ (s : Stage). ran setting s []) (option_map Running t) ≡ Some (Running to)) [
+    ∙ (elim found as (λ t. option_and_then (λ (after : LoopState). after_entries after []) t ≡ Some to → option_and_then (λ (s : Stage). ran setting s []) (option_map Running t) ≡ Some (Running to)) [
       | None ↦ λ none. cc
       | Some after ↦ λ some. ap (option_map Running) some
     ]) legal
 
 looked : State → Line → Moment → Bool → Option LoopState
-looked state line moment idle = taken_if idle (in_state state line Free) (entry.Now (Ok moment))
+looked state line moment idle = after_if idle (in_state state line Free) (entry.Now (Ok moment))
 
 -- a poll comes only where the look closed nothing
-polls_at : (polling same : Bool) (mid to : LoopState) (poll : Entry) → option_and_then (λ after. turned after []) (taken_if (polling && same) mid poll) ≡ Some to → polling ≡ true
+polls_at : (polling same : Bool) (mid to : LoopState) (poll : Entry)
+    → option_and_then (λ after. after_entries after []) (after_if (polling && same) mid poll) ≡ Some to
+    → polling ≡ true
 polls_at true same mid to poll legal = refl
 polls_at false same mid to poll legal = cc
 
-none_closed : (closes : List ℕ) (idle : Bool) → is_polling (due_look closes idle) ≡ true → closes ≡ []
+none_closed : (closes : List ℕ) (idle : Bool) → is_polling (due_look closes idle) ≡ true
+    → closes ≡ []
 none_closed [] idle is = refl
 none_closed (port ∷ later) idle is = cc
 
 -- so the loop isn't to end behind it either
-on_still : (asked joined before after : Bool) → (after ≡ true → before ≡ true) → (asked && ((joined && before) && true)) ≡ false → not (asked && (joined && after)) ≡ true
+on_still : (asked joined before after : Bool) → (after ≡ true → before ≡ true)
+    → (asked && ((joined && before) && true)) ≡ false → not (asked && (joined && after)) ≡ true
 on_still false joined before after stays done = refl
 on_still true false before after stays done = refl
 on_still true true before false stays done = refl
 on_still true true true true stays done = absurd (cc)
 on_still true true false true stays done = stays refl
 
-look_step : (setting : Setting) (state : State) (line : Line) (moment : Moment) (wait : Option ℕ) (items : List Ready) (answer : Result Polled WorldFault) (to : LoopState) (idle : Bool) → IsRising 0 state.last_port state.ports → (setting.until_idle && (is_deserted (in_state state line Free) && idle)) ≡ false → option_and_then (λ after. turned after (entry.Poll wait items answer ∷ [])) (looked state line moment idle) ≡ Some to → option_and_then (λ after. ran setting after (entry.Poll wait items answer ∷ [])) (option_map Running (looked state line moment idle)) ≡ Some (Running to)
+look_step : (setting : Setting) (state : State) (line : Line) (moment : Moment) (wait : Option ℕ) (items : List Ready) (answer : Result Polled WorldFault) (to : LoopState) (idle : Bool)
+    → IsRising 0 state.last_port state.ports
+    → (setting.until_idle && (is_deserted (in_state state line Free) && idle)) ≡ false
+    → option_and_then (λ after. after_entries after (entry.Poll wait items answer ∷ [])) (looked state line moment idle) ≡ Some to
+    → option_and_then (λ after. ran setting after (entry.Poll wait items answer ∷ [])) (option_map Running (looked state line moment idle)) ≡ Some (Running to)
 unfolding looked
 look_step setting state line moment wait items answer to false rising done legal = cc
 look_step setting state line moment wait items answer to true rising done legal =
-    let mid : LoopState = led (in_state state line Free) (entry.Now (Ok moment)) in
+    let mid : LoopState = after_entry (in_state state line Free) (entry.Now (Ok moment)) in
     let poll = entry.Poll wait items answer in
     let polls : is_polling mid.due ≡ true = polls_at (is_polling mid.due) (same_wait wait (wait_of mid.state)) mid to poll legal in
     let none : (step state moment Tick).closes ≡ [] = none_closed (step state moment Tick).closes (is_idle mid.state mid.line) polls in
     let may : may_come setting.until_idle mid poll ≡ true =
     on_still setting.until_idle line.joined (client_count state.ports == 0) (client_count mid.state.ports == 0)
     (no_clients state moment rising none) done in
-    poll_step setting mid to poll (taken mid poll) (may_come setting.until_idle mid poll) may refl legal
+    poll_step setting mid to poll (after_if_legal mid poll) (may_come setting.until_idle mid poll) may refl legal
 
 -- what a look and a poll add is a run, where the loop isn't to end there
-pub looks_run : (setting : Setting) (state : State) (line : Line) (moment : Moment) (wait : Option ℕ) (items : List Ready) (answer : Result Polled WorldFault) (to : LoopState) → IsRising 0 state.last_port state.ports → (setting.until_idle && (is_deserted (in_state state line Free) && is_idle state line)) ≡ false → turned (in_state state line Free) (entry.Now (Ok moment) ∷ entry.Poll wait items answer ∷ []) ≡ Some to → ran setting (Running (in_state state line Free)) (entry.Now (Ok moment) ∷ entry.Poll wait items answer ∷ []) ≡ Some (Running to)
+pub looks_run : (setting : Setting) (state : State) (line : Line) (moment : Moment) (wait : Option ℕ) (items : List Ready) (answer : Result Polled WorldFault) (to : LoopState)
+    → IsRising 0 state.last_port state.ports
+    → (setting.until_idle && (is_deserted (in_state state line Free) && is_idle state line)) ≡ false
+    → after_entries (in_state state line Free) (entry.Now (Ok moment) ∷ entry.Poll wait items answer ∷ []) ≡ Some to
+    → ran setting (Running (in_state state line Free)) (entry.Now (Ok moment) ∷ entry.Poll wait items answer ∷ []) ≡ Some (Running to)
 unfolding looked
 looks_run setting state line moment wait items answer to rising done legal =
     look_step setting state line moment wait items answer to (is_idle state line) rising done legal
@@ -160,21 +192,28 @@ abbrev pub IsOn : Setting → State → Line → Type 0
 IsOn setting state line =
     (setting.until_idle && (is_deserted (in_state state line Free) && is_idle state line)) ≡ false
 
-pub served_runs : {old new : Option (List Entry)} (setting : Setting) (from to : LoopState) → Advances from old new to → Runs setting (Running from) old new (Running to)
+pub served_runs : {old new : Option (List Entry)} (setting : Setting) (from to : LoopState)
+    → Advances from old new to → Runs setting (Running from) old new (Running to)
 served_runs setting from to turn = record {
   added = turn.calls.added;
   told = turn.calls.told;
   legal = quiet_runs setting from to turn.calls.added turn.calls.quiet turn.calls.legal;
 }
 
-pub polled_runs : {old new : Option (List Entry)} (setting : Setting) (state next : State) (line after : Line) → IsRising 0 state.last_port state.ports → IsOn setting state line → Looks (Ok turns.Polled) (in_state state line Free) old new next after → Runs setting (Running (in_state state line Free)) old new (Running (in_state next after Free))
+pub polled_runs : {old new : Option (List Entry)} (setting : Setting) (state next : State) (line after : Line)
+    → IsRising 0 state.last_port state.ports → IsOn setting state line
+    → LooksAndPolls (Ok turns.Polled) (in_state state line Free) old new next after
+    → Runs setting (Running (in_state state line Free)) old new (Running (in_state next after Free))
 polled_runs setting state next line after rising on looks = record {
   added = entry.Now (Ok looks.moment) ∷ entry.Poll looks.polls.wait looks.polls.items (Ok polled.Some) ∷ [];
   told = looks.polls.told;
   legal = looks_run setting state line looks.moment looks.polls.wait looks.polls.items (Ok polled.Some) (in_state next after Free) rising on looks.polls.legal;
 }
 
-pub over_ends : {old new : Option (List Entry)} (setting : Setting) (state next : State) (line after : Line) → IsRising 0 state.last_port state.ports → IsOn setting state line → Looks (Ok turns.Over) (in_state state line Free) old new next after → Serves ends.Over setting (Running (in_state state line Free)) old new
+pub over_ends : {old new : Option (List Entry)} (setting : Setting) (state next : State) (line after : Line)
+    → IsRising 0 state.last_port state.ports → IsOn setting state line
+    → LooksAndPolls (Ok turns.Over) (in_state state line Free) old new next after
+    → Serves ends.Over setting (Running (in_state state line Free)) old new
 over_ends setting state next line after rising on looks = let waits = looks.polls.waits in record {
   wait = waits.wait;
   items = waits.items;
@@ -186,7 +225,10 @@ over_ends setting state next line after rising on looks = let waits = looks.poll
   };
 }
 
-pub fault_ends : {old new : Option (List Entry)} (setting : Setting) (state next : State) (line after : Line) → IsRising 0 state.last_port state.ports → IsOn setting state line → Looks (Err faults.Poll) (in_state state line Free) old new next after → Serves ends.PollFault setting (Running (in_state state line Free)) old new
+pub fault_ends : {old new : Option (List Entry)} (setting : Setting) (state next : State) (line after : Line)
+    → IsRising 0 state.last_port state.ports → IsOn setting state line
+    → LooksAndPolls (Err faults.Poll) (in_state state line Free) old new next after
+    → Serves ends.PollFault setting (Running (in_state state line Free)) old new
 fault_ends setting state next line after rising on looks = let waits = looks.polls.waits in record {
   wait = waits.wait;
   items = waits.items;
@@ -198,7 +240,10 @@ fault_ends setting state next line after rising on looks = let waits = looks.pol
   };
 }
 
-pub memory_ends : {old new : Option (List Entry)} (setting : Setting) (state next : State) (line after : Line) → IsRising 0 state.last_port state.ports → IsOn setting state line → (Stops (in_state state line Free) old new ⊎ Looks (Err faults.Memory) (in_state state line Free) old new next after) → Serves ends.Memory setting (Running (in_state state line Free)) old new
+pub memory_ends : {old new : Option (List Entry)} (setting : Setting) (state next : State) (line after : Line)
+    → IsRising 0 state.last_port state.ports → IsOn setting state line
+    → (Stops (in_state state line Free) old new ⊎ LooksAndPolls (Err faults.Memory) (in_state state line Free) old new next after)
+    → Serves ends.Memory setting (Running (in_state state line Free)) old new
 memory_ends setting state next line after rising on (inl stops) = record {
   to = Running stops.to;
   calls = record {
@@ -220,31 +265,39 @@ memory_ends setting state next line after rising on (inr looks) =
     }
 
 -- what a turn did, by how it ended
-pub turn_at : {result answer : Result Turn HubFault} (from : LoopState) (old new : Option (List Entry)) (state : State) (line : Line) → result ≡ answer → Turns result from old new state line → Turns answer from old new state line
-turn_at from old new state line is turn = subst (λ (r : Result Turn HubFault). Turns r from old new state line) is turn
+pub turn_at : {result answer : Result Turn HubFault} (from : LoopState) (old new : Option (List Entry)) (state : State) (line : Line)
+    → result ≡ answer → Turns result from old new state line → Turns answer from old new state line
+turn_at from old new state line is turn =
+    subst (λ (r : Result Turn HubFault). Turns r from old new state line) is turn
 
 -- ---- the listeners
 
 bytes_same : (bytes : List ℕ) → bytes_eq bytes bytes ≡ true
 bytes_same bytes = (bytes_decides bytes bytes).1 refl
 
-first_bind : (setting : Setting) (stage : Stage) → stage_if (bytes_eq setting.path setting.path) stage ≡ Some stage
+first_bind : (setting : Setting) (stage : Stage)
+    → stage_if (bytes_eq setting.path setting.path) stage ≡ Some stage
 first_bind setting stage = ap (λ (b : Bool). stage_if b stage) (bytes_same setting.path)
 
-later_bind : (setting : Setting) (at : List ℕ) (stage : Stage) → at ≡ children_path setting.path → stage_if (bytes_eq at (children_path setting.path)) stage ≡ Some stage
+later_bind : (setting : Setting) (at : List ℕ) (stage : Stage) → at ≡ children_path setting.path
+    → stage_if (bytes_eq at (children_path setting.path)) stage ≡ Some stage
 later_bind setting at stage is =
     ap (λ (xs : List ℕ). stage_if (bytes_eq xs (children_path setting.path)) stage) is
     ∙ ap (λ (b : Bool). stage_if b stage) (bytes_same (children_path setting.path))
 
-ran_one : (setting : Setting) (from to : Stage) (next : Entry) → gone_on setting from next ≡ Some to → ran setting from (next ∷ []) ≡ Some to
+ran_one : (setting : Setting) (from to : Stage) (next : Entry) → gone_on setting from next ≡ Some to
+    → ran setting from (next ∷ []) ≡ Some to
 ran_one setting from to next is = ap (option_and_then (λ (after : Stage). ran setting after [])) is
 
-runs_one : (setting : Setting) (from to : Stage) (old new : Option (List Entry)) (next : Entry) → gone_on setting from next ≡ Some to → Grows old new (next ∷ []) → Runs setting from old new to
+runs_one : (setting : Setting) (from to : Stage) (old new : Option (List Entry)) (next : Entry)
+    → gone_on setting from next ≡ Some to → Grows old new (next ∷ []) → Runs setting from old new to
 runs_one setting from to old new next is told =
     record { added = next ∷ []; told = told; legal = ran_one setting from to next is }
 
 -- the clients' listener couldn't be bound
-pub opens_not : (fault : WorldFault) (setting : Setting) (old new : Option (List Entry)) → Tells old new (is_short {T = Unit {0}} (Err fault)) (entry.Bind Clients setting.path (Err fault)) → Opens (Err fault) setting old new
+pub opens_not : (fault : WorldFault) (setting : Setting) (old new : Option (List Entry))
+    → Tells old new (is_short {T = Unit {0}} (Err fault)) (entry.Bind Clients setting.path (Err fault))
+    → Opens (Err fault) setting old new
 opens_not Failed setting old new told = record {
   door = Clients;
   path = setting.path;
@@ -265,7 +318,11 @@ opens_not Memory setting old new (inr told) = record {
 }
 
 -- the clients' listener was bound, and then the children's or not
-pub opens_by : (result : Result Unit WorldFault) (setting : Setting) (old between new : Option (List Entry)) (at : List ℕ) → at ≡ children_path setting.path → Grows old between (entry.Bind Clients setting.path (Ok tt) ∷ []) → Tells between new (is_short result) (entry.Bind Children at result) → Opens result setting old new
+pub opens_by : (result : Result Unit WorldFault) (setting : Setting) (old between new : Option (List Entry)) (at : List ℕ)
+    → at ≡ children_path setting.path
+    → Grows old between (entry.Bind Clients setting.path (Ok tt) ∷ [])
+    → Tells between new (is_short result) (entry.Bind Children at result)
+    → Opens result setting old new
 opens_by (Ok unit) setting old between new at is first told =
     runs_more (runs_one setting Unbound HalfBound old between (entry.Bind Clients setting.path (Ok tt)) (first_bind setting HalfBound) first)
     (runs_one setting HalfBound (begun setting) between new (entry.Bind Children at (Ok unit)) (later_bind setting at (begun setting) is) told)

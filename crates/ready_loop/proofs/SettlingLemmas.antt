@@ -16,10 +16,10 @@ use Rattle.loop_model.specs.declared.thing.Thing.{Thing}
 use Rattle.loop_model.specs.declared.thing.Thing.TheVariants.{Accept, Read, Write}
 use Rattle.loop_model.proofs.AsideLemmas.{set_of-filter}
 use Rattle.loop_model.proofs.RoundLemmas.{stands_able}
-use Rattle.loop_model.proofs.TestLemmas.{and_both}
+use Rattle.loop_model.proofs.TestLemmas.{alike, and_both, true_false}
 use Rattle.loop_model.proofs.ThingLemmas.{false_by, same_thing-refl, same_thing-true}
 use Rattle.ready_loop.specs.Standing.{IsKept, door_aside, is_at_any, is_listener, without_port, without_ports}
-use Rattle.ready_loop.proofs.FilterLemmas.{absent-dropped, filter_alike, filter_all, filter_none, filter_twice, true_false}
+use Rattle.loop_model.proofs.FilterLemmas.{absent-dropped, filter_alike, filter_all, filter_none, filter_twice}
 
 -- ---- the ports that were closed
 
@@ -67,7 +67,8 @@ ports-queue (port ∷ ports) line =
     (λ other. (not (same_thing (Read port) other) && not (same_thing (Write port) other)) && left_at ports other)
     (left_at (port ∷ ports)) line.queue (λ thing there. left_more port ports thing)
 
-pub ports-aside : (ports : List ℕ) (line : Line) → (without_ports ports line).aside ≡ gone_aside ports line.aside
+pub ports-aside : (ports : List ℕ) (line : Line)
+    → (without_ports ports line).aside ≡ gone_aside ports line.aside
 ports-aside [] line = refl
 ports-aside (port ∷ ports) line = ports-aside ports (without_port port line)
 
@@ -84,11 +85,6 @@ same_line line other queue aside joined =
     ∙ ap (λ (b : Bool). let l : Line = record { queue = other.queue; aside = other.aside; joined = b } in l) joined
 
 -- ---- what stands there can be served
-
-alike : (a b : Bool) → (a ≡ true → b ≡ true) → (b ≡ true → a ≡ true) → a ≡ b
-alike true b there back = sym (there refl)
-alike false true there back = back refl
-alike false false there back = refl
 
 never_both : (a b : Bool) → a ≡ b → (not a && b) ≡ false
 never_both true true is = refl
@@ -108,7 +104,8 @@ module _ (state : State) (closes : List ℕ) (queue : List Thing) (kept : IsKept
       alike (is_servable state thing) (stands thing state) (stands_able state thing) (kept.kept thing there other)
 
   -- while numbers are left
-  able-left : nat_lt state.last_port (2 ^ 64 - 1) ≡ true → (thing : Thing) → set_of queue thing ≡ true
+  able-left : nat_lt state.last_port (2 ^ 64 - 1) ≡ true → (thing : Thing)
+      → set_of queue thing ≡ true
       → is_servable state thing ≡ stands thing state
   able-left more (Accept door) there = more
   able-left more (Read port) there = able-port (Read port) there refl
@@ -126,7 +123,8 @@ module _ (state : State) (closes : List ℕ) (queue : List Thing) (kept : IsKept
       (λ thing there. never_both (is_servable state thing) (stands thing state) (able-left more thing there))
 
   -- once none is left, of what stands there only listeners can't be served
-  able-last : nat_lt state.last_port (2 ^ 64 - 1) ≡ false → (thing : Thing) → set_of queue thing ≡ true
+  able-last : nat_lt state.last_port (2 ^ 64 - 1) ≡ false → (thing : Thing)
+      → set_of queue thing ≡ true
       → (left_at closes thing && no_door thing) ≡ is_servable state thing
   able-last none (Accept Clients) there = sym none
   able-last none (Accept Children) there = sym none
@@ -145,7 +143,8 @@ module _ (state : State) (closes : List ℕ) (queue : List Thing) (kept : IsKept
       and_yes true = refl
       and_yes false = refl
 
-  stuck-last : nat_lt state.last_port (2 ^ 64 - 1) ≡ false → (thing : Thing) → set_of queue thing ≡ true
+  stuck-last : nat_lt state.last_port (2 ^ 64 - 1) ≡ false → (thing : Thing)
+      → set_of queue thing ≡ true
       → is_stuck state thing ≡ (left_at closes thing && is_listener thing)
   stuck-last none (Accept door) there = ap (λ (b : Bool). not b && true) none
   stuck-last none (Read port) there =
@@ -176,7 +175,8 @@ settles-left state closes line kept more =
 
 -- ---- listeners are set aside
 
-doors-queue : (door : Door) (line : Line) → (door_aside door line).queue ≡ dropped (Accept door) line.queue
+doors-queue : (door : Door) (line : Line)
+    → (door_aside door line).queue ≡ dropped (Accept door) line.queue
 doors-queue door line = by_test (set_of line.queue (Accept door)) refl
   where
     by_test : (there : Bool) → set_of line.queue (Accept door) ≡ there
@@ -202,7 +202,8 @@ doors-joined door line = by_test (set_of line.queue (Accept door))
     by_test false = refl
 
 -- a thing that stands once is the only one that is the same
-filter-same : (thing : Thing) (queue : List Thing) (there : Bool) → AreApart queue → set_of queue thing ≡ there
+filter-same : (thing : Thing) (queue : List Thing) (there : Bool) → AreApart queue
+    → set_of queue thing ≡ there
     → filter (same_thing thing) queue ≡ (if there then thing ∷ [] else [])
 filter-same thing queue false apart is =
     filter_none (same_thing thing) queue (λ other also. false_by (same_thing thing other) (λ same.
@@ -241,7 +242,8 @@ listeners queue true false apart first other one =
     filter_alike is_listener (same_thing (Accept Clients)) queue alone
     ∙ filter-same (Accept Clients) queue true apart first
   where
-    alone : (thing : Thing) → set_of queue thing ≡ true → is_listener thing ≡ same_thing (Accept Clients) thing
+    alone : (thing : Thing) → set_of queue thing ≡ true
+        → is_listener thing ≡ same_thing (Accept Clients) thing
     alone (Accept Clients) there = refl
     alone (Accept Children) there = absurd (true_false (set_of queue (Accept Children)) there other)
     alone (Read port) there = refl
@@ -250,7 +252,8 @@ listeners queue false children apart first other one =
     filter_alike is_listener (same_thing (Accept Children)) queue alone
     ∙ filter-same (Accept Children) queue children apart other
   where
-    alone : (thing : Thing) → set_of queue thing ≡ true → is_listener thing ≡ same_thing (Accept Children) thing
+    alone : (thing : Thing) → set_of queue thing ≡ true
+        → is_listener thing ≡ same_thing (Accept Children) thing
     alone (Accept Clients) there = absurd (true_false (set_of queue (Accept Clients)) there first)
     alone (Accept Children) there = refl
     alone (Read port) there = refl
@@ -260,9 +263,11 @@ listeners queue false children apart first other one =
 gone-put : (ports : List ℕ) (door : Door) (aside : Aside)
     → gone_aside ports (put_aside (Accept door) aside) ≡ put_aside (Accept door) (gone_aside ports aside)
 gone-put [] door aside = refl
-gone-put (port ∷ ports) door aside = gone-put ports door (taken_back (Write port) (taken_back (Read port) aside))
+gone-put (port ∷ ports) door aside =
+    gone-put ports door (taken_back (Write port) (taken_back (Read port) aside))
 
-put-doors : (clients children : Bool) (ports : List ℕ) (aside : Aside) → (clients ≡ true → children ≡ true → ⊥)
+put-doors : (clients children : Bool) (ports : List ℕ) (aside : Aside)
+    → (clients ≡ true → children ≡ true → ⊥)
     → (if children then put_aside (Accept Children) (if clients then put_aside (Accept Clients) (gone_aside ports aside) else gone_aside ports aside) else (if clients then put_aside (Accept Clients) (gone_aside ports aside) else gone_aside ports aside))
     ≡ gone_aside ports (all_aside (if clients then Accept Clients ∷ [] else (if children then Accept Children ∷ [] else [])) aside)
 put-doors true true ports aside one = absurd (one refl refl)
@@ -288,7 +293,8 @@ settles-last state closes line kept apart none =
     children : Bool
     children = set_of gone.queue (Accept Children)
 
-    stood : (door : Door) → set_of gone.queue (Accept door) ≡ true → set_of line.queue (Accept door) ≡ true
+    stood : (door : Door) → set_of gone.queue (Accept door) ≡ true
+        → set_of line.queue (Accept door) ≡ true
     stood door there =
         (and_both (set_of line.queue (Accept door)) (left_at closes (Accept door))
         (sym (set_of-filter (left_at closes) line.queue (Accept door))

@@ -6,21 +6,10 @@ use Rattle.loop_model.specs.declared.thing.Thing.{Thing}
 use Rattle.loop_model.specs.Aside.{Aside, put_aside, taken_back, things_aside}
 use Rattle.loop_model.specs.Queues.{AreApart, dropped}
 use Rattle.ready_loop.specs.Standing.{IsFront, IsOnce}
-use Rattle.loop_model.proofs.TestLemmas.{and_both}
+use Rattle.loop_model.proofs.TestLemmas.{alike, and_both, neither, true_false}
 use Rattle.loop_model.proofs.ThingLemmas.{false_by, same_thing-refl, same_thing-true}
 use Rattle.loop_model.proofs.AsideLemmas.{set_of-append, set_of-filter, set_of-put_aside, set_of-taken_back}
-use Rattle.ready_loop.proofs.FilterLemmas.{absent-dropped, true_false}
-
--- ---- tests
-
-alike : (a b : Bool) → (a ≡ true → b ≡ true) → (b ≡ true → a ≡ true) → a ≡ b
-alike true b there back = sym (there refl)
-alike false true there back = back refl
-alike false false there back = refl
-
-neither : (a b : Bool) → a ≡ false → b ≡ false → (a || b) ≡ false
-neither true b first second = absurd (cc)
-neither false b first second = second
+use Rattle.loop_model.proofs.FilterLemmas.{absent-dropped}
 
 -- it doesn't matter which is asked of which
 pub same_thing-swapped : (thing other : Thing) → same_thing thing other ≡ same_thing other thing
@@ -31,19 +20,22 @@ same_thing-swapped thing other = alike (same_thing thing other) (same_thing othe
 
 -- ---- nothing stands twice
 
-apart_by : (test : Bool) (first : Thing) (things : List Thing) → set_of things first ≡ false → AreApart things
+apart_by : (test : Bool) (first : Thing) (things : List Thing) → set_of things first ≡ false
+    → AreApart things
     → AreApart (cond test (first ∷ things) things)
 apart_by true first things absent apart = (absent, apart)
 apart_by false first things absent apart = apart
 
-pub apart-filter : (test : Thing → Bool) (things : List Thing) → AreApart things → AreApart (filter test things)
+pub apart-filter : (test : Thing → Bool) (things : List Thing) → AreApart things
+    → AreApart (filter test things)
 apart-filter test [] apart = tt
 apart-filter test (first ∷ things) apart =
     apart_by (test first) first (filter test things)
     (set_of-filter test things first ∙ ap (λ (b : Bool). b && test first) apart.0)
     (apart-filter test things apart.1)
 
-pub apart-more : (thing : Thing) (things : List Thing) → AreApart things → set_of things thing ≡ false
+pub apart-more : (thing : Thing) (things : List Thing) → AreApart things
+    → set_of things thing ≡ false
     → AreApart (things ++ thing ∷ [])
 apart-more thing [] apart absent = (refl, tt)
 apart-more thing (first ∷ things) apart absent = (
@@ -65,7 +57,8 @@ apart-more thing (first ∷ things) apart absent = (
 
 module _ (queue : List Thing) (aside : Aside) (once : IsOnce queue aside) where
   -- what is aside isn't in the queue
-  pub aside-absent : (thing : Thing) → set_of (things_aside aside) thing ≡ true → set_of queue thing ≡ false
+  pub aside-absent : (thing : Thing) → set_of (things_aside aside) thing ≡ true
+      → set_of queue thing ≡ false
   aside-absent thing there = false_by (set_of queue thing) (λ also. true_false (set_of (things_aside aside) thing) there (once.either thing also))
 
   -- with fewer in the queue
@@ -89,7 +82,8 @@ module _ (queue : List Thing) (aside : Aside) (once : IsOnce queue aside) where
       and_false false b none = refl
 
   -- with one more in the queue
-  pub once-queued : (thing : Thing) → set_of queue thing ≡ false → set_of (things_aside aside) thing ≡ false
+  pub once-queued : (thing : Thing) → set_of queue thing ≡ false
+      → set_of (things_aside aside) thing ≡ false
       → IsOnce (queue ++ thing ∷ []) aside
   once-queued thing absent also = record {
     apart = apart-more thing queue once.apart absent;

@@ -28,13 +28,15 @@ writes_aside mark = is_aside mark.write
 
 -- what is asked of standings
 abbrev pub is_ready : Standings → Thing → Bool
-is_ready view thing = set_of (things_aside view.listed) thing || set_of (things_aside view.aside) thing
+is_ready view thing =
+    set_of (things_aside view.listed) thing || set_of (things_aside view.aside) thing
 
 abbrev pub is_set_aside : Standings → Thing → Bool
 is_set_aside view thing = set_of (things_aside view.aside) thing
 
 -- it is told of a thing that is told, in standings that are told
-pub told : (test : Standings → Thing → Bool) (there : Bool) (from view : Standings) (thing found : Thing) → from ≡ view
+pub told : (test : Standings → Thing → Bool) (there : Bool) (from view : Standings) (thing found : Thing)
+    → from ≡ view
     → thing ≡ found → there ≡ test from found → there ≡ test view thing
 told test there from view thing found seen here is =
     is ∙ ap (λ (s : Standings). test s found) seen ∙ ap (test view) (sym here)
@@ -117,7 +119,8 @@ module _ (listed aside : List Door) where
         at-marked_same test new before rise none
         (is ∙ ap (λ (p : ℕ). test (mark_of p before)) (sym (same ∙ own)))
 
-    stood_read : (marks : List Mark) → marks ≡ marked (with_read standing (mark_of port before)) before
+    stood_read : (marks : List Mark)
+        → marks ≡ marked (with_read standing (mark_of port before)) before
         → standings_of listed aside marks ≡ stood (Read port) standing (standings_of listed aside before)
     stood_read marks put =
         let new = with_read standing (mark_of port before) in
@@ -138,7 +141,8 @@ module _ (listed aside : List Door) where
         by_standing at.Listed = refl
         by_standing at.Aside = refl
 
-    stood_write : (marks : List Mark) → marks ≡ marked (with_write standing (mark_of port before)) before
+    stood_write : (marks : List Mark)
+        → marks ≡ marked (with_write standing (mark_of port before)) before
         → standings_of listed aside marks ≡ stood (Write port) standing (standings_of listed aside before)
     stood_write marks put =
         let new = with_write standing (mark_of port before) in
@@ -173,7 +177,8 @@ module _ (listed aside : List Door) where
       ∙ lists-same _ _ _ _ _ _ _ _ (same reads_listed refl) (same writes_listed refl) (same reads_aside refl) (same writes_aside refl))
 
   module _ (port : ℕ) (before : List Mark) (rise : IsRisingList (ports_of before)) where
-    cleared_read : (marks : List Mark) → marks ≡ changed (with_read at.Neither (mark_of port before)) before
+    cleared_read : (marks : List Mark)
+        → marks ≡ changed (with_read at.Neither (mark_of port before)) before
         → standings_of listed aside marks ≡ stood (Read port) at.Neither (standings_of listed aside before)
     cleared_read marks put =
         by_there (is_among port (ports_of before)) refl
@@ -192,7 +197,8 @@ module _ (listed aside : List Door) where
             (ap (with_read at.Neither) (absent-mark port before there))
             ∙ stood_read port at.Neither before rise (marked (with_read at.Neither (mark_of port before)) before) refl
 
-    cleared_write : (marks : List Mark) → marks ≡ changed (with_write at.Neither (mark_of port before)) before
+    cleared_write : (marks : List Mark)
+        → marks ≡ changed (with_write at.Neither (mark_of port before)) before
         → standings_of listed aside marks ≡ stood (Write port) at.Neither (standings_of listed aside before)
     cleared_write marks put =
         by_there (is_among port (ports_of before)) refl
@@ -213,7 +219,8 @@ module _ (listed aside : List Door) where
 
   -- ---- a mark is taken
 
-  pub stood-forgotten : (port : ℕ) (before marks : List Mark) → IsRisingList (ports_of before) → marks ≡ unmarked port before
+  pub stood-forgotten : (port : ℕ) (before marks : List Mark) → IsRisingList (ports_of before)
+      → marks ≡ unmarked port before
       → standings_of listed aside marks ≡ forgotten port (standings_of listed aside before)
   stood-forgotten port before marks rise left =
       ap (standings_of listed aside) left
@@ -238,13 +245,15 @@ module _ (listed aside : List Door) (before marks : List Mark) (port : ℕ) (thi
       stood_write listed aside port standing before rise marks put
       ∙ ap (stood (Write port) standing) seen ∙ ap (λ (t : Thing). stood t standing view) (sym here)
 
-  pub told-cleared_read : thing ≡ Read port → marks ≡ changed (with_read at.Neither (mark_of port before)) before
+  pub told-cleared_read : thing ≡ Read port
+      → marks ≡ changed (with_read at.Neither (mark_of port before)) before
       → standings_of listed aside marks ≡ stood thing at.Neither view
   told-cleared_read here put =
       cleared_read listed aside port before rise marks put
       ∙ ap (stood (Read port) at.Neither) seen ∙ ap (λ (t : Thing). stood t at.Neither view) (sym here)
 
-  pub told-cleared_write : thing ≡ Write port → marks ≡ changed (with_write at.Neither (mark_of port before)) before
+  pub told-cleared_write : thing ≡ Write port
+      → marks ≡ changed (with_write at.Neither (mark_of port before)) before
       → standings_of listed aside marks ≡ stood thing at.Neither view
   told-cleared_write here put =
       cleared_write listed aside port before rise marks put

@@ -13,19 +13,20 @@ use Rattle.world_ports.specs.declared.answers.WorldFault.{WorldFault}
 use Rattle.world_ports.specs.declared.entry.Entry.{Entry}
 use Rattle.world_ports.specs.declared.entry.Entry.TheVariants as entry
 use Rattle.loop_model.specs.Dues.{Free}
-use Rattle.loop_model.specs.LegalJournal.{LoopState, in_state, taken, turned}
+use Rattle.loop_model.specs.LegalJournal.{LoopState, after_entries, after_if_legal, in_state}
 use Rattle.agent_model.specs.State.{State}
 use Rattle.ready_loop.specs.declared.outcome.HubFault.{HubFault}
 use Rattle.ready_loop.specs.declared.outcome.HubFault.TheVariants as faults
 use Rattle.ready_loop.specs.declared.outcome.Turn.{Turn}
 use Rattle.ready_loop.specs.declared.outcome.Turn.TheVariants as turns
 use Rattle.loop_model.specs.Lines.{Line}
-use Rattle.loop_model.proofs.JournalLemmas.{turned-append}
-use Rattle.ready_loop.specs.Moves.{Advances, Continues, Goes, GoesBy, PollsOr, Serves, ServesBy, Stops, Turns, Waits, WaitsOnce, is_poll}
+use Rattle.loop_model.proofs.JournalLemmas.{after_entries-append}
+use Rattle.ready_loop.specs.Moves.{AddsAnyPoll, AddsPoll, Advances, AdvancesBy, AdvancesOrStops, Continues, ContinuesBy, ContinuesOrStops, PollsOrStops, Stops, Turns, is_poll}
 
 -- ---- the journal grows
 
-pub grows_more : (old mid new : Option (List Entry)) (first later : List Entry) → Grows old mid first → Grows mid new later → Grows old new (first ++ later)
+pub grows_more : (old mid new : Option (List Entry)) (first later : List Entry)
+    → Grows old mid first → Grows mid new later → Grows old new (first ++ later)
 grows_more None mid new first later told more = tt
 grows_more (Some before) None new first later told more = absurd told
 grows_more (Some before) (Some between) None first later told more = absurd more
@@ -34,20 +35,25 @@ grows_more (Some before) (Some between) (Some now) first later told more =
 
 -- ---- the fold over two parts
 
-turned_on : (from mid to : LoopState) (first later : List Entry) → turned from first ≡ Some mid → turned mid later ≡ Some to → turned from (first ++ later) ≡ Some to
+turned_on : (from mid to : LoopState) (first later : List Entry)
+    → after_entries from first ≡ Some mid → after_entries mid later ≡ Some to
+    → after_entries from (first ++ later) ≡ Some to
 turned_on from mid to first later legal more =
-    turned-append from first later ∙ ap (option_and_then (λ (after : LoopState). turned after later)) legal ∙ more
+    after_entries-append from first later ∙ ap (option_and_then (λ (after : LoopState). after_entries after later)) legal ∙ more
 
-turned_one : (from to : LoopState) (next : Entry) → taken from next ≡ Some to → turned from (next ∷ []) ≡ Some to
-turned_one from to next is = ap (option_and_then (λ (after : LoopState). turned after [])) is
+turned_one : (from to : LoopState) (next : Entry) → after_if_legal from next ≡ Some to
+    → after_entries from (next ∷ []) ≡ Some to
+turned_one from to next is = ap (option_and_then (λ (after : LoopState). after_entries after [])) is
 
 -- ---- none of them is a poll
 
-quiet_by : (here : Bool) (first later : Bool) → (here || first) ≡ false → (first ≡ false → later ≡ false) → (here || later) ≡ false
+quiet_by : (here : Bool) (first later : Bool) → (here || first) ≡ false
+    → (first ≡ false → later ≡ false) → (here || later) ≡ false
 quiet_by true first later quiet rest = cc
 quiet_by false first later quiet rest = rest quiet
 
-quiet_both : (first later : List Entry) → list_any is_poll first ≡ false → list_any is_poll later ≡ false → list_any is_poll (first ++ later) ≡ false
+quiet_both : (first later : List Entry) → list_any is_poll first ≡ false
+    → list_any is_poll later ≡ false → list_any is_poll (first ++ later) ≡ false
 quiet_both [] later quiet more = more
 quiet_both (next ∷ first) later quiet more =
     quiet_by (is_poll next) (list_any is_poll first) (list_any is_poll (first ++ later)) quiet (λ rest. quiet_both first later rest more)
@@ -58,16 +64,20 @@ quiet_one next quiet = ap (λ (b : Bool). b || false) quiet
 -- ---- calls one after another
 
 -- no call
-pub no_call : (from : LoopState) (journal : Option (List Entry)) → Continues from journal journal from
+pub no_call : (from : LoopState) (journal : Option (List Entry))
+    → Continues from journal journal from
 no_call from journal = record {
   added = [];
-  told = elim journal as (λ j. Grows j j []) [ None ↦ tt | Some entries ↦ sym (append-nil entries) ];
+  told =
+      elim journal as (λ j. Grows j j []) [ None ↦ tt | Some entries ↦ sym (append-nil entries) ];
   legal = refl;
   quiet = refl;
 }
 
 -- one call
-pub one_call : (from to : LoopState) (old new : Option (List Entry)) (next : Entry) → is_poll next ≡ false → taken from next ≡ Some to → Grows old new (next ∷ []) → Continues from old new to
+pub one_call : (from to : LoopState) (old new : Option (List Entry)) (next : Entry)
+    → is_poll next ≡ false → after_if_legal from next ≡ Some to → Grows old new (next ∷ [])
+    → Continues from old new to
 one_call from to old new next quiet is told = record {
   added = next ∷ [];
   told = told;
@@ -76,7 +86,8 @@ one_call from to old new next quiet is told = record {
 }
 
 -- some calls, and then others
-pub goes_on : {from mid to : LoopState} {old between new : Option (List Entry)} → Continues from old between mid → Continues mid between new to → Continues from old new to
+pub goes_on : {from mid to : LoopState} {old between new : Option (List Entry)}
+    → Continues from old between mid → Continues mid between new to → Continues from old new to
 goes_on {from} {mid} {to} {old} {between} {new} first later = record {
   added = first.added ++ later.added;
   told = grows_more old between new first.added later.added first.told later.told;
@@ -85,7 +96,9 @@ goes_on {from} {mid} {to} {old} {between} {new} first later = record {
 }
 
 -- one call, and then others
-pub advances : {from mid to : LoopState} {old between new : Option (List Entry)} (next : Entry) → is_poll next ≡ false → taken from next ≡ Some mid → Grows old between (next ∷ []) → Continues mid between new to → Advances from old new to
+pub advances : {from mid to : LoopState} {old between new : Option (List Entry)} (next : Entry)
+    → is_poll next ≡ false → after_if_legal from next ≡ Some mid → Grows old between (next ∷ [])
+    → Continues mid between new to → Advances from old new to
 unfolding goes_on one_call
 advances {from} {mid} {to} {old} {between} {new} next quiet is told later = record {
   calls = goes_on (one_call from mid old between next quiet is told) later;
@@ -93,7 +106,9 @@ advances {from} {mid} {to} {old} {between} {new} next quiet is told later = reco
 }
 
 -- one call alone
-pub advances_once : (from to : LoopState) (old new : Option (List Entry)) (next : Entry) → is_poll next ≡ false → taken from next ≡ Some to → Grows old new (next ∷ []) → Advances from old new to
+pub advances_once : (from to : LoopState) (old new : Option (List Entry)) (next : Entry)
+    → is_poll next ≡ false → after_if_legal from next ≡ Some to → Grows old new (next ∷ [])
+    → Advances from old new to
 unfolding one_call
 advances_once from to old new next quiet is told = record {
   calls = one_call from to old new next quiet is told;
@@ -101,61 +116,85 @@ advances_once from to old new next quiet is told = record {
 }
 
 -- what was told of a call, at the answer that it had
-pub told_at : {T : Type 0} (of : Result T WorldFault → Entry) (old new : Option (List Entry)) {result answer : Result T WorldFault} → result ≡ answer → Tells old new (is_short result) (of result) → Tells old new (is_short answer) (of answer)
+pub told_at : {T : Type 0} (of : Result T WorldFault → Entry) (old new : Option (List Entry)) {result answer : Result T WorldFault}
+    → result ≡ answer → Tells old new (is_short result) (of result)
+    → Tells old new (is_short answer) (of answer)
 told_at of old new is told = subst (λ r. Tells old new (is_short r) (of r)) is told
 
 -- what continues, stops there
-pub stops_there : {from to : LoopState} {old new : Option (List Entry)} → Continues from old new to → Stops from old new
+pub stops_there : {from to : LoopState} {old new : Option (List Entry)} → Continues from old new to
+    → Stops from old new
 stops_there {from} {to} calls = record { to = to; calls = calls }
 
 -- a call that may be missing from the journal
-pub stops_short : (from to : LoopState) (old new : Option (List Entry)) (short : Bool) (next : Entry) → is_poll next ≡ false → taken from next ≡ Some to → Tells old new short next → Stops from old new
-stops_short from to old new false next quiet is told = stops_there (one_call from to old new next quiet is told)
-stops_short from to old new true next quiet is (inl told) = stops_there (one_call from to old new next quiet is told)
+pub stops_short : (from to : LoopState) (old new : Option (List Entry)) (short : Bool) (next : Entry)
+    → is_poll next ≡ false → after_if_legal from next ≡ Some to → Tells old new short next
+    → Stops from old new
+stops_short from to old new false next quiet is told =
+    stops_there (one_call from to old new next quiet is told)
+stops_short from to old new true next quiet is (inl told) =
+    stops_there (one_call from to old new next quiet is told)
 stops_short from to old new true next quiet is (inr told) =
     stops_there (record { added = []; told = told; legal = refl; quiet = refl })
 
 -- some calls, and then a stop
-pub stops_later : {from mid : LoopState} {old between new : Option (List Entry)} → Continues from old between mid → Stops mid between new → Stops from old new
+pub stops_later : {from mid : LoopState} {old between new : Option (List Entry)}
+    → Continues from old between mid → Stops mid between new → Stops from old new
 stops_later first later = record { to = later.to; calls = goes_on first later.calls }
 
 -- the readings that calls lead to are the same
-pub lands_at : {from : LoopState} {old new : Option (List Entry)} (to other : LoopState) → to ≡ other → Continues from old new to → Continues from old new other
+pub lands_at : {from : LoopState} {old new : Option (List Entry)} (to other : LoopState)
+    → to ≡ other → Continues from old new to → Continues from old new other
 lands_at {from} {old} {new} to other is calls = subst (Continues from old new) is calls
 
 -- ---- by whether memory sufficed
 
-stops_by : {T E : Type 0} (result : Result T E) (from to : LoopState) (old new : Option (List Entry)) → GoesBy result from old new to → Stops from old new
+stops_by : {T E : Type 0} (result : Result T E) (from to : LoopState) (old new : Option (List Entry))
+    → ContinuesBy result from old new to → Stops from old new
 stops_by (Ok value) from to old new goes = stops_there goes
 stops_by (Err fault) from to old new goes = goes
 
 -- what goes on where memory sufficed, stops otherwise
-pub goes_stops : {T E : Type 0} {result : Result T E} {from to : LoopState} {old new : Option (List Entry)} → Goes result from old new to → Stops from old new
+pub goes_stops : {T E : Type 0} {result : Result T E} {from to : LoopState} {old new : Option (List Entry)}
+    → ContinuesOrStops result from old new to → Stops from old new
 goes_stops {T} {E} {result} {from} {to} {old} {new} goes = stops_by result from to old new goes.by
 
-goes_by : {T E : Type 0} (result : Result T E) (from mid to : LoopState) (old between new : Option (List Entry)) → Continues from old between mid → GoesBy result mid between new to → GoesBy result from old new to
+goes_by : {T E : Type 0} (result : Result T E) (from mid to : LoopState) (old between new : Option (List Entry))
+    → Continues from old between mid → ContinuesBy result mid between new to
+    → ContinuesBy result from old new to
 goes_by (Ok value) from mid to old between new first later = goes_on first later
 goes_by (Err fault) from mid to old between new first later = stops_later first later
 
 -- one call, and then others while memory suffices
-pub goes_then : {T E : Type 0} {result : Result T E} {from mid to : LoopState} {old between new : Option (List Entry)} (next : Entry) → is_poll next ≡ false → taken from next ≡ Some mid → Grows old between (next ∷ []) → Goes result mid between new to → Goes result from old new to
+pub goes_then : {T E : Type 0} {result : Result T E} {from mid to : LoopState} {old between new : Option (List Entry)} (next : Entry)
+    → is_poll next ≡ false → after_if_legal from next ≡ Some mid → Grows old between (next ∷ [])
+    → ContinuesOrStops result mid between new to → ContinuesOrStops result from old new to
 goes_then {T} {E} {result} {from} {mid} {to} {old} {between} {new} next quiet is told later = record {
   by = goes_by result from mid to old between new (one_call from mid old between next quiet is told) later.by;
 }
 
-serves_by : {T E : Type 0} (result : Result T E) (from mid to : LoopState) (old between new : Option (List Entry)) (next : Entry) → is_poll next ≡ false → taken from next ≡ Some mid → Grows old between (next ∷ []) → GoesBy result mid between new to → ServesBy result from old new to
-serves_by (Ok value) from mid to old between new next quiet is told later = advances next quiet is told later
-serves_by (Err fault) from mid to old between new next quiet is told later = stops_later (one_call from mid old between next quiet is told) later
+serves_by : {T E : Type 0} (result : Result T E) (from mid to : LoopState) (old between new : Option (List Entry)) (next : Entry)
+    → is_poll next ≡ false → after_if_legal from next ≡ Some mid → Grows old between (next ∷ [])
+    → ContinuesBy result mid between new to → AdvancesBy result from old new to
+serves_by (Ok value) from mid to old between new next quiet is told later =
+    advances next quiet is told later
+serves_by (Err fault) from mid to old between new next quiet is told later =
+    stops_later (one_call from mid old between next quiet is told) later
 
 -- the same, by one call at least
-pub serves_then : {T E : Type 0} {result : Result T E} {from mid to : LoopState} {old between new : Option (List Entry)} (next : Entry) → is_poll next ≡ false → taken from next ≡ Some mid → Grows old between (next ∷ []) → Goes result mid between new to → Serves result from old new to
+pub serves_then : {T E : Type 0} {result : Result T E} {from mid to : LoopState} {old between new : Option (List Entry)} (next : Entry)
+    → is_poll next ≡ false → after_if_legal from next ≡ Some mid → Grows old between (next ∷ [])
+    → ContinuesOrStops result mid between new to → AdvancesOrStops result from old new to
 serves_then {T} {E} {result} {from} {mid} {to} {old} {between} {new} next quiet is told later = record {
   by = serves_by result from mid to old between new next quiet is told later.by;
 }
 
 -- ---- a look, and then a poll
 
-waits_by : (moment : Moment) (from mid to : LoopState) (old between new : Option (List Entry)) (answer : Result Polled WorldFault) → taken from (entry.Now (Ok moment)) ≡ Some mid → Grows old between (entry.Now (Ok moment) ∷ []) → Waits [] mid between new answer to → Waits (entry.Now (Ok moment) ∷ []) from old new answer to
+waits_by : (moment : Moment) (from mid to : LoopState) (old between new : Option (List Entry)) (answer : Result Polled WorldFault)
+    → after_if_legal from (entry.Now (Ok moment)) ≡ Some mid
+    → Grows old between (entry.Now (Ok moment) ∷ []) → AddsPoll [] mid between new answer to
+    → AddsPoll (entry.Now (Ok moment) ∷ []) from old new answer to
 waits_by moment from mid to old between new answer is told later =
     let look = entry.Now (Ok moment) ∷ [] in
     let poll = entry.Poll later.wait later.items answer ∷ [] in
@@ -167,7 +206,10 @@ waits_by moment from mid to old between new answer is told later =
     }
 
 -- one call that looks at the clock, and then a poll
-pub looks_by : (result : Result Turn HubFault) (moment : Moment) (from mid : LoopState) (old between new : Option (List Entry)) (state : State) (line : Line) → taken from (entry.Now (Ok moment)) ≡ Some mid → Grows old between (entry.Now (Ok moment) ∷ []) → PollsOr result mid between new state line → Turns result from old new state line
+pub looks_by : (result : Result Turn HubFault) (moment : Moment) (from mid : LoopState) (old between new : Option (List Entry)) (state : State) (line : Line)
+    → after_if_legal from (entry.Now (Ok moment)) ≡ Some mid
+    → Grows old between (entry.Now (Ok moment) ∷ []) → PollsOrStops result mid between new state line
+    → Turns result from old new state line
 looks_by (Ok turns.Served) moment from mid old between new state line is told polls = absurd polls
 looks_by (Ok turns.Polled) moment from mid old between new state line is told polls = record {
   moment = moment;
@@ -192,7 +234,9 @@ looks_by (Err faults.Memory) moment from mid old between new state line is told 
 })
 
 -- a poll alone
-pub waits_once : (from to : LoopState) (old new : Option (List Entry)) (wait : Option ℕ) (items : List Ready) (answer : Result Polled WorldFault) → taken from (entry.Poll wait items answer) ≡ Some to → Grows old new (entry.Poll wait items answer ∷ []) → Waits [] from old new answer to
+pub waits_once : (from to : LoopState) (old new : Option (List Entry)) (wait : Option ℕ) (items : List Ready) (answer : Result Polled WorldFault)
+    → after_if_legal from (entry.Poll wait items answer) ≡ Some to
+    → Grows old new (entry.Poll wait items answer ∷ []) → AddsPoll [] from old new answer to
 waits_once from to old new wait items answer is told = record {
   wait = wait;
   items = items;
@@ -201,7 +245,10 @@ waits_once from to old new wait items answer is told = record {
 }
 
 -- a poll that wants memory
-pub waits_short : (from to : LoopState) (old new : Option (List Entry)) (wait : Option ℕ) (items : List Ready) → taken from (entry.Poll wait items (Err Memory)) ≡ Some to → Tells old new true (entry.Poll wait items (Err Memory)) → Stops from old new ⊎ WaitsOnce [] from old new
+pub waits_short : (from to : LoopState) (old new : Option (List Entry)) (wait : Option ℕ) (items : List Ready)
+    → after_if_legal from (entry.Poll wait items (Err Memory)) ≡ Some to
+    → Tells old new true (entry.Poll wait items (Err Memory))
+    → Stops from old new ⊎ AddsAnyPoll [] from old new
 waits_short from to old new wait items is (inl told) = inr (record {
   answer = Err Memory;
   last = record { to = to; waits = waits_once from to old new wait items (Err Memory) is told };

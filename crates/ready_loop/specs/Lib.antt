@@ -3,4 +3,5 @@ pub mod Standing
 pub mod Marks
 pub mod Rooms
 pub mod Moves
+pub mod Turning
 pub mod Serving

@@ -13,6 +13,7 @@ use Rattle.ready_loop.specs.declared.marks.Mark.{Mark}
 use Rattle.ready_loop.specs.declared.marks.Standing.{Standing}
 use Rattle.ready_loop.specs.declared.marks.Standing.TheVariants as at
 
+-- it is in the list
 abbrev pub is_listed : Standing → Bool
 is_listed at.Neither = false
 is_listed at.Listed = true
@@ -51,7 +52,7 @@ marked mark (other ∷ marks) =
     if mark.port == other.port then mark ∷ marks
     else (if nat_lt mark.port other.port then mark ∷ other ∷ marks else other ∷ marked mark marks)
 
--- the same, where its port has one
+-- with this mark in its port's place, where the port has one
 abbrev pub changed : Mark → List Mark → List Mark
 changed mark marks = if is_among mark.port (ports_of marks) then marked mark marks else marks
 

@@ -12,7 +12,7 @@ use Rattle.world_ports.specs.declared.entry.Entry.{Entry}
 use Rattle.world_ports.specs.declared.entry.Entry.TheVariants as entry
 use Rattle.agent_model.specs.State.{State}
 use Rattle.loop_model.specs.Dues.{Free}
-use Rattle.loop_model.specs.LegalJournal.{LoopState, in_state, turned}
+use Rattle.loop_model.specs.LegalJournal.{LoopState, after_entries, in_state}
 use Rattle.loop_model.specs.Lines.{Line}
 use Rattle.ready_loop.specs.declared.outcome.Turn.{Turn}
 use Rattle.ready_loop.specs.declared.outcome.Turn.TheVariants as turns
@@ -34,10 +34,10 @@ is_poll (entry.Now answer) = false
 pub record Continues (from : LoopState) (old new : Option (List Entry)) (to : LoopState) : Type 0 where
   pub added : List Entry
   pub told : Grows old new added
-  pub legal : turned from added ≡ Some to
+  pub legal : after_entries from added ≡ Some to
   pub quiet : list_any is_poll added ≡ false
 
--- the same, by one call at least
+-- the calls that were added, one at least, may come from the first reading on, lead to the second, and none is a poll
 pub record Advances (from : LoopState) (old new : Option (List Entry)) (to : LoopState) : Type 0 where
   pub calls : Continues from old new to
   pub some : 0 < length calls.added
@@ -47,68 +47,68 @@ pub record Stops (from : LoopState) (old new : Option (List Entry)) : Type 0 whe
   pub to : LoopState
   pub calls : Continues from old new to
 
--- behind some calls a poll was added, with this answer
-pub record Waits (before : List Entry) (from : LoopState) (old new : Option (List Entry)) (answer : Result Polled WorldFault) (to : LoopState) : Type 0 where
+-- behind the calls `before` a poll with this answer was added, and these lead from the first reading to the second
+pub record AddsPoll (before : List Entry) (from : LoopState) (old new : Option (List Entry)) (answer : Result Polled WorldFault) (to : LoopState) : Type 0 where
   pub wait : Option ℕ
   pub items : List Ready
   pub told : Grows old new (before ++ entry.Poll wait items answer ∷ [])
-  pub legal : turned from (before ++ entry.Poll wait items answer ∷ []) ≡ Some to
+  pub legal : after_entries from (before ++ entry.Poll wait items answer ∷ []) ≡ Some to
 
--- the same, wherever it leads to
-pub record WaitsLast (before : List Entry) (from : LoopState) (old new : Option (List Entry)) (answer : Result Polled WorldFault) : Type 0 where
+-- behind the calls `before` a poll with this answer was added, which is the last call that is read
+pub record AddsLastPoll (before : List Entry) (from : LoopState) (old new : Option (List Entry)) (answer : Result Polled WorldFault) : Type 0 where
   pub to : LoopState
-  pub waits : Waits before from old new answer to
+  pub waits : AddsPoll before from old new answer to
 
--- by whether memory sufficed
-abbrev pub GoesBy : {T E : Type 0} → Result T E → LoopState → Option (List Entry) → Option (List Entry) → LoopState → Type 0
-GoesBy (Ok _) from old new to = Continues from old new to
-GoesBy (Err _) from old new to = Stops from old new
+-- by the result of a call that may do nothing: where memory ran out, the calls stop at some reading
+abbrev pub ContinuesBy : {T E : Type 0} → Result T E → LoopState → Option (List Entry) → Option (List Entry) → LoopState → Type 0
+ContinuesBy (Ok _) from old new to = Continues from old new to
+ContinuesBy (Err _) from old new to = Stops from old new
 
--- where memory sufficed, the calls that were added lead from the first reading to the second
-pub record Goes {T E : Type 0} (result : Result T E) (from : LoopState) (old new : Option (List Entry)) (to : LoopState) : Type 0 where
-  pub by : GoesBy result from old new to
+-- the calls that were added lead from the first reading to the second, or stop where memory ran out
+pub record ContinuesOrStops {T E : Type 0} (result : Result T E) (from : LoopState) (old new : Option (List Entry)) (to : LoopState) : Type 0 where
+  pub by : ContinuesBy result from old new to
 
--- by whether memory sufficed
-abbrev pub ServesBy : {T E : Type 0} → Result T E → LoopState → Option (List Entry) → Option (List Entry) → LoopState → Type 0
-ServesBy (Ok _) from old new to = Advances from old new to
-ServesBy (Err _) from old new to = Stops from old new
+-- by the result of a call that serves something: where memory ran out, the calls stop at some reading
+abbrev pub AdvancesBy : {T E : Type 0} → Result T E → LoopState → Option (List Entry) → Option (List Entry) → LoopState → Type 0
+AdvancesBy (Ok _) from old new to = Advances from old new to
+AdvancesBy (Err _) from old new to = Stops from old new
 
--- the same, by one call at least
-pub record Serves {T E : Type 0} (result : Result T E) (from : LoopState) (old new : Option (List Entry)) (to : LoopState) : Type 0 where
-  pub by : ServesBy result from old new to
+-- one call at least leads from the first reading to the second, or the calls stop where memory ran out
+pub record AdvancesOrStops {T E : Type 0} (result : Result T E) (from : LoopState) (old new : Option (List Entry)) (to : LoopState) : Type 0 where
+  pub by : AdvancesBy result from old new to
 
--- the same, whatever the answer was
-pub record WaitsOnce (before : List Entry) (from : LoopState) (old new : Option (List Entry)) : Type 0 where
+-- behind the calls `before` a poll was added, with some answer, which is the last call that is read
+pub record AddsAnyPoll (before : List Entry) (from : LoopState) (old new : Option (List Entry)) : Type 0 where
   pub answer : Result Polled WorldFault
-  pub last : WaitsLast before from old new answer
+  pub last : AddsLastPoll before from old new answer
 
--- by how a poll ended that comes behind some calls
+-- the poll that was added behind some calls, by how a turn ended with it
 abbrev pub Polls : List Entry → Result Turn HubFault → LoopState → Option (List Entry) → Option (List Entry) → State → Line → Type 0
 Polls before (Ok turns.Served) from old new state line = ⊥
-Polls before (Ok turns.Polled) from old new state line = Waits before from old new (Ok polled.Some) (in_state state line Free)
-Polls before (Ok turns.Over) from old new state line = WaitsLast before from old new (Ok polled.Over)
-Polls before (Err faults.Poll) from old new state line = WaitsLast before from old new (Err Failed)
-Polls before (Err faults.Memory) from old new state line = WaitsOnce before from old new
+Polls before (Ok turns.Polled) from old new state line = AddsPoll before from old new (Ok polled.Some) (in_state state line Free)
+Polls before (Ok turns.Over) from old new state line = AddsLastPoll before from old new (Ok polled.Over)
+Polls before (Err faults.Poll) from old new state line = AddsLastPoll before from old new (Err Failed)
+Polls before (Err faults.Memory) from old new state line = AddsAnyPoll before from old new
 
--- the same, of a poll alone, that may be missing from the journal where memory ran out
-abbrev pub PollsOr : Result Turn HubFault → LoopState → Option (List Entry) → Option (List Entry) → State → Line → Type 0
-PollsOr (Ok turn) from old new state line = Polls [] (Ok turn) from old new state line
-PollsOr (Err faults.Poll) from old new state line = Polls [] (Err faults.Poll) from old new state line
-PollsOr (Err faults.Memory) from old new state line =
+-- the poll that was added alone, by how a turn ended with it; where memory ran out it may be missing
+abbrev pub PollsOrStops : Result Turn HubFault → LoopState → Option (List Entry) → Option (List Entry) → State → Line → Type 0
+PollsOrStops (Ok turn) from old new state line = Polls [] (Ok turn) from old new state line
+PollsOrStops (Err faults.Poll) from old new state line = Polls [] (Err faults.Poll) from old new state line
+PollsOrStops (Err faults.Memory) from old new state line =
     Stops from old new ⊎ Polls [] (Err faults.Memory) from old new state line
 
--- the same, behind a look at the clock
-pub record Looks (result : Result Turn HubFault) (from : LoopState) (old new : Option (List Entry)) (state : State) (line : Line) : Type 0 where
+-- the poll that was added behind a look at the clock, by how a turn ended with it
+pub record LooksAndPolls (result : Result Turn HubFault) (from : LoopState) (old new : Option (List Entry)) (state : State) (line : Line) : Type 0 where
   pub moment : Moment
   pub polls : Polls (entry.Now (Ok moment) ∷ []) result from old new state line
 
 -- by how a turn ended: a poll comes behind a look alone
 abbrev pub Turns : Result Turn HubFault → LoopState → Option (List Entry) → Option (List Entry) → State → Line → Type 0
 Turns (Ok turns.Served) from old new state line = Advances from old new (in_state state line Free)
-Turns (Ok turns.Polled) from old new state line = Looks (Ok turns.Polled) from old new state line
-Turns (Ok turns.Over) from old new state line = Looks (Ok turns.Over) from old new state line
-Turns (Err faults.Poll) from old new state line = Looks (Err faults.Poll) from old new state line
-Turns (Err faults.Memory) from old new state line = Stops from old new ⊎ Looks (Err faults.Memory) from old new state line
+Turns (Ok turns.Polled) from old new state line = LooksAndPolls (Ok turns.Polled) from old new state line
+Turns (Ok turns.Over) from old new state line = LooksAndPolls (Ok turns.Over) from old new state line
+Turns (Err faults.Poll) from old new state line = LooksAndPolls (Err faults.Poll) from old new state line
+Turns (Err faults.Memory) from old new state line = Stops from old new ⊎ LooksAndPolls (Err faults.Memory) from old new state line
 
 -- a turn that served something, where memory sufficed
 abbrev pub served_by : {E : Type 0} → Result Unit E → Result Turn HubFault

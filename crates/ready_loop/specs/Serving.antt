@@ -16,7 +16,7 @@ use Rattle.agent_model.specs.State.{State, client_count}
 use Rattle.loop_model.specs.Dues.{Free}
 use Rattle.loop_model.specs.Lines.{empty_line, is_idle}
 use Rattle.loop_model.specs.Things.{same_door}
-use Rattle.loop_model.specs.LegalJournal.{LoopState, in_state, taken}
+use Rattle.loop_model.specs.LegalJournal.{LoopState, after_if_legal, in_state}
 use Rattle.ready_loop.specs.Moves.{is_poll}
 use Rattle.ready_loop.specs.declared.outcome.ServeEnd.{ServeEnd}
 use Rattle.ready_loop.specs.declared.outcome.ServeEnd.TheVariants.{Over, Idle, BindFault, PollFault, Memory}
@@ -32,7 +32,7 @@ pub record Setting : Type 0 where
 pub data Stage : Type 0 where
   Unbound : Stage
   HalfBound : Stage
-  Running : (turning : LoopState) → Stage
+  Running : (reading : LoopState) → Stage
   Refused : Stage
 
 -- the stage in which the loop begins
@@ -71,16 +71,16 @@ bound door path next (entry.Now answer) = None
 
 -- a client has connected, and none is open
 abbrev pub is_deserted : LoopState → Bool
-is_deserted turning = turning.line.joined && (client_count turning.state.ports == 0)
+is_deserted reading = reading.line.joined && (client_count reading.state.ports == 0)
 
 -- a loop that is to end when it is idle doesn't poll there
 abbrev pub may_come : Bool → LoopState → Entry → Bool
-may_come until_idle turning next = not (is_poll next && (until_idle && is_deserted turning))
+may_come until_idle reading next = not (is_poll next && (until_idle && is_deserted reading))
 
 -- where the test holds, the entry may come in its turn
 abbrev pub running_if : Bool → LoopState → Entry → Option Stage
-running_if true turning next = option_map Running (taken turning next)
-running_if false turning next = None
+running_if true reading next = option_map Running (after_if_legal reading next)
+running_if false reading next = None
 
 -- ---- a run
 
@@ -88,7 +88,7 @@ running_if false turning next = None
 abbrev pub gone_on : Setting → Stage → Entry → Option Stage
 gone_on setting Unbound next = bound Clients setting.path HalfBound next
 gone_on setting HalfBound next = bound Children (children_path setting.path) (begun setting) next
-gone_on setting (Running turning) next = running_if (may_come setting.until_idle turning next) turning next
+gone_on setting (Running reading) next = running_if (may_come setting.until_idle reading next) reading next
 gone_on setting Refused next = None
 
 -- the entries may come one after another
@@ -104,7 +104,7 @@ pub record Runs (setting : Setting) (from : Stage) (old new : Option (List Entry
   pub told : Grows old new added
   pub legal : ran setting from added ≡ Some to
 
--- the same, and the last of them is this one
+-- the calls that were added may come from one stage on, and the last of them is this one
 pub record RunsUpTo (setting : Setting) (from : Stage) (old new : Option (List Entry)) (last : Entry) : Type 0 where
   pub to : Stage
   pub before : List Entry
@@ -125,11 +125,11 @@ pub record RunsUpToBind (setting : Setting) (from : Stage) (old new : Option (Li
 
 -- it was to end so: a client has connected, none is open, and nothing can be served
 pub record RunsUntilIdle (setting : Setting) (from : Stage) (old new : Option (List Entry)) : Type 0 where
-  pub turning : LoopState
-  pub calls : Runs setting from old new (Running turning)
+  pub reading : LoopState
+  pub calls : Runs setting from old new (Running reading)
   pub asked : setting.until_idle ≡ true
-  pub deserted : is_deserted turning ≡ true
-  pub idle : is_idle turning.state turning.line ≡ true
+  pub deserted : is_deserted reading ≡ true
+  pub idle : is_idle reading.state reading.line ≡ true
 
 -- memory ran out: the calls up to there may come
 pub record RunsOut (setting : Setting) (from : Stage) (old new : Option (List Entry)) : Type 0 where

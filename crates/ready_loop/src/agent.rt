@@ -1,4 +1,5 @@
-// The agent as the loop sees it.
+//! The agent as the loop sees it.
+
 ghost use Rattle.std.specs.Prelude.{◌≡◌, List, OnOk, ℕ};
 ghost use Rattle.agent_model.specs.Sound.{IsRising};
 ghost use Rattle.agent_model.specs.State.{Fits, State, client_count, find_port, is_open, next_due, next_owed, owed_of, starts, wants};

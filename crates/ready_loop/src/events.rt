@@ -1,4 +1,5 @@
-// What follows from an event: the agent is told of it, what it lets be served comes back, and what it closed is closed.
+//! What follows from an event: the agent is told of it, what it lets be served comes back, and what it closed is closed.
+
 ghost use Rattle.std.specs.Prelude.{◌≡◌, ◌<◌, ◌≤◌, ◌^◌, OnOk, max};
 ghost use Rattle.agent_model.specs.State.{Fits};
 ghost use Rattle.agent_model.specs.Step.{step};
@@ -10,8 +11,9 @@ ghost use Rattle.agent_core.specs.Happenings.{happening};
 ghost use Rattle.ready_loop.specs.Happenings.{HasHappened, MayJoin, number_after};
 ghost use Rattle.loop_model.specs.Lines.{IsOrdered, after_event};
 ghost use Rattle.loop_model.specs.Orderly.{IsOrderly};
-ghost use Rattle.ready_loop.specs.Moves.{Goes};
+ghost use Rattle.ready_loop.specs.Moves.{ContinuesOrStops};
 ghost use Rattle.ready_loop.specs.Standing.{IsCold};
+ghost use Rattle.ready_loop.specs.Turning.{HasGone};
 
 use crate::Core;
 use crate::queue::Queue;
@@ -26,7 +28,7 @@ pub fn close_all<A: Core, W: World>(
     agent: &A,
     world: &mut W,
 ) -> Result<(), AllocError>
-    ensures legal { Goes result
+    ensures legal { ContinuesOrStops result
         (in_state (A.state agent.now) queue.now (due_of (A.closes agent.now)))
         (W.journal world.old) (W.journal world.new)
         (in_state (A.state agent.now) queue.now Free) }
@@ -144,7 +146,7 @@ pub fn happen<A: Core, W: World>(
     requires ports { W.last_port world.old
         ≡ number_after (happening event.now) (A.state agent.old).last_port }
     requires second { (A.state agent.old).moment.mono ≤ W.greatest world.old }
-    ensures legal { Goes result
+    ensures legal { ContinuesOrStops result
         (in_state (A.state agent.old) queue.old (NowFor (happening event.now)))
         (W.journal world.old) (W.journal world.new)
         (in_state (A.state agent.new) queue.new Free) }
@@ -153,10 +155,8 @@ pub fn happen<A: Core, W: World>(
         (served_of (happening event.now)) queue.old) }
     ensures happened { OnOk result
         (HasHappened (happening event.now) (A.state agent.old) (A.state agent.new)) }
-    ensures ports { OnOk result (W.last_port world.new ≡ (A.state agent.new).last_port) }
-    ensures second { OnOk result ((A.state agent.new).moment.mono ≤ W.greatest world.new) }
-    ensures later { W.faults world.old ≤ W.faults world.new }
-    ensures led { W.leads world.old world.new }
+    ensures gone { HasGone result (A.state agent.new) (W.last_port world.new) (W.greatest world.new)
+        (W.faults world.old) (W.faults world.new) (W.leads world.old world.new) }
 {
     let Ok(moment) = world.now() else {
         return Err(AllocError);

@@ -1,14 +1,15 @@
-// The hub: what is ready, and a turn of the loop.
+//! The hub: what is ready, and a turn of the loop.
+
 ghost use Rattle.std.specs.Prelude.{◌≡◌, ◌≤◌, Err, MatchOption, OnOk, [], true};
 ghost use Rattle.agent_model.specs.State.{starts};
 ghost use Rattle.loop_model.specs.Dues.{Free};
 ghost use Rattle.loop_model.specs.LegalJournal.{in_state, is_first_job};
 ghost use Rattle.loop_model.specs.Lines.{IsExact, IsOrdered, IsQuiet, empty_line, is_idle};
 ghost use Rattle.loop_model.specs.Orderly.{IsOrderly};
-ghost use Rattle.loop_model.specs.Queues.{AreApart};
 ghost use Rattle.loop_model.specs.Servable.{has_job};
 ghost use Rattle.ready_loop.specs.Moves.{Turns, served_by};
 ghost use Rattle.ready_loop.specs.Standing.{Rounds};
+ghost use Rattle.ready_loop.specs.Turning.{HasGone, IsFit, IsReady};
 ghost use Rattle.world_ports.specs.Causes.{Rose};
 
 use crate::look::{is_idle, look};
@@ -129,22 +130,16 @@ impl Hub {
     // The turn.
     #[inline(always)]
     fn serve<A: Core, W: World>(&mut self, agent: &mut A, world: &mut W) -> Result<Turn, HubFault>
-        requires orderly { IsOrderly (A.state agent.old) }
-        requires ordered { IsOrdered (A.state agent.old) self.old }
-        requires apart { AreApart self.old.queue }
-        requires ports { W.last_port world.old ≡ (A.state agent.old).last_port }
-        requires second { (A.state agent.old).moment.mono ≤ W.greatest world.old }
+        requires ready { IsReady (A.state agent.old) self.old
+            (W.last_port world.old) (W.greatest world.old) }
         ensures legal { Turns result (in_state (A.state agent.old) self.old Free)
             (W.journal world.old) (W.journal world.new) (A.state agent.new) self.new }
-        ensures ordered { OnOk result (IsOrdered (A.state agent.new) self.new) }
-        ensures orderly { OnOk result (IsOrderly (A.state agent.new)) }
+        ensures fit { OnOk result (IsFit (A.state agent.new) self.new) }
         ensures round { OnOk result
             (Rounds (has_job (starts (A.state agent.old))) self.old.queue self.new.queue) }
-        ensures ports { OnOk result (W.last_port world.new ≡ (A.state agent.new).last_port) }
-        ensures second { OnOk result ((A.state agent.new).moment.mono ≤ W.greatest world.new) }
         ensures cause { result ≡ Err HubFault.Poll → Rose (W.faults world.old) (W.faults world.new) }
-        ensures later { W.faults world.old ≤ W.faults world.new }
-        ensures led { W.leads world.old world.new }
+        ensures gone { HasGone result (A.state agent.new) (W.last_port world.new) (W.greatest world.new)
+            (W.faults world.old) (W.faults world.new) (W.leads world.old world.new) }
     {
         if let Some(job) = next_job(agent) {
             return served(start(&mut self.queue, agent, world, job));

@@ -1,4 +1,5 @@
-// The listeners of an agent that serves.
+//! The listeners of an agent that serves.
+
 ghost use Rattle.std.specs.Prelude.{◌≡◌, ◌≤◌, Bool, Err, IfOk, string_bytes};
 ghost use Rattle.agent_model.specs.State.{State};
 ghost use Rattle.ready_loop.specs.Serving.{Opens, children_path};

@@ -1,10 +1,11 @@
-// A look at the clock, and a poll.
+//! A look at the clock, and a poll.
+
 ghost use Rattle.std.specs.Prelude.{◌≡◌, ◌≤◌, ◌-◌, Err, OnOk, Option, true};
 ghost use Rattle.loop_model.specs.Dues.{Free, Polling, wait_of};
 ghost use Rattle.loop_model.specs.LegalJournal.{in_state};
 ghost use Rattle.loop_model.specs.Lines.{IsOrdered, is_idle};
-ghost use Rattle.loop_model.specs.Orderly.{IsOrderly};
-ghost use Rattle.ready_loop.specs.Moves.{PollsOr, Turns};
+ghost use Rattle.ready_loop.specs.Moves.{PollsOrStops, Turns};
+ghost use Rattle.ready_loop.specs.Turning.{HasGone, IsFit, IsReady};
 ghost use Rattle.world_ports.specs.Causes.{Rose};
 
 use crate::events::{close_all, tell};
@@ -40,7 +41,7 @@ fn poll<A: Core, W: World>(
     world: &mut W,
     ready: &mut Vec<Ready>,
 ) -> Result<Turn, HubFault>
-    ensures legal { PollsOr result (in_state (A.state agent.now) queue.old Polling)
+    ensures legal { PollsOrStops result (in_state (A.state agent.now) queue.old Polling)
         (W.journal world.old) (W.journal world.new) (A.state agent.now) queue.new }
     ensures ports { OnOk result (W.last_port world.new ≡ W.last_port world.old) }
     ensures second { OnOk result (W.greatest world.new ≡ W.greatest world.old) }
@@ -71,19 +72,14 @@ pub fn look<A: Core, W: World>(
     ready: &mut Vec<Ready>,
 ) -> Result<Turn, HubFault>
     requires idle { is_idle (A.state agent.old) queue.old ≡ true }
-    requires orderly { IsOrderly (A.state agent.old) }
-    requires ordered { IsOrdered (A.state agent.old) queue.old }
-    requires ports { W.last_port world.old ≡ (A.state agent.old).last_port }
-    requires second { (A.state agent.old).moment.mono ≤ W.greatest world.old }
+    requires ready { IsReady (A.state agent.old) queue.old
+        (W.last_port world.old) (W.greatest world.old) }
     ensures legal { Turns result (in_state (A.state agent.old) queue.old Free)
         (W.journal world.old) (W.journal world.new) (A.state agent.new) queue.new }
-    ensures ports { OnOk result (W.last_port world.new ≡ (A.state agent.new).last_port) }
-    ensures second { OnOk result ((A.state agent.new).moment.mono ≤ W.greatest world.new) }
-    ensures ordered { OnOk result (IsOrdered (A.state agent.new) queue.new) }
-    ensures orderly { OnOk result (IsOrderly (A.state agent.new)) }
+    ensures fit { OnOk result (IsFit (A.state agent.new) queue.new) }
     ensures cause { result ≡ Err HubFault.Poll → Rose (W.faults world.old) (W.faults world.new) }
-    ensures later { W.faults world.old ≤ W.faults world.new }
-    ensures led { W.leads world.old world.new }
+    ensures gone { HasGone result (A.state agent.new) (W.last_port world.new) (W.greatest world.new)
+        (W.faults world.old) (W.faults world.new) (W.leads world.old world.new) }
 {
     let Ok(moment) = world.now() else {
         return Err(HubFault::Memory);

@@ -1,4 +1,5 @@
-// The marks of ports: one for each port at which something was ready since it joined.
+//! The marks of ports: one for each port at which something was ready since it joined.
+
 ghost use Rattle.std.specs.Bool.{OnTrue};
 ghost use Rattle.std.specs.Prelude.{◌≡◌, [], MatchResult, OnErr, OnOk};
 ghost use Rattle.lists.specs.Rising.{IsRisingList};
@@ -197,7 +198,7 @@ fn find(marks: &[Mark], hint: usize, port: u64) -> Result<usize, usize>
     find_from(marks, hint, port)
 }
 
-// The same: as far from the hint as its port is, or anywhere.
+// Where the port's mark stands, or would stand: as far from the hint as its port is, or anywhere.
 #[inline(never)]
 fn find_from(marks: &[Mark], hint: usize, port: u64) -> Result<usize, usize>
     requires { IsRisingList (ports_of marks.now) }

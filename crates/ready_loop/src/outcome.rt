@@ -1,4 +1,5 @@
-// How a turn ends.
+//! How a turn ends.
+
 /// How a turn ended.
 #[derive(Clone, Copy, Debug, PartialEq, Eq)]
 pub enum Turn {

@@ -1,7 +1,8 @@
-// What is ready, in the order in which it is served.
-//
-// What an event asks several times is inlined, here and in what stands below: at a call, things and results go through
-// memory, which costs more than what is done with them.
+//! What is ready, in the order in which it is served.
+//!
+//! What an event asks several times is inlined, here and in what stands below: at a call, things and results go through
+//! memory, which costs more than what is done with them.
+
 ghost use Rattle.std.specs.Bool.{OnTrue};
 ghost use Rattle.std.specs.Prelude.{◌≡◌, ◌&&◌, ◌||◌, ◌==◌, None, OnOk, Some, false, length};
 ghost use Rattle.agent_model.specs.Sound.{IsRising};
@@ -219,7 +220,7 @@ impl Queue {
         Ok(())
     }
 
-    // The same, where it is at a port that is open. What can be served is at one.
+    // The thing stands last or is set aside where it is at a port that is open. What can be served is at one.
     #[inline(always)]
     fn place_open<A: Core>(&mut self, agent: &A, thing: Thing) -> Result<(), AllocError>
         requires { hot_of self.old thing ≡ false }

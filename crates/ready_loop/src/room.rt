@@ -1,4 +1,5 @@
-// Room for reads.
+//! Room for reads.
+
 ghost use Rattle.std.specs.Prelude.{◌≡◌, ◌<◌, IfOk, OnOk, length};
 ghost use Rattle.world_ports.specs.Worlds.{read_room};
 ghost use Rattle.ready_loop.specs.Rooms.{IsWiped};

@@ -1,4 +1,5 @@
-// The loop.
+//! The loop.
+
 ghost use Rattle.std.specs.Prelude.{◌≡◌, ◌≤◌, ◌&&◌, List, ℕ};
 ghost use Rattle.agent_model.specs.State.{State};
 ghost use Rattle.loop_model.specs.Dues.{Free};

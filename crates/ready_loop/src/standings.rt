@@ -1,4 +1,5 @@
-// Where each thing that is ready stands: in the list, or aside under its door or port.
+//! Where each thing that is ready stands: in the list, or aside under its door or port.
+
 ghost use Rattle.std.specs.Prelude.{◌≡◌, ◌||◌, List, OnErr, OnOk, filter, not};
 ghost use Rattle.lists.specs.Rising.{IsRisingList};
 ghost use Rattle.loop_model.specs.Aside.{accepts_of, things_aside};

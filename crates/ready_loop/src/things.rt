@@ -1,4 +1,5 @@
-// Things: whether two are the same, whether one stands among others or at an open port, and whether it can be served.
+//! Things: whether two are the same, whether one stands among others or at an open port, and whether it can be served.
+
 ghost use Rattle.std.specs.Prelude.{◌≡◌};
 ghost use Rattle.loop_model.specs.Elsewhere.{stands};
 ghost use Rattle.loop_model.specs.Queues.{dropped};
@@ -14,23 +15,14 @@ use world_ports::Door;
 pub fn is_same_door(door: Door, other: Door) -> bool
     ensures { result ≡ same_door door other }
 {
-    match (door, other) {
-        (Door::Clients, Door::Clients) => true,
-        (Door::Children, Door::Children) => true,
-        _ => false,
-    }
+    door == other
 }
 
 // Whether both are the same thing.
 pub fn is_same(thing: Thing, other: Thing) -> bool
     ensures { result ≡ same_thing thing other }
 {
-    match (thing, other) {
-        (Thing::Accept(door), Thing::Accept(other)) => is_same_door(door, other),
-        (Thing::Read(port), Thing::Read(other)) => port == other,
-        (Thing::Write(port), Thing::Write(other)) => port == other,
-        _ => false,
-    }
+    thing == other
 }
 
 // Whether the thing is among these.
@@ -76,7 +68,7 @@ pub fn drop_from(things: &mut VecDeque<Thing>, thing: Thing)
     things.retain(|other| !is_same(thing, *other));
 }
 
-// The same, where it stands there.
+// Without this thing, which is looked for only where it stands there.
 pub fn drop_if(there: bool, things: &mut VecDeque<Thing>, thing: Thing)
     requires { there ≡ set_of things.old.items thing }
     ensures { things.new.items ≡ dropped thing things.old.items }

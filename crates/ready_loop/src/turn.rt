@@ -1,5 +1,6 @@
-// The parts of a turn.
-ghost use Rattle.std.specs.Prelude.{◌≡◌, ◌≤◌, OnOk, Some, length, true};
+//! The parts of a turn.
+
+ghost use Rattle.std.specs.Prelude.{◌≡◌, OnOk, Some, length, true};
 ghost use Rattle.agent_model.specs.Events.{Ended, Heard, Took};
 ghost use Rattle.agent_model.specs.State.{Fits, starts};
 ghost use Rattle.loop_model.specs.Dues.{Free, NowFor};
@@ -7,12 +8,12 @@ ghost use Rattle.loop_model.specs.Fairness.{GoesRound, KeepsOrder};
 ghost use Rattle.loop_model.specs.LegalJournal.{in_state, is_first_job};
 ghost use Rattle.world_ports.specs.Worlds.{read_room};
 ghost use Rattle.loop_model.specs.declared.thing.Thing.TheVariants.{Accept, Read, Write};
-ghost use Rattle.loop_model.specs.Lines.{IsOrdered, in_hand};
-ghost use Rattle.loop_model.specs.Orderly.{IsOrderly};
-ghost use Rattle.loop_model.specs.Queues.{AreApart, first_servable};
-ghost use Rattle.ready_loop.specs.Moves.{Goes, Serves};
+ghost use Rattle.loop_model.specs.Lines.{in_hand};
+ghost use Rattle.loop_model.specs.Queues.{first_servable};
+ghost use Rattle.ready_loop.specs.Moves.{AdvancesOrStops, ContinuesOrStops};
 ghost use Rattle.ready_loop.specs.Rooms.{IsWiped};
 ghost use Rattle.ready_loop.specs.Standing.{IsAt};
+ghost use Rattle.ready_loop.specs.Turning.{HasGone, IsReady};
 
 use crate::Core;
 use crate::events::happen;
@@ -30,18 +31,13 @@ pub fn accept<A: Core, W: World>(
     door: Door,
 ) -> Result<(), AllocError>
     requires next { first_servable (A.state agent.old) queue.old.queue ≡ Some (Accept door) }
-    requires orderly { IsOrderly (A.state agent.old) }
-    requires ordered { IsOrdered (A.state agent.old) queue.old }
-    requires apart { AreApart queue.old.queue }
-    requires ports { W.last_port world.old ≡ (A.state agent.old).last_port }
-    requires second { (A.state agent.old).moment.mono ≤ W.greatest world.old }
-    ensures legal { Serves result (in_state (A.state agent.old) queue.old Free)
+    requires ready { IsReady (A.state agent.old) queue.old
+        (W.last_port world.old) (W.greatest world.old) }
+    ensures legal { AdvancesOrStops result (in_state (A.state agent.old) queue.old Free)
         (W.journal world.old) (W.journal world.new) (in_state (A.state agent.new) queue.new Free) }
-    ensures ports { OnOk result (W.last_port world.new ≡ (A.state agent.new).last_port) }
-    ensures second { OnOk result ((A.state agent.new).moment.mono ≤ W.greatest world.new) }
     ensures round { OnOk result (GoesRound (Accept door) queue.old.queue queue.new.queue) }
-    ensures later { W.faults world.old ≤ W.faults world.new }
-    ensures led { W.leads world.old world.new }
+    ensures gone { HasGone result (A.state agent.new) (W.last_port world.new) (W.greatest world.new)
+        (W.faults world.old) (W.faults world.new) (W.leads world.old world.new) }
 {
     match world.accept(door) {
         Ok(Accepted::Port(number)) => {
@@ -73,21 +69,16 @@ fn hear<A: Core, W: World>(
 ) -> Result<(), AllocError>
     requires fits { Fits (Heard port piece.now) (A.state agent.old) }
     requires next { first_servable (A.state agent.old) queue.old.queue ≡ Some (Read port) }
-    requires orderly { IsOrderly (A.state agent.old) }
-    requires ordered { IsOrdered (A.state agent.old) queue.old }
-    requires apart { AreApart queue.old.queue }
-    requires ports { W.last_port world.old ≡ (A.state agent.old).last_port }
-    requires second { (A.state agent.old).moment.mono ≤ W.greatest world.old }
-    ensures legal { Goes result
+    requires ready { IsReady (A.state agent.old) queue.old
+        (W.last_port world.old) (W.greatest world.old) }
+    ensures legal { ContinuesOrStops result
         (in_state (A.state agent.old)
         (in_hand (Read port) queue.old)
         (NowFor (Heard port piece.now)))
         (W.journal world.old) (W.journal world.new) (in_state (A.state agent.new) queue.new Free) }
-    ensures ports { OnOk result (W.last_port world.new ≡ (A.state agent.new).last_port) }
-    ensures second { OnOk result ((A.state agent.new).moment.mono ≤ W.greatest world.new) }
     ensures round { OnOk result (GoesRound (Read port) queue.old.queue queue.new.queue) }
-    ensures later { W.faults world.old ≤ W.faults world.new }
-    ensures led { W.leads world.old world.new }
+    ensures gone { HasGone result (A.state agent.new) (W.last_port world.new) (W.greatest world.new)
+        (W.faults world.old) (W.faults world.new) (W.leads world.old world.new) }
 {
     queue.take(Thing::Read(port));
     happen(queue, agent, world, &Event::Heard { port, piece })
@@ -104,20 +95,15 @@ fn end<A: Core, W: World>(
     requires fits { Fits (Ended port) (A.state agent.old) }
     requires next { first_servable (A.state agent.old) queue.old.queue ≡ Some found }
     requires at { IsAt port found }
-    requires orderly { IsOrderly (A.state agent.old) }
-    requires ordered { IsOrdered (A.state agent.old) queue.old }
-    requires apart { AreApart queue.old.queue }
-    requires ports { W.last_port world.old ≡ (A.state agent.old).last_port }
-    requires second { (A.state agent.old).moment.mono ≤ W.greatest world.old }
-    ensures legal { Goes result
+    requires ready { IsReady (A.state agent.old) queue.old
+        (W.last_port world.old) (W.greatest world.old) }
+    ensures legal { ContinuesOrStops result
         (in_state (A.state agent.old) (in_hand found queue.old)
         (NowFor (Ended port)))
         (W.journal world.old) (W.journal world.new) (in_state (A.state agent.new) queue.new Free) }
-    ensures ports { OnOk result (W.last_port world.new ≡ (A.state agent.new).last_port) }
-    ensures second { OnOk result ((A.state agent.new).moment.mono ≤ W.greatest world.new) }
     ensures round { OnOk result (GoesRound found queue.old.queue queue.new.queue) }
-    ensures later { W.faults world.old ≤ W.faults world.new }
-    ensures led { W.leads world.old world.new }
+    ensures gone { HasGone result (A.state agent.new) (W.last_port world.new) (W.greatest world.new)
+        (W.faults world.old) (W.faults world.new) (W.leads world.old world.new) }
 {
     queue.take(found);
     happen(queue, agent, world, &Event::Ended { port })
@@ -132,20 +118,15 @@ pub fn read<A: Core, W: World>(
     room: &mut [u8],
 ) -> Result<(), AllocError>
     requires next { first_servable (A.state agent.old) queue.old.queue ≡ Some (Read port) }
-    requires orderly { IsOrderly (A.state agent.old) }
-    requires ordered { IsOrdered (A.state agent.old) queue.old }
-    requires apart { AreApart queue.old.queue }
-    requires ports { W.last_port world.old ≡ (A.state agent.old).last_port }
-    requires second { (A.state agent.old).moment.mono ≤ W.greatest world.old }
+    requires ready { IsReady (A.state agent.old) queue.old
+        (W.last_port world.old) (W.greatest world.old) }
     requires room { length room.old ≡ read_room }
     requires zero { IsWiped room.old }
-    ensures legal { Serves result (in_state (A.state agent.old) queue.old Free)
+    ensures legal { AdvancesOrStops result (in_state (A.state agent.old) queue.old Free)
         (W.journal world.old) (W.journal world.new) (in_state (A.state agent.new) queue.new Free) }
-    ensures ports { OnOk result (W.last_port world.new ≡ (A.state agent.new).last_port) }
-    ensures second { OnOk result ((A.state agent.new).moment.mono ≤ W.greatest world.new) }
     ensures round { OnOk result (GoesRound (Read port) queue.old.queue queue.new.queue) }
-    ensures later { W.faults world.old ≤ W.faults world.new }
-    ensures led { W.leads world.old world.new }
+    ensures gone { HasGone result (A.state agent.new) (W.last_port world.new) (W.greatest world.new)
+        (W.faults world.old) (W.faults world.new) (W.leads world.old world.new) }
     ensures zero { IsWiped room.new }
 {
     match world.read(port, room) {
@@ -174,20 +155,15 @@ fn send<A: Core, W: World>(
 ) -> Result<(), AllocError>
     requires fits { Fits (Took port count) (A.state agent.old) }
     requires next { first_servable (A.state agent.old) queue.old.queue ≡ Some (Write port) }
-    requires orderly { IsOrderly (A.state agent.old) }
-    requires ordered { IsOrdered (A.state agent.old) queue.old }
-    requires apart { AreApart queue.old.queue }
-    requires ports { W.last_port world.old ≡ (A.state agent.old).last_port }
-    requires second { (A.state agent.old).moment.mono ≤ W.greatest world.old }
-    ensures legal { Goes result
+    requires ready { IsReady (A.state agent.old) queue.old
+        (W.last_port world.old) (W.greatest world.old) }
+    ensures legal { ContinuesOrStops result
         (in_state (A.state agent.old) (in_hand (Write port) queue.old)
         (NowFor (Took port count)))
         (W.journal world.old) (W.journal world.new) (in_state (A.state agent.new) queue.new Free) }
-    ensures ports { OnOk result (W.last_port world.new ≡ (A.state agent.new).last_port) }
-    ensures second { OnOk result ((A.state agent.new).moment.mono ≤ W.greatest world.new) }
     ensures round { OnOk result (GoesRound (Write port) queue.old.queue queue.new.queue) }
-    ensures later { W.faults world.old ≤ W.faults world.new }
-    ensures led { W.leads world.old world.new }
+    ensures gone { HasGone result (A.state agent.new) (W.last_port world.new) (W.greatest world.new)
+        (W.faults world.old) (W.faults world.new) (W.leads world.old world.new) }
 {
     queue.take(Thing::Write(port));
     happen(queue, agent, world, &Event::Took { port, count })
@@ -201,18 +177,13 @@ pub fn write<A: Core, W: World>(
     port: u64,
 ) -> Result<(), AllocError>
     requires next { first_servable (A.state agent.old) queue.old.queue ≡ Some (Write port) }
-    requires orderly { IsOrderly (A.state agent.old) }
-    requires ordered { IsOrdered (A.state agent.old) queue.old }
-    requires apart { AreApart queue.old.queue }
-    requires ports { W.last_port world.old ≡ (A.state agent.old).last_port }
-    requires second { (A.state agent.old).moment.mono ≤ W.greatest world.old }
-    ensures legal { Serves result (in_state (A.state agent.old) queue.old Free)
+    requires ready { IsReady (A.state agent.old) queue.old
+        (W.last_port world.old) (W.greatest world.old) }
+    ensures legal { AdvancesOrStops result (in_state (A.state agent.old) queue.old Free)
         (W.journal world.old) (W.journal world.new) (in_state (A.state agent.new) queue.new Free) }
-    ensures ports { OnOk result (W.last_port world.new ≡ (A.state agent.new).last_port) }
-    ensures second { OnOk result ((A.state agent.new).moment.mono ≤ W.greatest world.new) }
     ensures round { OnOk result (GoesRound (Write port) queue.old.queue queue.new.queue) }
-    ensures later { W.faults world.old ≤ W.faults world.new }
-    ensures led { W.leads world.old world.new }
+    ensures gone { HasGone result (A.state agent.new) (W.last_port world.new) (W.greatest world.new)
+        (W.faults world.old) (W.faults world.new) (W.leads world.old world.new) }
 {
     match world.write(port, agent.owed(port)) {
         Ok(Wrote::Took(n)) => send(queue, agent, world, port, n as usize),
@@ -233,18 +204,13 @@ pub fn start<A: Core, W: World>(
     job: Job,
 ) -> Result<(), AllocError>
     requires first { is_first_job job (starts (A.state agent.old)) ≡ true }
-    requires orderly { IsOrderly (A.state agent.old) }
-    requires ordered { IsOrdered (A.state agent.old) queue.old }
-    requires apart { AreApart queue.old.queue }
-    requires ports { W.last_port world.old ≡ (A.state agent.old).last_port }
-    requires second { (A.state agent.old).moment.mono ≤ W.greatest world.old }
-    ensures legal { Serves result (in_state (A.state agent.old) queue.old Free)
+    requires ready { IsReady (A.state agent.old) queue.old
+        (W.last_port world.old) (W.greatest world.old) }
+    ensures legal { AdvancesOrStops result (in_state (A.state agent.old) queue.old Free)
         (W.journal world.old) (W.journal world.new) (in_state (A.state agent.new) queue.new Free) }
-    ensures ports { OnOk result (W.last_port world.new ≡ (A.state agent.new).last_port) }
-    ensures second { OnOk result ((A.state agent.new).moment.mono ≤ W.greatest world.new) }
     ensures round { OnOk result (KeepsOrder queue.old.queue queue.new.queue) }
-    ensures later { W.faults world.old ≤ W.faults world.new }
-    ensures led { W.leads world.old world.new }
+    ensures gone { HasGone result (A.state agent.new) (W.last_port world.new) (W.greatest world.new)
+        (W.faults world.old) (W.faults world.new) (W.leads world.old world.new) }
 {
     let number = job.number;
     match world.start(job) {

@@ -2,7 +2,7 @@ use Rattle.std.proofs.Common.{refl, ◌∙◌, Ok, ◌+◌, ap, drop, get_or, ar
 use Rattle.std.specs.Prelude.{is_err}
 use Rattle.world_ports.specs.declared.entry.Entry.TheVariants as entry
 use Rattle.loop_model.specs.Dues.{Closing, Due, due_of}
-use Rattle.loop_model.specs.LegalJournal.{in_state, led}
+use Rattle.loop_model.specs.LegalJournal.{after_entry, in_state}
 use Rattle.ready_loop.proofs.CallLemmas.{close-any, close-taken, due-drop}
 use Rattle.ready_loop.proofs.TurningLemmas.{goes_on, lands_at, one_call, stops_later, stops_short}
 use Rattle.ready_loop.proofs.events.close_all.Goals as goal
@@ -20,7 +20,7 @@ returns-in_default-clause-legal g c =
     (ap (λ (d : Due). in_state state line d) due) c.ports.invariant.calls in
     record {
       by = stops_later before
-          (stops_short (in_state state line (Closing port later)) (led (in_state state line (Closing port later)) next)
+          (stops_short (in_state state line (Closing port later)) (after_entry (in_state state line (Closing port later)) next)
           (g.W.World.journal c.ports.world) (g.W.World.journal c.close.new.self) (is_err c.close.result) next refl
           (close-any state line port later c.close.result) c.close.ensures.told);
     }

@@ -1,11 +1,11 @@
-use Rattle.std.proofs.Common.{refl, Ok, Result, Some, ap, sym, ◌∙◌}
+use Rattle.std.proofs.Common.{refl, Ok, Result, Some, ap, sym, ◌∙◌, arith, rules}
 use Rattle.std.specs.declared.alloc.AllocError.{AllocError}
 use Rattle.world_ports.specs.declared.events.Moment.{Moment}
 use Rattle.std.specs.Prelude.{is_err}
 use Rattle.world_ports.specs.declared.entry.Entry.TheVariants as entry
 use Rattle.loop_model.specs.Dues.{NowFor, due_of}
 use Rattle.agent_core.specs.Happenings.{happening}
-use Rattle.loop_model.specs.LegalJournal.{in_state, led}
+use Rattle.loop_model.specs.LegalJournal.{after_entry, in_state}
 use Rattle.loop_model.specs.Lines.{Line}
 use Rattle.ready_loop.proofs.TellLemmas.{last-stepped}
 use Rattle.ready_loop.proofs.MomentLemmas.{second-within}
@@ -22,7 +22,7 @@ returns-in_default-clause-legal g c =
     let next = entry.Now c.now.result in
     record {
       by = stops_short (in_state state line (NowFor event))
-          (led (in_state state line (NowFor event)) next)
+          (after_entry (in_state state line (NowFor event)) next)
           (g.W.World.journal c.args.world.now) (g.W.World.journal c.now.new.self) (is_err c.now.result) next refl
           (now-any state line event c.now.result) c.now.ensures.told;
     }
@@ -36,7 +36,7 @@ returns-in_default-tell-clause-legal g c =
     let next = entry.Now answer in
     record {
       by = stops_there (one_call (in_state state line (NowFor event))
-          (led (in_state state line (NowFor event)) next)
+          (after_entry (in_state state line (NowFor event)) next)
           (g.W.World.journal c.args.world.now) (g.W.World.journal c.now.new.self) next refl
           (now-any state line event answer) c.in-Ok.ensures.told);
     }
@@ -58,15 +58,16 @@ pub returns-clause-happened : goal.returns-clause-happened
 returns-clause-happened g c =
     on_ok c.close_all.result (record { moment = c.in-Ok.moment; is = c.in-Ok-tell.ensures.stepped })
 
-pub returns-clause-ports : goal.returns-clause-ports
-returns-clause-ports g c =
-    on_ok c.close_all.result (c.close_all.ensures.ports ∙ c.in-Ok.ensures.ports ∙ c.requires.ports
-    ∙ last-stepped (g.A.Core.state c.args.agent.now) (g.A.Core.state c.tell.new.agent) c.in-Ok.moment (happening c.args.event.now) c.in-Ok-tell.ensures.stepped)
-
-pub returns-clause-second : goal.returns-clause-second
-returns-clause-second g c =
-    on_ok c.close_all.result
-    (second-within (g.A.Core.state c.args.agent.now) (g.A.Core.state c.tell.new.agent) c.in-Ok.moment
-    (happening c.args.event.now) (g.W.World.greatest c.args.world.now) (g.W.World.greatest c.close_all.new.world)
-    c.in-Ok-tell.ensures.stepped c.requires.second c.in-Ok.ensures.moment.0
-    (c.close_all.ensures.second ∙ c.in-Ok.ensures.moment.1))
+pub returns-clause-gone : goal.returns-clause-gone
+returns-clause-gone g c = record {
+  ports = on_ok c.close_all.result (c.close_all.ensures.ports ∙ c.in-Ok.ensures.ports ∙ c.requires.ports
+      ∙ last-stepped (g.A.Core.state c.args.agent.now) (g.A.Core.state c.tell.new.agent) c.in-Ok.moment
+      (happening c.args.event.now) c.in-Ok-tell.ensures.stepped);
+  second = on_ok c.close_all.result
+      (second-within (g.A.Core.state c.args.agent.now) (g.A.Core.state c.tell.new.agent) c.in-Ok.moment
+      (happening c.args.event.now) (g.W.World.greatest c.args.world.now) (g.W.World.greatest c.close_all.new.world)
+      c.in-Ok-tell.ensures.stepped c.requires.second c.in-Ok.ensures.moment.0
+      (c.close_all.ensures.second ∙ c.in-Ok.ensures.moment.1));
+  later = grind arith;
+  led = search rules;
+}

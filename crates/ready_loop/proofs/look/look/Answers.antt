@@ -1,14 +1,14 @@
-use Rattle.std.proofs.Common.{refl, inl, ◌≡◌, ◌∙◌, Ok, Result, Some, List, ℕ, true, false, length, [], ◌==◌, ap, sym, arith}
+use Rattle.std.proofs.Common.{refl, inl, ◌≡◌, ◌∙◌, Ok, Result, Some, List, ℕ, true, false, length, [], ◌==◌, ap, sym, arith, rules}
 use Rattle.std.specs.declared.alloc.AllocError.{AllocError}
 use Rattle.world_ports.specs.declared.events.Moment.{Moment}
 use Rattle.std.specs.Prelude.{is_err}
 use Rattle.world_ports.specs.declared.entry.Entry.TheVariants as entry
 use Rattle.loop_model.specs.Dues.{Due, Free, Polling, due_look, due_of}
 use Rattle.loop_model.specs.Lines.{is_idle}
-use Rattle.loop_model.specs.LegalJournal.{in_state, led}
+use Rattle.loop_model.specs.LegalJournal.{after_entry, in_state}
 use Rattle.ready_loop.proofs.CallLemmas.{look-any, look-closes, look-none, looked-at}
 use Rattle.agent_model.specs.Events.{Tick}
-use Rattle.ready_loop.proofs.KeepingLemmas.{on_ok, then_ok, told-ordered, told-orderly}
+use Rattle.ready_loop.proofs.KeepingLemmas.{then_ok, told-fit, told-ordered}
 use Rattle.ready_loop.proofs.MomentLemmas.{second-within}
 use Rattle.ready_loop.proofs.TellLemmas.{last-stepped}
 use Rattle.ready_loop.proofs.TurningLemmas.{advances, advances_once, goes_stops, one_call, stops_later, stops_short, stops_there, looks_by}
@@ -19,7 +19,7 @@ returns-in_default-clause-legal g c =
     let state = g.A.Core.state c.args.agent.now in
     let line = c.args.queue.now in
     let next = entry.Now c.now.result in
-    inl (stops_short (in_state state line Free) (led (in_state state line Free) next)
+    inl (stops_short (in_state state line Free) (after_entry (in_state state line Free) next)
     (g.W.World.journal c.args.world.now) (g.W.World.journal c.now.new.self) (is_err c.now.result) next refl
     (look-any state line c.now.result c.requires.idle) c.now.ensures.told)
 
@@ -29,7 +29,7 @@ returns-in_default-tell-clause-legal g c =
     let line = c.args.queue.now in
     let answer : Result Moment AllocError = Ok c.in-Ok.moment in
     let next = entry.Now answer in
-    inl (stops_there (one_call (in_state state line Free) (led (in_state state line Free) next)
+    inl (stops_there (one_call (in_state state line Free) (after_entry (in_state state line Free) next)
     (g.W.World.journal c.args.world.now) (g.W.World.journal c.now.new.self) next refl
     (look-any state line answer c.requires.idle) c.in-Ok.ensures.told))
 
@@ -102,72 +102,53 @@ is_idle-requires g c =
     told-ordered (g.A.Core.state c.tell.new.agent) (g.A.Core.closes c.tell.new.agent) c.args.queue.now c.tell.new.queue
     c.in-Ok-tell.ensures.after
 
-pub returns-then-not-is_empty-clause-ordered : goal.returns-then-not-is_empty-clause-ordered
-returns-then-not-is_empty-clause-ordered g c =
-    told-ordered (g.A.Core.state c.tell.new.agent) (g.A.Core.closes c.tell.new.agent) c.args.queue.now c.tell.new.queue
-    c.in-Ok-tell.ensures.after
+pub returns-then-not-is_empty-clause-fit : goal.returns-then-not-is_empty-clause-fit
+returns-then-not-is_empty-clause-fit g c =
+    told-fit (g.A.Core.state c.args.agent.now) (g.A.Core.state c.tell.new.agent) c.in-Ok.moment (g.A.Core.closes c.tell.new.agent)
+    c.args.queue.now c.tell.new.queue c.in-Ok-tell.ensures.stepped c.in-Ok-tell.ensures.after c.requires.ready.fit.orderly
 
-pub returns-then-not-is_idle-clause-ordered : goal.returns-then-not-is_idle-clause-ordered
-returns-then-not-is_idle-clause-ordered g c =
-    told-ordered (g.A.Core.state c.tell.new.agent) (g.A.Core.closes c.tell.new.agent) c.args.queue.now c.tell.new.queue
-    c.in-Ok-tell.ensures.after
+pub returns-then-not-is_empty-clause-gone : goal.returns-then-not-is_empty-clause-gone
+returns-then-not-is_empty-clause-gone g c = record {
+  ports = c.in-Ok-close_all.ensures.ports ∙ c.in-Ok.ensures.ports ∙ c.requires.ready.ports ∙ last-stepped (g.A.Core.state c.args.agent.now) (g.A.Core.state c.tell.new.agent) c.in-Ok.moment Tick
+      c.in-Ok-tell.ensures.stepped;
+  second = second-within (g.A.Core.state c.args.agent.now) (g.A.Core.state c.tell.new.agent) c.in-Ok.moment Tick
+      (g.W.World.greatest c.args.world.now) (g.W.World.greatest c.close_all.new.world) c.in-Ok-tell.ensures.stepped
+      c.requires.ready.second c.in-Ok.ensures.moment.0 (c.in-Ok-close_all.ensures.second ∙ c.in-Ok.ensures.moment.1);
+  later = grind arith;
+  led = search rules;
+}
 
-pub returns-clause-ordered : goal.returns-clause-ordered
-returns-clause-ordered g c =
-    c.poll.ensures.ordered
-    (told-ordered (g.A.Core.state c.tell.new.agent) (g.A.Core.closes c.tell.new.agent) c.args.queue.now c.tell.new.queue
-    c.in-Ok-tell.ensures.after)
+pub returns-then-not-is_idle-clause-fit : goal.returns-then-not-is_idle-clause-fit
+returns-then-not-is_idle-clause-fit g c =
+    told-fit (g.A.Core.state c.args.agent.now) (g.A.Core.state c.tell.new.agent) c.in-Ok.moment (g.A.Core.closes c.tell.new.agent)
+    c.args.queue.now c.tell.new.queue c.in-Ok-tell.ensures.stepped c.in-Ok-tell.ensures.after c.requires.ready.fit.orderly
 
-pub returns-then-not-is_empty-clause-orderly : goal.returns-then-not-is_empty-clause-orderly
-returns-then-not-is_empty-clause-orderly g c =
-    told-orderly (g.A.Core.state c.args.agent.now) (g.A.Core.state c.tell.new.agent) c.in-Ok.moment c.in-Ok-tell.ensures.stepped
-    c.requires.orderly
+pub returns-then-not-is_idle-clause-gone : goal.returns-then-not-is_idle-clause-gone
+returns-then-not-is_idle-clause-gone g c = record {
+  ports = c.in-Ok.ensures.ports ∙ c.requires.ready.ports ∙ last-stepped (g.A.Core.state c.args.agent.now) (g.A.Core.state c.tell.new.agent) c.in-Ok.moment Tick
+      c.in-Ok-tell.ensures.stepped;
+  second = second-within (g.A.Core.state c.args.agent.now) (g.A.Core.state c.tell.new.agent) c.in-Ok.moment Tick
+      (g.W.World.greatest c.args.world.now) (g.W.World.greatest c.now.new.self) c.in-Ok-tell.ensures.stepped
+      c.requires.ready.second c.in-Ok.ensures.moment.0 c.in-Ok.ensures.moment.1;
+  later = grind arith;
+  led = search rules;
+}
 
-pub returns-then-not-is_idle-clause-orderly : goal.returns-then-not-is_idle-clause-orderly
-returns-then-not-is_idle-clause-orderly g c =
-    told-orderly (g.A.Core.state c.args.agent.now) (g.A.Core.state c.tell.new.agent) c.in-Ok.moment c.in-Ok-tell.ensures.stepped
-    c.requires.orderly
+pub returns-clause-fit : goal.returns-clause-fit
+returns-clause-fit g c =
+    let fit = told-fit (g.A.Core.state c.args.agent.now) (g.A.Core.state c.tell.new.agent) c.in-Ok.moment (g.A.Core.closes c.tell.new.agent)
+    c.args.queue.now c.tell.new.queue c.in-Ok-tell.ensures.stepped c.in-Ok-tell.ensures.after c.requires.ready.fit.orderly in
+    then_ok c.poll.result (c.poll.ensures.ordered fit.ordered) (λ ordered. record { orderly = fit.orderly; ordered = ordered })
 
-pub returns-clause-orderly : goal.returns-clause-orderly
-returns-clause-orderly g c =
-    on_ok c.poll.result
-    (told-orderly (g.A.Core.state c.args.agent.now) (g.A.Core.state c.tell.new.agent) c.in-Ok.moment c.in-Ok-tell.ensures.stepped
-    c.requires.orderly)
-
-pub returns-then-not-is_empty-clause-second : goal.returns-then-not-is_empty-clause-second
-returns-then-not-is_empty-clause-second g c =
-    second-within (g.A.Core.state c.args.agent.now) (g.A.Core.state c.tell.new.agent) c.in-Ok.moment Tick
-    (g.W.World.greatest c.args.world.now) (g.W.World.greatest c.close_all.new.world) c.in-Ok-tell.ensures.stepped
-    c.requires.second c.in-Ok.ensures.moment.0 (c.in-Ok-close_all.ensures.second ∙ c.in-Ok.ensures.moment.1)
-
-pub returns-then-not-is_idle-clause-second : goal.returns-then-not-is_idle-clause-second
-returns-then-not-is_idle-clause-second g c =
-    second-within (g.A.Core.state c.args.agent.now) (g.A.Core.state c.tell.new.agent) c.in-Ok.moment Tick
-    (g.W.World.greatest c.args.world.now) (g.W.World.greatest c.now.new.self) c.in-Ok-tell.ensures.stepped
-    c.requires.second c.in-Ok.ensures.moment.0 c.in-Ok.ensures.moment.1
-
-pub returns-clause-second : goal.returns-clause-second
-returns-clause-second g c =
-    then_ok c.poll.result c.poll.ensures.second (λ same.
-    second-within (g.A.Core.state c.args.agent.now) (g.A.Core.state c.tell.new.agent) c.in-Ok.moment Tick
-    (g.W.World.greatest c.args.world.now) (g.W.World.greatest c.poll.new.world) c.in-Ok-tell.ensures.stepped
-    c.requires.second c.in-Ok.ensures.moment.0 (same ∙ c.in-Ok.ensures.moment.1))
-
-pub returns-then-not-is_empty-clause-ports : goal.returns-then-not-is_empty-clause-ports
-returns-then-not-is_empty-clause-ports g c =
-    c.in-Ok-close_all.ensures.ports ∙ c.in-Ok.ensures.ports ∙ c.requires.ports
-    ∙ last-stepped (g.A.Core.state c.args.agent.now) (g.A.Core.state c.tell.new.agent) c.in-Ok.moment Tick
-    c.in-Ok-tell.ensures.stepped
-
-pub returns-then-not-is_idle-clause-ports : goal.returns-then-not-is_idle-clause-ports
-returns-then-not-is_idle-clause-ports g c =
-    c.in-Ok.ensures.ports ∙ c.requires.ports
-    ∙ last-stepped (g.A.Core.state c.args.agent.now) (g.A.Core.state c.tell.new.agent) c.in-Ok.moment Tick
-    c.in-Ok-tell.ensures.stepped
-
-pub returns-clause-ports : goal.returns-clause-ports
-returns-clause-ports g c =
-    then_ok c.poll.result c.poll.ensures.ports (λ same.
-    same ∙ c.in-Ok.ensures.ports ∙ c.requires.ports
-    ∙ last-stepped (g.A.Core.state c.args.agent.now) (g.A.Core.state c.tell.new.agent) c.in-Ok.moment Tick
-    c.in-Ok-tell.ensures.stepped)
+pub returns-clause-gone : goal.returns-clause-gone
+returns-clause-gone g c = record {
+  ports = then_ok c.poll.result c.poll.ensures.ports (λ same.
+      same ∙ c.in-Ok.ensures.ports ∙ c.requires.ready.ports ∙ last-stepped (g.A.Core.state c.args.agent.now) (g.A.Core.state c.tell.new.agent) c.in-Ok.moment Tick
+      c.in-Ok-tell.ensures.stepped);
+  second = then_ok c.poll.result c.poll.ensures.second (λ same.
+      second-within (g.A.Core.state c.args.agent.now) (g.A.Core.state c.tell.new.agent) c.in-Ok.moment Tick
+      (g.W.World.greatest c.args.world.now) (g.W.World.greatest c.poll.new.world) c.in-Ok-tell.ensures.stepped
+      c.requires.ready.second c.in-Ok.ensures.moment.0 (same ∙ c.in-Ok.ensures.moment.1));
+  later = grind arith;
+  led = search rules;
+}

@@ -6,7 +6,7 @@ use Rattle.world_ports.specs.declared.answers.WorldFault.{WorldFault}
 use Rattle.world_ports.specs.declared.answers.WorldFault.TheVariants.{Failed, Memory}
 use Rattle.world_ports.specs.declared.entry.Entry.TheVariants as entry
 use Rattle.loop_model.specs.Dues.{Free, Polling}
-use Rattle.loop_model.specs.LegalJournal.{in_state, led}
+use Rattle.loop_model.specs.LegalJournal.{after_entry, in_state}
 use Rattle.loop_model.specs.Lines.{Line, queued_all}
 use Rattle.loop_model.proofs.QuietLemmas.{ordered_taken}
 use Rattle.ready_loop.proofs.KeepingLemmas.{ordered_is}
@@ -20,7 +20,7 @@ returns-in_default-clause-legal g c =
     let line = c.args.queue.now in
     let items = c.poll.new.out.items in
     let answer : Result Polled WorldFault = Ok polled.Some in
-    let to = led (in_state state line Polling) (entry.Poll c.wait_of.result items answer) in
+    let to = after_entry (in_state state line Polling) (entry.Poll c.wait_of.result items answer) in
     inr (record {
       answer = answer;
       last = record {
@@ -50,7 +50,7 @@ returns-in-Ok-Over-clause-legal g c =
     let line = c.args.queue.now in
     let items = c.poll.new.out.items in
     let answer : Result Polled WorldFault = Ok polled.Over in
-    let to = led (in_state state line Polling) (entry.Poll c.wait_of.result items answer) in
+    let to = after_entry (in_state state line Polling) (entry.Poll c.wait_of.result items answer) in
     record {
       to = to;
       waits = waits_once (in_state state line Polling) to (g.W.World.journal c.args.world.now) (g.W.World.journal c.poll.new.self) c.wait_of.result items answer
@@ -65,7 +65,7 @@ returns-in-Err-Failed-clause-legal g c =
     let line = c.args.queue.now in
     let items = c.poll.new.out.items in
     let answer : Result Polled WorldFault = Err Failed in
-    let to = led (in_state state line Polling) (entry.Poll c.wait_of.result items answer) in
+    let to = after_entry (in_state state line Polling) (entry.Poll c.wait_of.result items answer) in
     record {
       to = to;
       waits = waits_once (in_state state line Polling) to (g.W.World.journal c.args.world.now) (g.W.World.journal c.poll.new.self) c.wait_of.result items answer
@@ -80,7 +80,7 @@ returns-in-Err-Memory-clause-legal g c =
     let line = c.args.queue.now in
     let items = c.poll.new.out.items in
     let answer : Result Polled WorldFault = Err Memory in
-    let to = led (in_state state line Polling) (entry.Poll c.wait_of.result items answer) in
+    let to = after_entry (in_state state line Polling) (entry.Poll c.wait_of.result items answer) in
     waits_short (in_state state line Polling) to (g.W.World.journal c.args.world.now) (g.W.World.journal c.poll.new.self) c.wait_of.result items
     (poll-any state line c.wait_of.result items answer c.wait_of.ensures)
     (told_at (λ r. entry.Poll c.wait_of.result c.poll.new.out.items r) (g.W.World.journal c.args.world.now) (g.W.World.journal c.poll.new.self)
@@ -96,4 +96,4 @@ returns-in-Ok-clause-ordered g c =
     let next = entry.Poll c.wait_of.result items answer in
     ordered_is state (queued_all state items line) c.add_all.new.self
     (c.in-Ok.ensures ∙ ap (λ (is : List Ready). queued_all state is line) c.deref.ensures.value)
-    (ordered_taken from (led from next) next (poll-any state line c.wait_of.result items answer c.wait_of.ensures) ordered)
+    (ordered_taken from (after_entry from next) next (poll-any state line c.wait_of.result items answer c.wait_of.ensures) ordered)

@@ -2,4 +2,5 @@ use Rattle.ready_loop.proofs.MarkLemmas.{place-at}
 use Rattle.ready_loop.proofs.marks.find.Goals as goal
 
 pub returns-then-is_at : goal.returns-then-is_at
-returns-then-is_at c = place-at c.args.port c.args.marks.now c.args.hint c.requires c.if-is_at.ensures
+returns-then-is_at c =
+    place-at c.args.port c.args.marks.now c.args.hint c.requires c.if-is_at.ensures

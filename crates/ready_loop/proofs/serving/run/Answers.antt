@@ -10,7 +10,8 @@ use Rattle.ready_loop.proofs.KeepingLemmas.{ordered_of}
 use Rattle.ready_loop.proofs.serving.run.Goals as goal
 
 pub is_done-requires : goal.is_done-requires
-is_done-requires g c = ordered_of (g.A.Core.state c.turns.agent) c.turns.hub c.turns.invariant.7 c.turns.invariant.4
+is_done-requires g c =
+    ordered_of (g.A.Core.state c.turns.agent) c.turns.hub c.turns.invariant.7 c.turns.invariant.4
 
 pub returns-then-is_done-clause-serves : goal.returns-then-is_done-clause-serves
 returns-then-is_done-clause-serves g c = λ path state.
@@ -19,7 +20,7 @@ returns-then-is_done-clause-serves g c = λ path state.
     let first = and_both c.args.until_idle (is_deserted here && idle) (sym c.is_done.ensures ∙ c.if-is_done.true) in
     let second = and_both (is_deserted here) idle first.1 in
     record {
-      turning = here;
+      reading = here;
       calls = c.turns.invariant.2 path state;
       asked = first.0;
       deserted = second.0;

@@ -7,7 +7,7 @@ use Rattle.world_ports.specs.declared.entry.Entry.TheVariants as entry
 use Rattle.agent_model.specs.Events.{Joined}
 use Rattle.loop_model.specs.Dues.{Free, NowFor, port_of}
 use Rattle.loop_model.specs.declared.thing.Thing.TheVariants.{Accept}
-use Rattle.loop_model.specs.LegalJournal.{in_state, led}
+use Rattle.loop_model.specs.LegalJournal.{after_entry, in_state}
 use Rattle.loop_model.specs.Lines.{Line, hot_of, in_hand}
 use Rattle.ready_loop.proofs.HandLemmas.{cold-in_hand}
 use Rattle.ready_loop.proofs.HandingLemmas.{adds-joined, cold-joined, front-next, joined_line, ordered-joined}
@@ -20,7 +20,7 @@ use Rattle.ready_loop.proofs.turn.accept.Goals as goal
 
 pub accept-requires : goal.accept-requires
 accept-requires g c =
-    rw c.requires.ports (calls.joined-fits (g.A.Core.state c.args.agent.now) c.args.queue.now c.args.door c.requires.next)
+    rw c.requires.ready.ports (calls.joined-fits (g.A.Core.state c.args.agent.now) c.args.queue.now c.args.door c.requires.next)
 
 pub happen-requires-clause-fits : goal.happen-requires-clause-fits
 happen-requires-clause-fits g c =
@@ -28,7 +28,7 @@ happen-requires-clause-fits g c =
 
 pub take-requires : goal.take-requires
 take-requires g c =
-    front-next (g.A.Core.state c.args.agent.now) c.args.queue.now (Accept c.args.door) c.requires.ordered c.requires.next
+    front-next (g.A.Core.state c.args.agent.now) c.args.queue.now (Accept c.args.door) c.requires.ready.fit.ordered c.requires.next
 
 pub returns-in_default-clause-legal : goal.returns-in_default-clause-legal
 returns-in_default-clause-legal g c =
@@ -37,7 +37,7 @@ returns-in_default-clause-legal g c =
     let answer = Ok (accepted.Port c.in-Ok-Port.number) in
     let next = entry.Accept c.args.door answer in
     record {
-      by = stops_there (one_call (in_state state line Free) (led (in_state state line Free) next)
+      by = stops_there (one_call (in_state state line Free) (after_entry (in_state state line Free) next)
           (g.W.World.journal c.args.world.now) (g.W.World.journal c.accept.new.self) next refl
           (calls.accept-any state line c.args.door answer c.requires.next)
           (told_at (λ r. entry.Accept c.args.door r) (g.W.World.journal c.args.world.now) (g.W.World.journal c.accept.new.self)
@@ -50,7 +50,7 @@ happen-requires-clause-ordered g c =
     let line = c.args.queue.now in
     ordered_is state (joined_line state c.args.door c.in-Ok-Port.number (in_hand (Accept c.args.door) line))
     c.accept-in-Ok-Port.new.self (c.in-Ok.ensures ∙ ap (joined_line state c.args.door c.in-Ok-Port.number) c.take.ensures)
-    (ordered-joined state c.args.door c.in-Ok-Port.number line c.requires.ordered c.requires.next)
+    (ordered-joined state c.args.door c.in-Ok-Port.number line c.requires.ready.fit.ordered c.requires.next)
 
 pub happen-requires-clause-cold : goal.happen-requires-clause-cold
 happen-requires-clause-cold g c =
@@ -59,7 +59,7 @@ happen-requires-clause-cold g c =
     subst (λ (l : Line). hot_of l (Accept c.args.door) ≡ false)
     (sym (c.in-Ok.ensures ∙ ap (joined_line state c.args.door c.in-Ok-Port.number) c.take.ensures))
     (cold-joined state c.args.door c.in-Ok-Port.number (in_hand (Accept c.args.door) line)
-    (cold-in_hand state line (Accept c.args.door) c.requires.ordered
+    (cold-in_hand state line (Accept c.args.door) c.requires.ready.fit.ordered
     (first_is_found state line.queue (Accept c.args.door) c.requires.next).servable))
 
 pub returns-in-Ok-clause-legal : goal.returns-in-Ok-clause-legal
@@ -84,7 +84,7 @@ returns-in-Ok-clause-round g c =
     let mid = joined_line state c.args.door c.in-Ok-Port.number (in_hand (Accept c.args.door) line) in
     round-event c.happen.result state left closes own (Accept c.args.door) line mid c.accept-in-Ok-Port.new.self c.happen.new.queue
     c.happen.ensures.after (c.in-Ok.ensures ∙ ap (joined_line state c.args.door c.in-Ok-Port.number) c.take.ensures)
-    c.requires.ordered.listed c.requires.apart c.requires.next
+    c.requires.ready.fit.ordered.listed c.requires.ready.apart c.requires.next
     (adds-joined state c.args.door c.in-Ok-Port.number (in_hand (Accept c.args.door) line))
 
 pub returns-in-Ok-NotNow-clause-legal : goal.returns-in-Ok-NotNow-clause-legal
@@ -116,20 +116,20 @@ returns-in-Err-Failed-clause-legal g c =
 pub returns-in-Ok-NotNow-clause-round : goal.returns-in-Ok-NotNow-clause-round
 returns-in-Ok-NotNow-clause-round g c =
     rw c.take-in-Ok-NotNow.ensures
-    (rounds-none (g.A.Core.state c.args.agent.now) (Accept c.args.door) c.args.queue.now c.requires.ordered.listed c.requires.apart c.requires.next)
+    (rounds-none (g.A.Core.state c.args.agent.now) (Accept c.args.door) c.args.queue.now c.requires.ready.fit.ordered.listed c.requires.ready.apart c.requires.next)
 
 pub returns-in-Err-Failed-clause-round : goal.returns-in-Err-Failed-clause-round
 returns-in-Err-Failed-clause-round g c =
     rw c.take-in-Err-Failed.ensures
-    (rounds-none (g.A.Core.state c.args.agent.now) (Accept c.args.door) c.args.queue.now c.requires.ordered.listed c.requires.apart c.requires.next)
+    (rounds-none (g.A.Core.state c.args.agent.now) (Accept c.args.door) c.args.queue.now c.requires.ready.fit.ordered.listed c.requires.ready.apart c.requires.next)
 
 pub take-requires-in-Ok-NotNow : goal.take-requires-in-Ok-NotNow
 take-requires-in-Ok-NotNow g c =
-    front-next (g.A.Core.state c.args.agent.now) c.args.queue.now (Accept c.args.door) c.requires.ordered c.requires.next
+    front-next (g.A.Core.state c.args.agent.now) c.args.queue.now (Accept c.args.door) c.requires.ready.fit.ordered c.requires.next
 
 pub take-requires-in-Err-Failed : goal.take-requires-in-Err-Failed
 take-requires-in-Err-Failed g c =
-    front-next (g.A.Core.state c.args.agent.now) c.args.queue.now (Accept c.args.door) c.requires.ordered c.requires.next
+    front-next (g.A.Core.state c.args.agent.now) c.args.queue.now (Accept c.args.door) c.requires.ready.fit.ordered c.requires.next
 
 pub returns-in-Err-Memory-clause-legal : goal.returns-in-Err-Memory-clause-legal
 returns-in-Err-Memory-clause-legal g c =
@@ -138,7 +138,7 @@ returns-in-Err-Memory-clause-legal g c =
     let answer : Result Accepted WorldFault = Err Memory in
     let next = entry.Accept c.args.door answer in
     record {
-      by = stops_short (in_state state line Free) (led (in_state state line Free) next)
+      by = stops_short (in_state state line Free) (after_entry (in_state state line Free) next)
           (g.W.World.journal c.args.world.now) (g.W.World.journal c.accept.new.self) true next refl
           (calls.accept-any state line c.args.door answer c.requires.next)
           (told_at (λ r. entry.Accept c.args.door r) (g.W.World.journal c.args.world.now) (g.W.World.journal c.accept.new.self)

@@ -13,17 +13,17 @@ use Rattle.ready_loop.proofs.turn.hear.Goals as goal
 
 pub take-requires : goal.take-requires
 take-requires g c =
-    front-next (g.A.Core.state c.args.agent.now) c.args.queue.now (Read c.args.port) c.requires.ordered c.requires.next
+    front-next (g.A.Core.state c.args.agent.now) c.args.queue.now (Read c.args.port) c.requires.ready.fit.ordered c.requires.next
 
 pub happen-requires-clause-ordered : goal.happen-requires-clause-ordered
 happen-requires-clause-ordered g c =
     ordered_is (g.A.Core.state c.args.agent.now) (in_hand (Read c.args.port) c.args.queue.now) c.take.new.self c.take.ensures
-    (ordered-in_hand (g.A.Core.state c.args.agent.now) c.args.queue.now (Read c.args.port) c.requires.ordered)
+    (ordered-in_hand (g.A.Core.state c.args.agent.now) c.args.queue.now (Read c.args.port) c.requires.ready.fit.ordered)
 
 pub happen-requires-clause-cold : goal.happen-requires-clause-cold
 happen-requires-clause-cold g c =
     subst (λ (l : Line). hot_of l (Read c.args.port) ≡ false) (sym c.take.ensures)
-    (cold-in_hand (g.A.Core.state c.args.agent.now) c.args.queue.now (Read c.args.port) c.requires.ordered
+    (cold-in_hand (g.A.Core.state c.args.agent.now) c.args.queue.now (Read c.args.port) c.requires.ready.fit.ordered
     (first_is_found (g.A.Core.state c.args.agent.now) c.args.queue.now.queue (Read c.args.port) c.requires.next).servable)
 
 pub returns-clause-round : goal.returns-clause-round
@@ -34,4 +34,4 @@ returns-clause-round g c =
     let own = port_of (Heard c.args.port c.args.piece.now) left.last_port in
     let mid = in_hand (Read c.args.port) c.args.queue.now in
     round-event c.happen.result state left closes own (Read c.args.port) c.args.queue.now mid c.take.new.self c.happen.new.queue
-    c.happen.ensures.after c.take.ensures c.requires.ordered.listed c.requires.apart c.requires.next (adds-none mid)
+    c.happen.ensures.after c.take.ensures c.requires.ready.fit.ordered.listed c.requires.ready.apart c.requires.next (adds-none mid)

@@ -9,7 +9,7 @@ use Rattle.world_ports.specs.declared.answers.WorldFault.TheVariants.{Failed, Me
 use Rattle.world_ports.specs.declared.entry.Entry.TheVariants as entry
 use Rattle.loop_model.specs.Dues.{Free}
 use Rattle.loop_model.specs.declared.thing.Thing.TheVariants.{Read}
-use Rattle.loop_model.specs.LegalJournal.{in_state, led}
+use Rattle.loop_model.specs.LegalJournal.{after_entry, in_state}
 use Rattle.ready_loop.proofs.CallLemmas as calls
 use Rattle.ready_loop.proofs.TurningLemmas.{serves_then, stops_short, told_at}
 use Rattle.ready_loop.proofs.RoomLemmas.{wiped_again}
@@ -25,10 +25,12 @@ hear-heard-requires-clause-fits g c =
     )
 
 pub end-requires-clause-fits : goal.end-requires-clause-fits
-end-requires-clause-fits g c = calls.read-open (g.A.Core.state c.args.agent.now) c.args.queue.now c.args.port c.requires.next
+end-requires-clause-fits g c =
+    calls.read-open (g.A.Core.state c.args.agent.now) c.args.queue.now c.args.port c.requires.next
 
 pub end-requires-in-Err-Failed-clause-fits : goal.end-requires-in-Err-Failed-clause-fits
-end-requires-in-Err-Failed-clause-fits g c = calls.read-open (g.A.Core.state c.args.agent.now) c.args.queue.now c.args.port c.requires.next
+end-requires-in-Err-Failed-clause-fits g c =
+    calls.read-open (g.A.Core.state c.args.agent.now) c.args.queue.now c.args.port c.requires.next
 
 pub returns-in-Ok-Bytes-clause-legal : goal.returns-in-Ok-Bytes-clause-legal
 returns-in-Ok-Bytes-clause-legal g c =
@@ -75,11 +77,11 @@ returns-in-Ok-NotNow-clause-legal g c =
 pub returns-in-Ok-NotNow-clause-round : goal.returns-in-Ok-NotNow-clause-round
 returns-in-Ok-NotNow-clause-round g c =
     rw c.take.ensures
-    (rounds-none (g.A.Core.state c.args.agent.now) (Read c.args.port) c.args.queue.now c.requires.ordered.listed c.requires.apart c.requires.next)
+    (rounds-none (g.A.Core.state c.args.agent.now) (Read c.args.port) c.args.queue.now c.requires.ready.fit.ordered.listed c.requires.ready.apart c.requires.next)
 
 pub take-requires : goal.take-requires
 take-requires g c =
-    front-next (g.A.Core.state c.args.agent.now) c.args.queue.now (Read c.args.port) c.requires.ordered c.requires.next
+    front-next (g.A.Core.state c.args.agent.now) c.args.queue.now (Read c.args.port) c.requires.ready.fit.ordered c.requires.next
 
 pub end-requires-clause-at : goal.end-requires-clause-at
 end-requires-clause-at g c = read-at c.args.port
@@ -105,7 +107,7 @@ returns-in-Err-Memory-clause-legal g c =
     let answer : Result Got WorldFault = Err Memory in
     let next = entry.Read c.args.port (length c.args.room.now) [] answer in
     record {
-      by = stops_short (in_state state line Free) (led (in_state state line Free) next)
+      by = stops_short (in_state state line Free) (after_entry (in_state state line Free) next)
           (g.W.World.journal c.args.world.now) (g.W.World.journal c.read.new.self) true next refl
           (calls.read-any state line c.args.port (length c.args.room.now) [] answer c.requires.next c.requires.room)
           (told_at (λ r. entry.Read c.args.port (length c.args.room.now) (got_of r c.read.new.room) r) (g.W.World.journal c.args.world.now) (g.W.World.journal c.read.new.self)

@@ -3,7 +3,7 @@ use Rattle.world_ports.specs.declared.answers.WorldFault.{WorldFault}
 use Rattle.world_ports.specs.declared.answers.WorldFault.TheVariants.{Failed, Memory}
 use Rattle.world_ports.specs.declared.entry.Entry.TheVariants as entry
 use Rattle.loop_model.specs.Dues.{Free}
-use Rattle.loop_model.specs.LegalJournal.{in_state, led}
+use Rattle.loop_model.specs.LegalJournal.{after_entry, in_state}
 use Rattle.loop_model.specs.Lines.{after_event}
 use Rattle.ready_loop.proofs.CallLemmas as calls
 use Rattle.ready_loop.proofs.RoundingLemmas.{keeps-event, keeps-is}
@@ -35,7 +35,7 @@ returns-in-Err-Memory-clause-legal g c =
     let answer : Result (List ℕ) WorldFault = Err Memory in
     let next = entry.Start c.args.job answer in
     record {
-      by = stops_short (in_state state line Free) (led (in_state state line Free) next)
+      by = stops_short (in_state state line Free) (after_entry (in_state state line Free) next)
           (g.W.World.journal c.args.world.now) (g.W.World.journal c.start.new.self) true next refl
           (calls.start-any state line c.args.job answer c.requires.first)
           (told_at (λ r. entry.Start c.args.job r) (g.W.World.journal c.args.world.now) (g.W.World.journal c.start.new.self)

@@ -6,7 +6,7 @@ use Rattle.world_ports.specs.declared.answers.WorldFault.TheVariants.{Failed, Me
 use Rattle.world_ports.specs.declared.entry.Entry.TheVariants as entry
 use Rattle.loop_model.specs.Dues.{Free}
 use Rattle.loop_model.specs.declared.thing.Thing.TheVariants.{Write}
-use Rattle.loop_model.specs.LegalJournal.{in_state, led}
+use Rattle.loop_model.specs.LegalJournal.{after_entry, in_state}
 use Rattle.ready_loop.proofs.CallLemmas as calls
 use Rattle.ready_loop.proofs.TurningLemmas.{serves_then, stops_short, told_at}
 use Rattle.ready_loop.proofs.HandingLemmas.{front-next, write-at}
@@ -17,7 +17,8 @@ pub write-requires : goal.write-requires
 write-requires g c = rw c.owed.ensures (calls.write-some (g.A.Core.state c.args.agent.now) c.args.queue.now c.args.port c.requires.next)
 
 pub end-requires-clause-fits : goal.end-requires-clause-fits
-end-requires-clause-fits g c = calls.write-open (g.A.Core.state c.args.agent.now) c.args.queue.now c.args.port c.requires.next
+end-requires-clause-fits g c =
+    calls.write-open (g.A.Core.state c.args.agent.now) c.args.queue.now c.args.port c.requires.next
 
 pub returns-in-Ok-Took-clause-legal : goal.returns-in-Ok-Took-clause-legal
 returns-in-Ok-Took-clause-legal g c =
@@ -46,11 +47,11 @@ returns-in-Ok-NotNow-clause-legal g c =
 pub returns-in-Ok-NotNow-clause-round : goal.returns-in-Ok-NotNow-clause-round
 returns-in-Ok-NotNow-clause-round g c =
     rw c.take.ensures
-    (rounds-none (g.A.Core.state c.args.agent.now) (Write c.args.port) c.args.queue.now c.requires.ordered.listed c.requires.apart c.requires.next)
+    (rounds-none (g.A.Core.state c.args.agent.now) (Write c.args.port) c.args.queue.now c.requires.ready.fit.ordered.listed c.requires.ready.apart c.requires.next)
 
 pub take-requires : goal.take-requires
 take-requires g c =
-    front-next (g.A.Core.state c.args.agent.now) c.args.queue.now (Write c.args.port) c.requires.ordered c.requires.next
+    front-next (g.A.Core.state c.args.agent.now) c.args.queue.now (Write c.args.port) c.requires.ready.fit.ordered c.requires.next
 
 pub end-requires-clause-at : goal.end-requires-clause-at
 end-requires-clause-at g c = write-at c.args.port
@@ -73,7 +74,7 @@ returns-in-Err-Memory-clause-legal g c =
     let answer : Result Wrote WorldFault = Err Memory in
     let next = entry.Write c.args.port c.owed.result.now answer in
     record {
-      by = stops_short (in_state state line Free) (led (in_state state line Free) next)
+      by = stops_short (in_state state line Free) (after_entry (in_state state line Free) next)
           (g.W.World.journal c.args.world.now) (g.W.World.journal c.write.new.self) true next refl
           (calls.write-any state line c.args.port c.owed.result.now answer c.requires.next c.owed.ensures)
           (told_at (λ r. entry.Write c.args.port c.owed.result.now r) (g.W.World.journal c.args.world.now) (g.W.World.journal c.write.new.self)

@@ -9,7 +9,8 @@ use Rattle.ready_loop.proofs.MarkedLemmas.{marked-forgotten}
 use Rattle.ready_loop.proofs.queue.Queue.close.Goals as goal
 
 pub drop_if-requires : goal.drop_if-requires
-drop_if-requires c = c.forget-read.ensures.read ∙ ap (λ (hot : Hot). hot (Read c.args.port)) c.self.invariant.listed
+drop_if-requires c =
+    c.forget-read.ensures.read ∙ ap (λ (hot : Hot). hot (Read c.args.port)) c.self.invariant.listed
 
 pub drop_if-requires-2 : goal.drop_if-requires-2
 drop_if-requires-2 c =
