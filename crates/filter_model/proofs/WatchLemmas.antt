@@ -52,14 +52,14 @@ pub record IsWatched (listed : List (List ℕ)) (found : Option Pair) (watched :
   pub same : (pair : Pair) → found ≡ Some pair → watched.pair ≡ pair
 
 -- nothing is watched before the pair joined, and what is watched is the pair
-abbrev Good : List (List ℕ) → ℕ → ℕ → Option Pair → Option Watched → Type 0
+abbrev pub Good : List (List ℕ) → ℕ → ℕ → Option Pair → Option Watched → Type 0
 Good listed number last found None = found ≡ None
 Good listed number last found (Some watched) = (number ≤ last) × IsWatched listed found watched
 
-abbrev GoodAt : ℕ → State → Option Watched → Type 0
+abbrev pub GoodAt : ℕ → State → Option Watched → Type 0
 GoodAt number state watched = Good state.listed number state.last_pair (find_pair number state.pairs) watched
 
-new-holds : (listed : List (List ℕ)) → Holds listed new_watched
+pub new-holds : (listed : List (List ℕ)) → Holds listed new_watched
 new-holds listed = record {
   exact = record {
     taken = [];
@@ -221,7 +221,7 @@ step-good number state (Heard other side piece) watched range good = told-good (
 step-good number state (Took other side count) watched range good = told-good (number == other) number other (Took other side count) state watched refl range good
 step-good number state (Ended other) watched range good = told-good (number == other) number other (Ended other) state watched refl range good
 
-run-good : (number : ℕ) (state : State) (watched : Option Watched) (events : List Happening) → All IsInRange events → GoodAt number state watched
+pub run-good : (number : ℕ) (state : State) (watched : Option Watched) (events : List Happening) → All IsInRange events → GoodAt number state watched
     → GoodAt number (run state events) (watched_on number state watched events)
 run-good number state watched [] range good = good
 run-good number state watched (event ∷ later) range good =

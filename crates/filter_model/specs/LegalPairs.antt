@@ -1,5 +1,6 @@
 -- Which journals of pairs are legal for the filter (ours): a fold over their entries. Each thing is served in its turn:
--- what is served is the first thing of the line that can be served. Read from the end.
+-- what is served is the first thing of the line that can be served. Each answer is one that `Pairs` may give. Read from
+-- the end.
 use Rattle.std.specs.Prelude.{ℕ, ◌==◌, ◌&&◌, List, [], ◌∷◌, Option, Some, None, option_and_then}
 use Rattle.std.specs.Str.{bytes_eq}
 use Rattle.pair_ports.specs.declared.entry.PairEntry.{PairEntry}
@@ -9,6 +10,7 @@ use Rattle.filter_model.specs.declared.thing.Thing.TheVariants.{Accept, Read, Wr
 use Rattle.filter_model.specs.Filters.{State, first_state, owed_of}
 use Rattle.filter_model.specs.Lines.{is_idle, is_next}
 use Rattle.filter_model.specs.Answered.{Binding, Closing, Due, Free, Nothing, Reading, after_accept, after_bind, after_close, after_poll, after_read, after_write, at, only_if}
+use Rattle.filter_model.specs.Possible.{is_got, is_numbered, is_taken}
 use Rattle.world_ports.specs.Worlds.{read_room}
 
 -- where the door has to be bound, at these paths
@@ -25,11 +27,14 @@ allowed_bind path upstream state line (entry.Close pair answer) = None
 abbrev pub allowed_free : State → List Thing → PairEntry → Option Reading
 allowed_free state line (entry.Bind path upstream answer) = None
 allowed_free state line (entry.Poll items answer) = only_if (is_idle state line) (after_poll items state line answer)
-allowed_free state line (entry.Accept answer) = only_if (is_next state line Accept) (after_accept state line answer)
+allowed_free state line (entry.Accept answer) =
+    only_if (is_next state line Accept && is_numbered state.last_pair answer) (after_accept state line answer)
 allowed_free state line (entry.Read pair side room bytes answer) =
-    only_if (is_next state line (Read pair side) && (room == read_room)) (after_read pair side bytes state line answer)
+    only_if (is_next state line (Read pair side) && ((room == read_room) && is_got room bytes answer))
+    (after_read pair side bytes state line answer)
 allowed_free state line (entry.Write pair side offered answer) =
-    only_if (is_next state line (Write pair side) && bytes_eq offered (owed_of pair side state))
+    only_if (is_next state line (Write pair side)
+    && (bytes_eq offered (owed_of pair side state) && is_taken offered answer))
     (after_write pair side state line answer)
 allowed_free state line (entry.Close pair answer) = None
 

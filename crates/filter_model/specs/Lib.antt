@@ -5,5 +5,8 @@ pub mod Rows
 pub mod Watching
 pub mod Lines
 pub mod Answered
+pub mod Possible
 pub mod LegalPairs
+pub mod Brought
+pub mod Fairness
 pub mod PairRows

@@ -7,7 +7,7 @@ mod rows;
 mod thing;
 mod waits;
 
-pub use laws::exact;
+pub use laws::{exact, fair, passes};
 pub use rows::{
     a_list_is_cut, journals_are_legal, only_listed_keys_are_used, others_are_kept_in_order,
 };
