@@ -20,12 +20,12 @@ use Rattle.pair_ports.specs.declared.side.Side.TheVariants.{Client, Upstream}
 use Rattle.filter_model.specs.declared.thing.Thing.{Thing}
 use Rattle.filter_model.specs.declared.thing.Thing.TheVariants.{Accept, Read, Write}
 use Rattle.filter_model.specs.Filters.{State, find_pair}
-use Rattle.filter_model.specs.Fairness.{EachIsFair, ServeTwice, if_any, is_service, is_waiting, waits_on}
-use Rattle.filter_model.specs.Lines.{dropped, first_servable, has_thing, is_next, is_of, is_servable, is_thing, queued, queued_all, queued_by, queued_if, queued_pair, same_side, same_thing, sent_back, without_pair}
-use Rattle.std.proofs.lemmas.Bool.{cases_eq, eqb-true}
+use Rattle.filter_model.specs.Fairness.{EachIsFair, if_any, is_service, is_waiting, waits_on}
+use Rattle.filter_model.specs.Lines.{dropped, first_servable, has_thing, is_next, is_of, is_servable, is_thing, queued, queued_all, queued_by, queued_if, queued_pair, same_side, same_thing, sent_back}
+use Rattle.std.proofs.lemmas.Bool.{eqb-true}
 use Rattle.std.proofs.Common.{◌⊎◌, inl, inr}
 use Rattle.std.proofs.lemmas.List.Folds.{list_any-append}
-use Rattle.filter_model.specs.Answered.{Reading, Due, Binding, Closing, Free, Nothing, after_accept, after_bind, after_close, after_poll, after_read, after_write, at, only_if}
+use Rattle.filter_model.specs.Answered.{Reading, Due, Binding, Closing, Free, Nothing, after_accept, after_bind, after_close, after_poll, after_read, after_write, only_if}
 use Rattle.filter_model.proofs.JournalLemmas.{only_some, read_apart, then_some}
 use Rattle.filter_model.specs.LegalPairs.{allowed, allowed_at, first_reading, read_on}
 
@@ -413,23 +413,23 @@ between-served thing other reading to (next ∷ between) after last apart first 
 -- nothing comes where nothing may
 nothing-comes : (reading to : Reading) (calls : List PairEntry) (last : PairEntry) (after : List PairEntry) → reading.due ≡ Nothing → read_on reading (calls ++ last ∷ after) ≡ Some to → ⊥
 nothing-comes reading to calls last after over legal = nothing_by calls legal
-    where
-      none_next : (next : PairEntry) → allowed reading next ≡ None
-      none_next next = ap (λ (due : Due). allowed_at due reading.state reading.line next) over
+  where
+    none_next : (next : PairEntry) → allowed reading next ≡ None
+    none_next next = ap (λ (due : Due). allowed_at due reading.state reading.line next) over
 
-      nothing_by : (calls : List PairEntry) → read_on reading (calls ++ last ∷ after) ≡ Some to → ⊥
-      nothing_by [] legal = let none = ap (option_and_then (λ (r : Reading). read_on r after)) (none_next last) in cc
-      nothing_by (next ∷ later) legal = let none = ap (option_and_then (λ (r : Reading). read_on r (later ++ last ∷ after))) (none_next next) in cc
+    nothing_by : (calls : List PairEntry) → read_on reading (calls ++ last ∷ after) ≡ Some to → ⊥
+    nothing_by [] legal = let none = ap (option_and_then (λ (r : Reading). read_on r after)) (none_next last) in cc
+    nothing_by (next ∷ later) legal = let none = ap (option_and_then (λ (r : Reading). read_on r (later ++ last ∷ after))) (none_next next) in cc
 
 same-apart : (thing other : Thing) → same_thing thing other ≡ false → same_thing other thing ≡ false
 same-apart thing other apart = by_test (same_thing other thing) refl
-    where
-      by_test : (test : Bool) → same_thing other thing ≡ test → same_thing other thing ≡ false
-      by_test true is =
-          let same = same_is other thing is in
-          let back = subst (λ (t : Thing). same_thing t other ≡ true) same (subst (λ (t : Thing). same_thing other t ≡ true) (sym same) is) in
-          true_false (sym back ∙ apart)
-      by_test false is = is
+  where
+    by_test : (test : Bool) → same_thing other thing ≡ test → same_thing other thing ≡ false
+    by_test true is =
+        let same = same_is other thing is in
+        let back = subst (λ (t : Thing). same_thing t other ≡ true) same (subst (λ (t : Thing). same_thing other t ≡ true) (sym same) is) in
+        true_false (sym back ∙ apart)
+    by_test false is = is
 
 -- what was overtaken by a service stands ahead, where more may come
 overtaken : (thing other : Thing) (reading to : Reading) (between after : List PairEntry) (last : PairEntry) → Overtakes other thing reading

@@ -1,5 +1,5 @@
 -- A pair stays exact, whatever it hears, sends and takes.
-use Rattle.std.proofs.Common.{◌≡◌, ◌<◌, ℕ, Bool, true, false, List, [], ◌∷◌, ◌++◌, length, take, drop, map, cond, All, refl, sym, ap, subst, ◌∙◌, append_assoc, append-nil, Option, Some, None, Result, Ok, Err}
+use Rattle.std.proofs.Common.{◌≡◌, ◌<◌, ℕ, Bool, true, false, List, [], ◌∷◌, ◌++◌, take, drop, map, cond, All, refl, sym, ap, subst, ◌∙◌, append_assoc, append-nil, Option, Some, None, Result, Ok, Err}
 use Rattle.std.specs.List.{filter, flat_map}
 use Rattle.std.proofs.lemmas.List.{take-append-drop}
 use Rattle.std.proofs.lemmas.Option.{none-some, same_Some}
@@ -20,9 +20,9 @@ use Rattle.pair_ports.specs.declared.side.Side.TheVariants.{Client, Upstream}
 use Rattle.wire_text.specs.Bounds.{longest_body}
 use Rattle.filter_model.specs.declared.waits.Waits.TheVariants.{Nothing, OnList, OnReply}
 use Rattle.filter_model.specs.declared.waits.Waits.{Waits}
-use Rattle.filter_model.specs.Pairs.{Half, Pair, change_half, half_of, heard_more, owes_more, sent_some}
+use Rattle.filter_model.specs.Pairs.{Pair, change_half, half_of, heard_more, owes_more, sent_some}
 use Rattle.filter_model.specs.Looking.{Looked, and_then, and_then_if, answered, cut_reply, is_listed, only_listed, waits_by, waits_for, client_front, client_looked, client_owed, client_waits, fate_of, looked, nothing_left, reply_for, taken_as, upstream_front, upstream_looked, upstream_waits, without_front}
-use Rattle.filter_model.specs.Watching.{Exchange, IsAnswered, IsExact, IsExchange, IsPending, IsPendingFor, IsRefused, IsReplied, Stream, Watched, answers, bodies, IsCut, IsReplyTo, change_stream, is_forwarded, may_pass, replies, with_heard, with_sent}
+use Rattle.filter_model.specs.Watching.{Exchange, IsExact, IsExchange, IsPending, IsPendingFor, IsReplied, Watched, answers, bodies, IsCut, IsReplyTo, change_stream, is_forwarded, may_pass, with_heard, with_sent}
 
 -- ---- lists
 

@@ -1,8 +1,8 @@
 -- Calls move the bytes of exact pairs.
 use Rattle.std.proofs.Common.{◌≡◌, ◌∙◌, ◌++◌, ◌∷◌, ◌&&◌, ◌==◌, ◌<◌, ◌≤◌, ◌^◌, ◌-◌, ℕ, suc, Bool, true, false, List, [], All, Option, Some, None, Result, Ok, Err, length, take, refl, sym, ap, subst, arith, append_assoc, append-nil, if◌then◌else◌, nat_lt}
-use Rattle.std.specs.List.{flat_map, list_all}
+use Rattle.std.specs.List.{flat_map}
 use Rattle.std.specs.Option.{IfSome}
-use Rattle.std.specs.Prelude.{IsSome, option_and_then}
+use Rattle.std.specs.Prelude.{IsSome}
 use Rattle.std.specs.Str.{bytes_eq}
 use Rattle.std.specs.declared.alloc.AllocError.{AllocError}
 use Rattle.std.specs.Cmp.Lexicographic.{bytes_decides}
@@ -28,15 +28,15 @@ use Rattle.pair_ports.specs.declared.side.Side.{Side}
 use Rattle.pair_ports.specs.declared.side.Side.TheVariants.{Client, Upstream}
 use Rattle.filter_model.specs.declared.thing.Thing.{Thing}
 use Rattle.filter_model.specs.declared.thing.Thing.TheVariants.{Accept, Read, Write}
-use Rattle.filter_model.specs.Pairs.{Pair, half_of, is_some_bytes}
-use Rattle.filter_model.specs.Filters.{AllFit, Ended, Fits, Happening, Heard, Joined, State, Took, find_pair, first_state, owed_by, owed_of, run, step, wants_by}
-use Rattle.filter_model.specs.Lines.{first_servable, is_idle, is_next, is_servable, is_thing, same_side, same_thing}
-use Rattle.filter_model.specs.Answered.{Due, Binding, Closing, Free, Nothing, Reading, after_accept, after_bind, after_close, after_event, after_poll, after_read, after_write, only_if}
+use Rattle.filter_model.specs.Pairs.{Pair, is_some_bytes}
+use Rattle.filter_model.specs.Filters.{AllFit, Ended, Happening, Heard, Joined, State, Took, find_pair, owed_by, owed_of, run, step, wants_by}
+use Rattle.filter_model.specs.Lines.{first_servable, is_idle, is_next, is_servable, is_thing, same_side}
+use Rattle.filter_model.specs.Answered.{Due, Binding, Closing, Free, Nothing, Reading, after_accept, after_bind, after_close, after_poll, after_read, after_write}
 use Rattle.filter_model.specs.LegalPairs.{allowed, allowed_at, first_reading, read_on}
 use Rattle.filter_model.specs.Possible.{are_bytes, is_got, is_numbered, is_piece, is_taken}
-use Rattle.filter_model.specs.Watching.{IsExact, IsInRange, Stream, Watched, new_watched, no_stream, watch, watch_if, watch_old, watch_open, watched_of, watched_on}
-use Rattle.filter_model.specs.Brought.{EachPasses, IsPassed, Passes, bytes_got, bytes_taken, events_brought, events_of, heard_by, joined_by, read_by, stream_by, took_by, written_by}
-use Rattle.filter_model.proofs.FairLemmas.{same_is, true_false, two}
+use Rattle.filter_model.specs.Watching.{IsExact, IsInRange, Stream, Watched, new_watched, no_stream, watch, watch_if, watch_open, watched_of, watched_on}
+use Rattle.filter_model.specs.Brought.{EachPasses, IsPassed, events_brought, events_of, read_by, stream_by, written_by}
+use Rattle.filter_model.proofs.FairLemmas.{same_is, two}
 use Rattle.filter_model.proofs.JournalLemmas.{only_some, then_some}
 use Rattle.filter_model.proofs.WatchLemmas.{Good, GoodAt, each_is_exact, new-holds, run-good}
 

@@ -1,15 +1,13 @@
 -- Each pair stays exact, whatever the filter is told.
-use Rattle.std.proofs.Common.{◌≡◌, ◌==◌, if◌then◌else◌, ◌^◌, ◌-◌, ◌<◌, ◌≤◌, ℕ, zero, suc, Bool, true, false, List, [], ◌∷◌, ◌++◌, length, take, All, refl, sym, ap, subst, ◌∙◌, arith, nat_lt, Option, Some, None, inl, inr}
+use Rattle.std.proofs.Common.{◌≡◌, ◌==◌, if◌then◌else◌, ◌≤◌, ℕ, suc, Bool, true, false, List, [], ◌∷◌, ◌++◌, length, All, refl, sym, ap, subst, ◌∙◌, arith, nat_lt, Option, Some, None, inl, inr}
 use Rattle.std.specs.Option.{IfSome}
 use Rattle.std.proofs.lemmas.Bool.{cases_eq, eqb-true}
 use Rattle.std.proofs.lemmas.Bool.Decides.{nat_tests}
 use Rattle.std.proofs.lemmas.List.Elements.{All-nil, All-head, All-tail}
 use Rattle.std.proofs.lemmas.Option.{none-some, same_Some}
-use Rattle.pair_ports.specs.declared.side.Side.{Side}
-use Rattle.filter_model.specs.Pairs.{Pair, half_of, new_pair}
-use Rattle.filter_model.specs.Looking.{Looked}
-use Rattle.filter_model.specs.Filters.{AllFit, Ended, Fits, Happening, Heard, Joined, Numbered, State, Took, at_pair, find_pair, first_state, joined, most_pairs, put_pair, remove_pair, run, settled, step, told}
-use Rattle.filter_model.specs.Watching.{EachIsExact, IsExact, IsInRange, Watched, new_watched, no_stream, streamed, watch, watch_if, watch_old, watch_open, watched_of, watched_on}
+use Rattle.filter_model.specs.Pairs.{Pair, new_pair}
+use Rattle.filter_model.specs.Filters.{Ended, Happening, Heard, Joined, Numbered, State, Took, at_pair, find_pair, first_state, joined, most_pairs, put_pair, remove_pair, run, settled, step, told}
+use Rattle.filter_model.specs.Watching.{EachIsExact, IsExact, IsInRange, Watched, new_watched, streamed, watch, watch_if, watch_old, watch_open, watched_of, watched_on}
 use Rattle.filter_model.proofs.PairLemmas.{Holds, heard-holds, left_at, looked-holds, took-holds}
 
 -- ---- pairs by their numbers

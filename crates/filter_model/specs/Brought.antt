@@ -1,6 +1,6 @@
 -- What calls on pairs bring and move: the events of the filter, and the bytes of a pair's sides; and what these have to
 -- be (ours). Read from the end.
-use Rattle.std.specs.Prelude.{◌≡◌, ℕ, ◌==◌, ◌&&◌, List, [], ◌∷◌, Option, Some, Result, Ok, Err, take, if◌then◌else◌}
+use Rattle.std.specs.Prelude.{◌≡◌, ℕ, ◌==◌, ◌&&◌, List, [], ◌∷◌, Some, Result, Ok, Err, take, if◌then◌else◌}
 use Rattle.std.specs.List.{flat_map}
 use Rattle.world_ports.specs.declared.answers.Accepted.{Accepted}
 use Rattle.world_ports.specs.declared.answers.Accepted.TheVariants as accepted

@@ -1,7 +1,7 @@
 -- The filter: its open pairs, and what each event makes of them (ours). The file is read from its end.
 use Rattle.std.specs.Prelude.{ℕ, suc, ◌^◌, ◌-◌, ◌<◌, ◌≤◌, Bool, true, false, List, [], ◌∷◌, ◌++◌, length, Option, Some, None, IsSome, nat_lt, ◌==◌, if◌then◌else◌}
 use Rattle.pair_ports.specs.declared.side.Side.{Side}
-use Rattle.filter_model.specs.Pairs.{Half, Pair, change_half, half_of, heard_more, new_pair, sent_some, wants_half}
+use Rattle.filter_model.specs.Pairs.{Pair, change_half, half_of, heard_more, new_pair, sent_some, wants_half}
 use Rattle.filter_model.specs.Looking.{Looked, ends, looked}
 
 -- an event, with its bytes as a plain list

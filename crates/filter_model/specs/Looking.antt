@@ -1,5 +1,5 @@
 -- What a pair takes from its sides, and what that owes them (ours). The file is read from its end.
-use Rattle.std.specs.Prelude.{ℕ, Bool, true, false, List, [], ◌∷◌, ◌++◌, Option, Some, None, Result, Ok, Err, not, if◌then◌else◌}
+use Rattle.std.specs.Prelude.{ℕ, Bool, true, false, List, [], ◌∷◌, Option, Some, None, Result, Ok, Err}
 use Rattle.std.specs.List.{filter, list_any}
 use Rattle.std.specs.Str.{bytes_eq}
 use Rattle.wire_text.specs.Wire.{string}
@@ -10,11 +10,10 @@ use Rattle.agent_msg.specs.Replies.{failure, identities_answer}
 use Rattle.agent_msg.specs.Requests.{ClientRequest, ListIdentities, Sign, Add, Remove, RemoveAll, Lock, Unlock, Bind, OtherExtension, Unsupported}
 use Rattle.agent_msg.specs.declared.fault.MsgFault.{MsgFault}
 use Rattle.agent_msg.specs.declared.agent_reply.ReplyFault.{ReplyFault}
-use Rattle.pair_ports.specs.declared.side.Side.TheVariants.{Client, Upstream}
 use Rattle.wire_text.specs.Bounds.{longest_body}
 use Rattle.filter_model.specs.declared.waits.Waits.TheVariants.{Nothing, OnList, OnReply}
 use Rattle.filter_model.specs.declared.waits.Waits.{Waits}
-use Rattle.filter_model.specs.Pairs.{Half, Pair, change_half, owes_more}
+use Rattle.filter_model.specs.Pairs.{Half, Pair, owes_more}
 
 -- the pair that a look leaves, and whether it stays open; one that doesn't is as it was just before its end
 pub record Looked : Type 0 where

@@ -1,5 +1,5 @@
 -- Journals of pairs that are written out (ours).
-use Rattle.std.specs.Prelude.{ℕ, Bool, true, false, List, [], ◌∷◌, Some, None, is_some, Ok, Err}
+use Rattle.std.specs.Prelude.{ℕ, Bool, true, false, List, [], ◌∷◌, None, is_some, Ok, Err}
 use Rattle.world_ports.specs.declared.answers.Accepted.TheVariants as accepted
 use Rattle.world_ports.specs.declared.answers.Got.TheVariants as got
 use Rattle.world_ports.specs.declared.answers.Polled.TheVariants as polled
@@ -8,9 +8,9 @@ use Rattle.world_ports.specs.declared.answers.Wrote.TheVariants as wrote
 use Rattle.pair_ports.specs.declared.entry.PairEntry.{PairEntry}
 use Rattle.pair_ports.specs.declared.entry.PairEntry.TheVariants as entry
 use Rattle.pair_ports.specs.declared.side.Side.{Side}
-use Rattle.pair_ports.specs.declared.side.Side.TheVariants.{Client, Upstream}
+use Rattle.pair_ports.specs.declared.side.Side.TheVariants.{Client}
 use Rattle.filter_model.specs.LegalPairs.{first_reading, read_on}
-use Rattle.filter_model.specs.Rows.{blob, list}
+use Rattle.filter_model.specs.Rows.{blob}
 
 -- the journal may be one of a filter whose list has the key of tag 17
 abbrev pub is_legal : List PairEntry → Bool

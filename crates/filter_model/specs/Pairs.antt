@@ -1,5 +1,5 @@
 -- A client and its connection to the agent behind the filter: a pair, what its sides sent and are owed (ours).
-use Rattle.std.specs.Prelude.{ℕ, Bool, true, false, List, [], ◌∷◌, ◌++◌, length, drop, Option, Some, None, nat_lt, ◌==◌, if◌then◌else◌}
+use Rattle.std.specs.Prelude.{ℕ, Bool, true, false, List, [], ◌++◌, length, drop, nat_lt}
 use Rattle.wire_text.specs.Bounds.{longest_body}
 use Rattle.wire_text.specs.Frames.{Front, front, Whole, Bad, More}
 use Rattle.pair_ports.specs.declared.side.Side.{Side}

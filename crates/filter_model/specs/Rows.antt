@@ -1,7 +1,7 @@
 -- Literal rows of the filter (ours). The numbers are written out, so that a wrong definition can't agree with itself.
 use Rattle.std.specs.Prelude.{ℕ, List, [], ◌∷◌, ◌++◌, replicate, codes}
 use Rattle.pair_ports.specs.declared.side.Side.{Side}
-use Rattle.pair_ports.specs.declared.side.Side.TheVariants.{Client, Upstream}
+use Rattle.pair_ports.specs.declared.side.Side.TheVariants.{Client}
 use Rattle.filter_model.specs.Filters.{Happening, Heard, Joined, State, Took, first_state, owed_of, run}
 
 -- the blob of a key with a public tag of 32 equal bytes

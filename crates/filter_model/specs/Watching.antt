@@ -1,5 +1,5 @@
 -- What each pair ever heard, sent and was owed, and what that has to be (ours).
-use Rattle.std.specs.Prelude.{◌≡◌, ℕ, suc, ◌==◌, ◌<◌, Bool, true, false, List, [], ◌∷◌, ◌++◌, length, take, map, All, Option, Some, None, Result, Ok, Err, if◌then◌else◌}
+use Rattle.std.specs.Prelude.{◌≡◌, ℕ, suc, ◌==◌, Bool, true, false, List, [], ◌∷◌, ◌++◌, take, map, All, Option, Some, None, Result, Ok, Err, if◌then◌else◌}
 use Rattle.std.specs.List.{filter, flat_map, list_any}
 use Rattle.std.specs.Str.{bytes_eq}
 use Rattle.std.specs.Option.{IfSome}
@@ -16,8 +16,8 @@ use Rattle.pair_ports.specs.declared.side.Side.TheVariants.{Client, Upstream}
 use Rattle.wire_text.specs.Bounds.{longest_body}
 use Rattle.filter_model.specs.declared.waits.Waits.TheVariants.{Nothing, OnList, OnReply}
 use Rattle.filter_model.specs.declared.waits.Waits.{Waits}
-use Rattle.filter_model.specs.Pairs.{Half, Pair, half_of, new_pair}
-use Rattle.filter_model.specs.Filters.{AllFit, Ended, Happening, Heard, Joined, State, Took, find_pair, first_state, run, step, told}
+use Rattle.filter_model.specs.Pairs.{Pair, half_of, new_pair}
+use Rattle.filter_model.specs.Filters.{AllFit, Ended, Happening, Heard, Joined, State, Took, find_pair, first_state, step, told}
 
 -- ---- what a pair ever did
 

@@ -1,7 +1,7 @@
 -- What each call leaves of a reading, by its answer.
-use Rattle.std.proofs.Common.{◌≡◌, ◌∙◌, ℕ, ◌+◌, ◌-◌, ◌^◌, ◌<◌, Bool, true, false, List, [], ◌∷◌, length, drop, get_or, Option, Some, None, Result, Ok, Err, refl, sym, ap, not, ◌&&◌, ◌==◌, if◌then◌else◌, add-one, arith}
+use Rattle.std.proofs.Common.{◌≡◌, ◌∙◌, ℕ, suc, All, nat_lt, ◌≤◌, ◌+◌, ◌-◌, ◌^◌, ◌<◌, Bool, true, false, List, [], ◌∷◌, length, drop, get_or, Option, Some, None, Result, Ok, refl, sym, ap, not, ◌&&◌, ◌==◌, if◌then◌else◌, add-one, arith}
 use Rattle.std.proofs.Math.Seq.{drop-cons}
-use Rattle.std.specs.Prelude.{IsSome, OnOk, is_some}
+use Rattle.std.specs.Prelude.{IsSome, is_some}
 use Rattle.std.specs.declared.alloc.AllocError.{AllocError}
 use Rattle.std.specs.Str.{bytes_eq}
 use Rattle.std.specs.Cmp.Lexicographic.{bytes_decides}
@@ -18,11 +18,16 @@ use Rattle.pair_ports.specs.declared.side.Side.TheVariants.{Client, Upstream}
 use Rattle.filter_model.specs.declared.thing.Thing.{Thing}
 use Rattle.filter_model.specs.declared.thing.Thing.TheVariants.{Accept, Read, Write}
 use Rattle.filter_model.specs.Pairs.{Pair, is_some_bytes}
-use Rattle.filter_model.specs.Filters.{Ended, Happening, Heard, Joined, State, Took, find_pair, owed_by, owed_of, step, wants_by}
+use Rattle.filter_model.specs.Filters.{Ended, Heard, Joined, State, Took, find_pair, owed_by, owed_of, step, wants_by}
 use Rattle.filter_model.specs.Lines.{first_servable, is_idle, is_next, is_servable, is_thing, same_side, same_thing}
-use Rattle.filter_model.specs.Answered.{Binding, Closing, Due, Free, after_accept, after_bind, after_close, after_poll, after_read, after_write, at, due_of, only_if}
+use Rattle.filter_model.specs.Answered.{Binding, Closing, Free, after_accept, after_bind, after_close, after_poll, after_read, after_write, at, due_of, only_if}
 use Rattle.filter_model.specs.LegalPairs.{allowed}
-use Rattle.world_ports.specs.Worlds.{read_room}
+use Rattle.world_ports.specs.Worlds.{GotWithin, NumbersPort, TookWithin, read_room}
+use Rattle.world_ports.specs.declared.answers.Accepted.TheVariants as accepted
+use Rattle.world_ports.specs.declared.answers.Got.TheVariants as got
+use Rattle.world_ports.specs.declared.answers.Wrote.TheVariants as wrote
+use Rattle.std.proofs.lemmas.List.Elements.{All-head, All-tail}
+use Rattle.filter_model.specs.Possible.{are_bytes, is_got, is_numbered, is_piece, is_taken}
 use Rattle.filter_model.proofs.WatchLemmas.{last-at, last-joined}
 
 -- ---- things
@@ -92,6 +97,31 @@ last_took state pair side count = last-at (find_pair pair state.pairs) pair (Too
 pub last_ended : (state : State) (pair : ℕ) → (step state (Ended pair)).last_pair ≡ state.last_pair
 last_ended state pair = last-at (find_pair pair state.pairs) pair (Ended pair) state
 
+-- ---- answers that may come
+
+-- a client that was accepted has the next number
+pub numbered : (last before now number : ℕ) → before ≡ last → NumbersPort (Ok (accepted.Port number)) before now → is_numbered last (Ok (accepted.Port number)) ≡ true
+numbered last before now number same is = (Decides-eqb number (suc last)).1 (is.0 ∙ ap (λ (n : ℕ). n + 1) same ∙ add-one last)
+
+piece : (count most : ℕ) → 0 < count → count ≤ most → is_piece count most ≡ true
+piece count most some within =
+    both (nat_lt 0 count) (nat_lt count (suc most)) ((Decides-ltb 0 count).1 some) ((Decides-ltb count (suc most)).1 (omega (arith, within)))
+
+bytes_are : (bytes : List ℕ) → All (λ byte. byte < 256) bytes → are_bytes bytes ≡ true
+bytes_are [] small = refl
+bytes_are (byte ∷ bytes) small =
+    both (nat_lt byte 256) (are_bytes bytes) ((Decides-ltb byte 256).1 (All-head (λ (b : ℕ). b < 256) byte bytes small)) (bytes_are bytes (All-tail (λ (b : ℕ). b < 256) byte bytes small))
+
+-- what was read is what there was room for
+pub got_is : (room n : ℕ) (bytes : List ℕ) → n ≡ length bytes → GotWithin (Ok (got.Bytes n)) room → All (λ byte. byte < 256) bytes → is_got room bytes (Ok (got.Bytes n)) ≡ true
+got_is room n bytes same within small =
+    both (n == length bytes) (is_piece n room && are_bytes bytes) ((Decides-eqb n (length bytes)).1 same)
+    (both (is_piece n room) (are_bytes bytes) (piece n room within.0 within.1) (bytes_are bytes small))
+
+-- what was taken was offered
+pub taken_is : (offered : List ℕ) (n : ℕ) → TookWithin (Ok (wrote.Took n)) (length offered) → is_taken offered (Ok (wrote.Took n)) ≡ true
+taken_is offered n within = piece n (length offered) within.0 within.1
+
 -- ---- calls
 
 pub bind_any : (state : State) (line : List Thing) (path upstream : List ℕ) (answer : Result Unit WorldFault) → allowed (at state line (Binding path upstream)) (entry.Bind path upstream answer) ≡ Some (after_bind answer state line)
@@ -101,16 +131,19 @@ bind_any state line path upstream answer =
 pub poll_any : (state : State) (line : List Thing) (items : List PairReady) (answer : Result Polled WorldFault) → is_idle state line ≡ true → allowed (at state line Free) (entry.Poll items answer) ≡ Some (after_poll items state line answer)
 poll_any state line items answer idle = ap (λ (b : Bool). only_if b (after_poll items state line answer)) idle
 
-pub accept_any : (state : State) (line : List Thing) (answer : Result Accepted WorldFault) → first_servable state line ≡ Some Accept → allowed (at state line Free) (entry.Accept answer) ≡ Some (after_accept state line answer)
-accept_any state line answer found = ap (λ (b : Bool). only_if b (after_accept state line answer)) (next_is state line Accept found)
+pub accept_any : (state : State) (line : List Thing) (answer : Result Accepted WorldFault) → first_servable state line ≡ Some Accept → is_numbered state.last_pair answer ≡ true → allowed (at state line Free) (entry.Accept answer) ≡ Some (after_accept state line answer)
+accept_any state line answer found may =
+    ap (λ (b : Bool). only_if b (after_accept state line answer)) (both (is_next state line Accept) (is_numbered state.last_pair answer) (next_is state line Accept found) may)
 
-pub read_any : (state : State) (line : List Thing) (pair : ℕ) (side : Side) (room : ℕ) (bytes : List ℕ) (answer : Result Got WorldFault) → first_servable state line ≡ Some (Read pair side) → room ≡ read_room → allowed (at state line Free) (entry.Read pair side room bytes answer) ≡ Some (after_read pair side bytes state line answer)
-read_any state line pair side room bytes answer found is =
-    ap (λ (b : Bool). only_if b (after_read pair side bytes state line answer)) (both (is_next state line (Read pair side)) (room == read_room) (next_is state line (Read pair side) found) ((Decides-eqb room read_room).1 is))
+pub read_any : (state : State) (line : List Thing) (pair : ℕ) (side : Side) (room : ℕ) (bytes : List ℕ) (answer : Result Got WorldFault) → first_servable state line ≡ Some (Read pair side) → room ≡ read_room → is_got room bytes answer ≡ true → allowed (at state line Free) (entry.Read pair side room bytes answer) ≡ Some (after_read pair side bytes state line answer)
+read_any state line pair side room bytes answer found is may =
+    ap (λ (b : Bool). only_if b (after_read pair side bytes state line answer)) (both (is_next state line (Read pair side)) ((room == read_room) && is_got room bytes answer) (next_is state line (Read pair side) found)
+    (both (room == read_room) (is_got room bytes answer) ((Decides-eqb room read_room).1 is) may))
 
-pub write_any : (state : State) (line : List Thing) (pair : ℕ) (side : Side) (offered : List ℕ) (answer : Result Wrote WorldFault) → first_servable state line ≡ Some (Write pair side) → offered ≡ owed_of pair side state → allowed (at state line Free) (entry.Write pair side offered answer) ≡ Some (after_write pair side state line answer)
-write_any state line pair side offered answer found is =
-    ap (λ (b : Bool). only_if b (after_write pair side state line answer)) (both (is_next state line (Write pair side)) (bytes_eq offered (owed_of pair side state)) (next_is state line (Write pair side) found) ((bytes_decides offered (owed_of pair side state)).1 is))
+pub write_any : (state : State) (line : List Thing) (pair : ℕ) (side : Side) (offered : List ℕ) (answer : Result Wrote WorldFault) → first_servable state line ≡ Some (Write pair side) → offered ≡ owed_of pair side state → is_taken offered answer ≡ true → allowed (at state line Free) (entry.Write pair side offered answer) ≡ Some (after_write pair side state line answer)
+write_any state line pair side offered answer found is may =
+    ap (λ (b : Bool). only_if b (after_write pair side state line answer)) (both (is_next state line (Write pair side)) (bytes_eq offered (owed_of pair side state) && is_taken offered answer) (next_is state line (Write pair side) found)
+    (both (bytes_eq offered (owed_of pair side state)) (is_taken offered answer) ((bytes_decides offered (owed_of pair side state)).1 is) may))
 
 pub close_any : (state : State) (line : List Thing) (pair : ℕ) (later : List ℕ) (answer : Result Unit AllocError) → allowed (at state line (Closing pair later)) (entry.Close pair answer) ≡ Some (after_close pair later state line answer)
 close_any state line pair later answer = ap (λ (b : Bool). only_if b (after_close pair later state line answer)) ((Decides-eqb pair pair).1 refl)

@@ -1,7 +1,7 @@
 -- Calls one after another.
-use Rattle.std.proofs.Common.{◌≡◌, ◌∙◌, ◌⊎◌, inl, inr, ℕ, Bool, true, false, List, [], ◌∷◌, ◌++◌, Option, Some, None, Result, Ok, Err, refl, sym, ap, subst, append_assoc}
+use Rattle.std.proofs.Common.{◌≡◌, ◌∙◌, inl, inr, Bool, true, false, List, [], ◌∷◌, ◌++◌, Option, Some, None, Result, Ok, Err, refl, sym, ap, subst, append_assoc}
 use Rattle.std.proofs.lemmas.List.{append-nil}
-use Rattle.std.specs.Prelude.{OnOk, option_and_then}
+use Rattle.std.specs.Prelude.{OnOk}
 use Rattle.world_ports.specs.declared.answers.Polled.{Polled}
 use Rattle.world_ports.specs.declared.answers.WorldFault.{WorldFault}
 use Rattle.world_ports.specs.Journal.{Grows, Tells, is_short}
@@ -9,9 +9,10 @@ use Rattle.pair_ports.specs.declared.entry.PairEntry.{PairEntry}
 use Rattle.pair_ports.specs.declared.entry.PairEntry.TheVariants as entry
 use Rattle.filter_model.specs.Answered.{Reading}
 use Rattle.filter_model.specs.LegalPairs.{allowed, read_on}
+use Rattle.filter_model.proofs.JournalLemmas.{read_both, read_one}
 use Rattle.filter_top.specs.declared.status.FilterStatus.{FilterStatus}
 use Rattle.filter_top.specs.declared.status.FilterStatus.TheVariants as status
-use Rattle.filter_top.specs.Moves.{BindEnds, Goes, Moves, MovesUpTo, PollEnds, Stops, Turns, served_by}
+use Rattle.filter_top.specs.Moves.{BindEnds, Goes, GoesOn, Moves, MovesOn, MovesUpTo, PollEnds, Stops, Turns, served_by}
 use Rattle.filter_top.specs.Program.{Serves}
 use Rattle.filter_top.specs.declared.turn.Turn.{Turn}
 use Rattle.filter_top.specs.declared.turn.Turn.TheVariants as turns
@@ -24,23 +25,6 @@ grows_more (Some before) None new first later told more = absurd told
 grows_more (Some before) (Some between) None first later told more = absurd more
 grows_more (Some before) (Some between) (Some now) first later told more =
     more ∙ ap (λ (es : List PairEntry). es ++ later) told ∙ append_assoc before first later
-
--- ---- the fold over two parts
-
-read_by : (taking : Option Reading) (first later : List PairEntry) → ((reading : Reading) → read_on reading (first ++ later) ≡ option_and_then (λ after. read_on after later) (read_on reading first)) → option_and_then (λ after. read_on after (first ++ later)) taking ≡ option_and_then (λ after. read_on after later) (option_and_then (λ after. read_on after first) taking)
-read_by None first later rest = refl
-read_by (Some reading) first later rest = rest reading
-
-read_on-append : (from : Reading) (first later : List PairEntry) → read_on from (first ++ later) ≡ option_and_then (λ after. read_on after later) (read_on from first)
-read_on-append from [] later = refl
-read_on-append from (next ∷ first) later = read_by (allowed from next) first later (λ reading. read_on-append reading first later)
-
-read_both : (from mid to : Reading) (first later : List PairEntry) → read_on from first ≡ Some mid → read_on mid later ≡ Some to → read_on from (first ++ later) ≡ Some to
-read_both from mid to first later legal more =
-    read_on-append from first later ∙ ap (option_and_then (λ (after : Reading). read_on after later)) legal ∙ more
-
-read_one : (from to : Reading) (next : PairEntry) → allowed from next ≡ Some to → read_on from (next ∷ []) ≡ Some to
-read_one from to next is = ap (option_and_then (λ (after : Reading). read_on after [])) is
 
 -- ---- calls one after another
 
@@ -55,6 +39,14 @@ no_call from journal = record {
 -- one call
 pub one_call : (from to : Reading) (old new : Option (List PairEntry)) (next : PairEntry) → allowed from next ≡ Some to → Grows old new (next ∷ []) → Moves from old new to
 one_call from to old new next is told = record { added = next ∷ []; told = told; legal = read_one from to next is }
+
+-- the same, by which it moved
+pub first_call : (from to : Reading) (old new : Option (List PairEntry)) (next : PairEntry) → allowed from next ≡ Some to → Grows old new (next ∷ []) → MovesOn from old new to
+first_call from to old new next is told = record { next = next; later = []; told = told; legal = read_one from to next is }
+
+-- what made a call, moved
+pub moves_of : {from to : Reading} {old new : Option (List PairEntry)} → MovesOn from old new to → Moves from old new to
+moves_of {from} {to} {old} {new} moves = record { added = moves.next ∷ moves.later; told = moves.told; legal = moves.legal }
 
 -- some calls, and then others
 pub moves_on : {from mid to : Reading} {old between new : Option (List PairEntry)} → Moves from old between mid → Moves mid between new to → Moves from old new to
@@ -81,11 +73,6 @@ pub stops_short : (from to : Reading) (old new : Option (List PairEntry)) (short
 stops_short from to old new false next is told = stops_there (one_call from to old new next is told)
 stops_short from to old new true next is (inl told) = stops_there (one_call from to old new next is told)
 stops_short from to old new true next is (inr told) = record { to = from; moves = record { added = []; told = told; legal = refl } }
-
--- one call, and then others while memory suffices
-pub goes_then : {E : Type 0} (result : Result Unit E) (from mid to : Reading) (old between new : Option (List PairEntry)) → Moves from old between mid → Goes result mid between new to → Goes result from old new to
-goes_then (Ok done) from mid to old between new first later = moves_on first later
-goes_then (Err want) from mid to old between new first later = stops_later first later
 
 -- what was told of a call, at the answer that it had
 pub told_at : {T : Type 0} (of : Result T WorldFault → PairEntry) (old new : Option (List PairEntry)) {result answer : Result T WorldFault} → result ≡ answer → Tells old new (is_short result) (of result) → Tells old new (is_short answer) (of answer)
@@ -125,13 +112,19 @@ serves_later status.Memory from mid old between new first later = stops_later fi
 serves_later status.FileFault from mid old between new first later = absurd later
 
 -- a turn that served something
-pub served_turns : {E : Type 0} (result : Result Unit E) (from to : Reading) (old new : Option (List PairEntry)) → Goes result from old new to → Turns (served_by result) from old new to
+pub served_turns : {E : Type 0} (result : Result Unit E) (from to : Reading) (old new : Option (List PairEntry)) → GoesOn result from old new to → Turns (served_by result) from old new to
 served_turns (Ok done) from to old new goes = goes
 served_turns (Err want) from to old new goes = goes
 
 -- one call, and then others while memory suffices
-pub call_then : {E : Type 0} (result : Result Unit E) (from mid to : Reading) (old between new : Option (List PairEntry)) (next : PairEntry) → allowed from next ≡ Some mid → Grows old between (next ∷ []) → Goes result mid between new to → Goes result from old new to
-call_then result from mid to old between new next is told later = goes_then result from mid to old between new (one_call from mid old between next is told) later
+pub call_then : {E : Type 0} (result : Result Unit E) (from mid to : Reading) (old between new : Option (List PairEntry)) (next : PairEntry) → allowed from next ≡ Some mid → Grows old between (next ∷ []) → Goes result mid between new to → GoesOn result from old new to
+call_then (Ok done) from mid to old between new next is told later = record {
+  next = next;
+  later = later.added;
+  told = grows_more old between new (next ∷ []) later.added told later.told;
+  legal = read_both from mid to (next ∷ []) later.added (read_one from mid next is) later.legal;
+}
+call_then (Err want) from mid to old between new next is told later = stops_later (one_call from mid old between next is told) later
 
 -- what holds, holds where memory sufficed
 pub on_ok : {T E : Type 0} {P : Type 0} (result : Result T E) → P → OnOk result P

@@ -1,10 +1,18 @@
 -- What was read of the list, and how the program ends.
-use Rattle.std.proofs.Common.{◌≡◌, ◌∙◌, ◌≤◌, inl, inr, ℕ, List, Option, Some, Ok, length, refl, sym, subst}
+use Rattle.std.proofs.Common.{◌≡◌, ◌∙◌, ◌++◌, ◌∷◌, [], ◌≤◌, inl, inr, ℕ, List, Option, Some, None, Result, Ok, length, refl, sym, subst}
 use Rattle.std.specs.Option.{IfSome}
 use Rattle.std.proofs.lemmas.Option.{same_Some}
+use Rattle.key_file.specs.declared.fault.PubFault.{PubFault}
 use Rattle.world_ports.specs.Files.{FilesView, Holds}
 use Rattle.pair_ports.specs.declared.entry.PairEntry.{PairEntry}
-use Rattle.filter_model.specs.LegalPairs.{first_reading}
+use Rattle.world_ports.specs.Journal.{Grows}
+use Rattle.filter_model.specs.Answered.{Reading}
+use Rattle.filter_model.specs.LegalPairs.{first_reading, read_on}
+use Rattle.filter_model.proofs.FairLemmas.{each_is_fair}
+use Rattle.filter_model.proofs.PassLemmas.{each_passes}
+use Rattle.filter_top.specs.Moves.{MovesUpTo, Stops}
+use Rattle.filter_top.specs.Passing.{PassesExactly, ServesFairly}
+use Rattle.filter_top.proofs.MoveLemmas.{no_call, stops_there}
 use Rattle.filter_top.specs.declared.status.FilterStatus.{FilterStatus}
 use Rattle.filter_top.specs.declared.status.FilterStatus.TheVariants as status
 use Rattle.filter_top.specs.Lists.{blobs_in, longest_list}
@@ -45,3 +53,62 @@ ends_with held asked blobs status.FileFault old new listed serves = absurd serve
 -- what the words ask for is one thing
 pub asked_once : (read : Asked) (asked : Asked) (found : Option Asked) → Some read ≡ found → found ≡ Some asked → read ≡ asked
 asked_once read asked found is also = same_Some _ _ (is ∙ also)
+
+-- ---- what the calls come to
+
+same_read : (one other : List (List ℕ)) → ◌≡◌ {A = Result (List (List ℕ)) (ℕ × PubFault)} (Ok one) (Ok other) → one ≡ other
+same_read one other same = cc
+
+-- a list is one
+same_list : (kept : Option (List ℕ)) (one other : List (List ℕ)) → IsListOf kept one → IsListOf kept other → one ≡ other
+same_list None one other is also = absurd is
+same_list (Some text) one other is also = same_read one other (sym is.1 ∙ also.1)
+
+-- calls that may come, up to any end
+pub record Calls (from : Reading) (old new : Option (List PairEntry)) : Type 0 where
+  pub calls : List PairEntry
+  pub to : Reading
+  pub told : Grows old new calls
+  pub legal : read_on from calls ≡ Some to
+
+calls_up_to : {from : Reading} {old new : Option (List PairEntry)} {last : PairEntry} → MovesUpTo from old new last → Calls from old new
+calls_up_to {from} {old} {new} {last} moves = record { calls = moves.before ++ last ∷ []; to = moves.to; told = moves.told; legal = moves.legal }
+
+calls_to_stop : {from : Reading} {old new : Option (List PairEntry)} → Stops from old new → Calls from old new
+calls_to_stop stops = record { calls = stops.moves.added; to = stops.to; told = stops.moves.told; legal = stops.moves.legal }
+
+calls_made : (result : FilterStatus) (from : Reading) (old new : Option (List PairEntry)) → Serves result from old new → Calls from old new
+calls_made status.Done from old new serves = calls_up_to serves.moves
+calls_made (status.BadList line fault) from old new serves = absurd serves
+calls_made status.Usage from old new serves = absurd serves
+calls_made status.BindFault from old new serves = calls_up_to serves.moves
+calls_made status.PollFault from old new serves = calls_up_to serves.moves
+calls_made status.Memory from old new serves = calls_to_stop serves
+calls_made status.FileFault from old new serves = absurd serves
+
+-- none were made
+pub no_calls : (from : Reading) (journal : Option (List PairEntry)) → Calls from journal journal
+no_calls from journal = calls_to_stop (stops_there (no_call from journal))
+
+pub passes_by : (listed : List (List ℕ)) (asked : Asked) (old new : Option (List PairEntry)) → Calls (first_reading listed asked.path asked.upstream) old new → PassesExactly listed asked old new
+passes_by listed asked old new made = record {
+  calls = made.calls;
+  to = made.to;
+  told = made.told;
+  legal = made.legal;
+  passes = each_passes listed asked.path asked.upstream made.calls made.to made.legal;
+}
+
+pub fair_by : (listed : List (List ℕ)) (asked : Asked) (old new : Option (List PairEntry)) → Calls (first_reading listed asked.path asked.upstream) old new → ServesFairly listed asked old new
+fair_by listed asked old new made = record {
+  calls = made.calls;
+  told = made.told;
+  fair = each_is_fair listed asked.path asked.upstream made.calls made.to made.legal;
+}
+
+-- the calls of a loop that began with a list are those of this one
+pub calls_of : (kept : Option (List ℕ)) (listed blobs : List (List ℕ)) (asked : Asked) (result : FilterStatus) (old new : Option (List PairEntry)) → IsListOf kept listed → IsListOf kept blobs
+    → Serves result (first_reading blobs asked.path asked.upstream) old new → Calls (first_reading listed asked.path asked.upstream) old new
+calls_of kept listed blobs asked result old new is also serves =
+    calls_made result (first_reading listed asked.path asked.upstream) old new
+    (subst (λ (l : List (List ℕ)). Serves result (first_reading l asked.path asked.upstream) old new) (same_list kept blobs listed also is) serves)

@@ -1,4 +1,5 @@
 pub mod Codes
 pub mod Lists
 pub mod Moves
+pub mod Passing
 pub mod Program

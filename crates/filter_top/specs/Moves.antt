@@ -19,6 +19,13 @@ pub record Moves (from : Reading) (old new : Option (List PairEntry)) (to : Read
   pub told : Grows old new added
   pub legal : read_on from added ≡ Some to
 
+-- one call at least was added; the calls may come from one reading on, and lead to the other
+pub record MovesOn (from : Reading) (old new : Option (List PairEntry)) (to : Reading) : Type 0 where
+  pub next : PairEntry
+  pub later : List PairEntry
+  pub told : Grows old new (next ∷ later)
+  pub legal : read_on from (next ∷ later) ≡ Some to
+
 -- memory ran out: the calls up to there may come
 pub record Stops (from : Reading) (old new : Option (List PairEntry)) : Type 0 where
   pub to : Reading
@@ -47,9 +54,14 @@ abbrev pub Goes : {E : Type 0} → Result Unit E → Reading → Option (List Pa
 Goes (Ok done) from old new to = Moves from old new to
 Goes (Err want) from old new to = Stops from old new
 
--- by how a turn ended
+-- by whether memory ran out, where a call was to be made
+abbrev pub GoesOn : {E : Type 0} → Result Unit E → Reading → Option (List PairEntry) → Option (List PairEntry) → Reading → Type 0
+GoesOn (Ok done) from old new to = MovesOn from old new to
+GoesOn (Err want) from old new to = Stops from old new
+
+-- by how a turn ended: one that served made a call
 abbrev pub Turns : Turn → Reading → Option (List PairEntry) → Option (List PairEntry) → Reading → Type 0
-Turns turns.Served from old new to = Moves from old new to
+Turns turns.Served from old new to = MovesOn from old new to
 Turns turns.Over from old new to = PollEnds from old new (Ok polled.Over)
 Turns turns.Refused from old new to = PollEnds from old new (Err fault.Failed)
 Turns turns.Memory from old new to = Stops from old new

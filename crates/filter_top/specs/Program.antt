@@ -6,6 +6,9 @@ use Rattle.std.specs.declared.alloc.Global.{Global}
 use Rattle.key_file.specs.declared.fault.PubFault.{PubFault}
 use Rattle.world_ports.specs.declared.answers.Polled.TheVariants as polled
 use Rattle.world_ports.specs.declared.answers.WorldFault.TheVariants as fault
+use Rattle.world_ports.specs.Causes.{Rose}
+use Rattle.world_ports.specs.Files.{FilesView, HoldsMore}
+use Rattle.world_ports.specs.Journal.{Grows}
 use Rattle.pair_ports.specs.declared.entry.PairEntry.{PairEntry}
 use Rattle.filter_model.specs.Answered.{Reading}
 use Rattle.filter_model.specs.LegalPairs.{first_reading}
@@ -66,6 +69,15 @@ IsListOf (Some text) blobs = (length text ≤ longest_list) × (blobs_in text �
 abbrev pub IsBadAt : Option (List ℕ) → ℕ → PubFault → Type 0
 IsBadAt None line fault = ⊥
 IsBadAt (Some text) line fault = (length text ≤ longest_list) × (blobs_in text ≡ Err (line, fault))
+
+-- a call on this path failed and on no other, and that was counted
+pub record FailsAt (path : List ℕ) (before now : FilesView) : Type 0 where
+  pub failed : Grows before.failed now.failed (path ∷ [])
+  pub cause : Rose before.faults now.faults
+
+-- the list at this path can't be had: a call on it failed, or it is too long
+abbrev pub IsUnread : List ℕ → FilesView → FilesView → Type 0
+IsUnread path before now = FailsAt path before now ⊎ HoldsMore before path longest_list
 
 -- so the program may end before its loop
 abbrev pub IsRefusedBy : FilterStatus → Option (List ℕ) → Type 0

@@ -1,11 +1,8 @@
 // The file of the list.
-ghost use Rattle.std.specs.Prelude.{◌≡◌, ◌⊎◌, ℕ, List, Option, Some, Err, IfErr, MatchResult};
+ghost use Rattle.std.specs.Prelude.{◌≡◌, ℕ, List, Option, Some, Err, IfErr, MatchResult};
 ghost use Rattle.filter_core.specs.Slots.{blobs_of};
-ghost use Rattle.filter_top.specs.Lists.{longest_list};
-ghost use Rattle.filter_top.specs.Program.{IsListEnd, IsListOf, IsReadAs, IsRefusedBy};
+ghost use Rattle.filter_top.specs.Program.{IsListEnd, IsListOf, IsReadAs, IsRefusedBy, IsUnread};
 ghost use Rattle.filter_top.specs.declared.status.FilterStatus.TheVariants as status;
-ghost use Rattle.world_ports.specs.Causes.{Rose};
-ghost use Rattle.world_ports.specs.Files.{HoldsMore};
 
 use crate::list::{ListFault, read_list};
 use crate::status::FilterStatus;
@@ -26,9 +23,7 @@ pub fn read_blobs<F: Files>(
         (λ blobs. IsListOf (held path.now) (blobs_of blobs.items))
         (λ status. IsRefusedBy status (held path.now)) }
     ensures own { IfErr result (λ status. IsListEnd status) }
-    ensures file { result ≡ Err status.FileFault
-        → Rose (F.seen files.old).faults (F.seen files.new).faults
-        ⊎ HoldsMore (F.seen files.old) path.now longest_list }
+    ensures file { result ≡ Err status.FileFault → IsUnread path.now (F.seen files.old) (F.seen files.new) }
 {
     match files.read(alloc, path, LONGEST_LIST) {
         Ok(text) => blobs_in(alloc, &text),

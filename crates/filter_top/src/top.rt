@@ -1,10 +1,9 @@
 // The program over any files and any pairs.
-ghost use Rattle.std.specs.Prelude.{◌≡◌, ◌⊎◌, ◌≤◌, ℕ, List, Option, Some};
-ghost use Rattle.filter_top.specs.Lists.{longest_list};
-ghost use Rattle.filter_top.specs.Program.{Asked, IsAsked, IsUsage, Runs};
+ghost use Rattle.std.specs.Prelude.{◌≡◌, ◌≤◌, ℕ, List, Option, Some};
+ghost use Rattle.filter_top.specs.Passing.{PassesExactly, ServesFairly};
+ghost use Rattle.filter_top.specs.Program.{Asked, IsAsked, IsListOf, IsUnread, IsUsage, Runs};
 ghost use Rattle.filter_top.specs.declared.status.FilterStatus.TheVariants as status;
 ghost use Rattle.world_ports.specs.Causes.{Rose};
-ghost use Rattle.world_ports.specs.Files.{HoldsMore};
 
 use crate::listed::read_blobs;
 use crate::serving::serve;
@@ -22,8 +21,10 @@ use world_ports::Files;
 /// connection of its own: of its keys the client sees and uses only those of the list. With any other number of words
 /// it touches nothing. It ends only where a fault ends it, or where nothing will become ready any more.
 ///
-/// Where the files tell what they hold, `runs` says of each end which calls were made; each prefix of them may come as
-/// filter_model says (specs/LegalPairs.antt).
+/// Of each client the agent behind is written, in order, the requests that may pass and no other, and the client one
+/// reply to each request that was taken, at most the last one missing: `passes`. Each thing that is ready and can be
+/// served is served between two services of any other: `fair`. `runs` says of each end which calls were made. The three
+/// stand where the files tell what they hold; specs/Passing.antt and Program.antt say where to read on.
 pub fn filter_main<R: Wait, F: Files, P: Pairs>(
     rt: &R,
     alloc: Global,
@@ -35,12 +36,17 @@ pub fn filter_main<R: Wait, F: Files, P: Pairs>(
     ensures runs { (held : List ℕ → Option (List ℕ)) (asked : Asked) → IsAsked words.now asked
         → (F.seen files.old).held ≡ Some held
         → Runs held asked result (P.journal pairs.old) (P.journal pairs.new) }
+    ensures passes { (held : List ℕ → Option (List ℕ)) (asked : Asked) (listed : List (List ℕ)) → IsAsked words.now asked
+        → (F.seen files.old).held ≡ Some held → IsListOf (held asked.list) listed
+        → PassesExactly listed asked (P.journal pairs.old) (P.journal pairs.new) }
+    ensures fair { (held : List ℕ → Option (List ℕ)) (asked : Asked) (listed : List (List ℕ)) → IsAsked words.now asked
+        → (F.seen files.old).held ≡ Some held → IsListOf (held asked.list) listed
+        → ServesFairly listed asked (P.journal pairs.old) (P.journal pairs.new) }
     ensures usage { result ≡ status.Usage → IsUsage words.now }
     ensures refused { IsUsage words.now
         → (result ≡ status.Usage) × ((pairs.new ≡ pairs.old) × (files.new ≡ files.old)) }
     ensures file { (asked : Asked) → IsAsked words.now asked → result ≡ status.FileFault
-        → Rose (F.seen files.old).faults (F.seen files.new).faults
-        ⊎ HoldsMore (F.seen files.old) asked.list longest_list }
+        → IsUnread asked.list (F.seen files.old) (F.seen files.new) }
     ensures bind { result ≡ status.BindFault → Rose (P.faults pairs.old) (P.faults pairs.new) }
     ensures poll { result ≡ status.PollFault → Rose (P.faults pairs.old) (P.faults pairs.new) }
     ensures later { P.faults pairs.old ≤ P.faults pairs.new }

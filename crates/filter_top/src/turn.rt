@@ -1,13 +1,14 @@
 // The parts of a turn: each makes one call on the pairs, tells the filter what came of it, and closes what that closed.
-ghost use Rattle.std.specs.Prelude.{◌≡◌, ◌≤◌, OnOk, Some, length, true};
+ghost use Rattle.std.specs.Prelude.{◌≡◌, ◌≤◌, OnOk, Some, length, take, true};
 ghost use Rattle.filter_model.specs.Filters.{Fits, step};
 ghost use Rattle.filter_model.specs.declared.thing.Thing.TheVariants.{Accept, Read, Write};
 ghost use Rattle.filter_model.specs.Answered.{Free, after_event, at, due_of};
 ghost use Rattle.world_ports.specs.Worlds.{read_room};
 ghost use Rattle.filter_model.specs.Lines.{first_servable, is_idle};
 ghost use Rattle.filter_core.specs.Happenings.{happening};
-ghost use Rattle.filter_top.specs.Moves.{Goes, Turns, served_by};
+ghost use Rattle.filter_top.specs.Moves.{Goes, GoesOn, Turns, served_by};
 ghost use Rattle.filter_top.specs.declared.turn.Turn.TheVariants as turns;
+ghost use Rattle.wire_text.specs.Wire.{IsBytes};
 ghost use Rattle.world_ports.specs.Causes.{Rose};
 
 use crate::line::Line;
@@ -70,7 +71,7 @@ fn happen<P: Pairs>(
 fn accept<P: Pairs>(line: &mut Line, filter: &mut Filter, pairs: &mut P) -> Result<(), AllocError>
     requires next { first_servable filter.old line.old ≡ Some Accept }
     requires pairs { P.last_pair pairs.old ≡ filter.old.last_pair }
-    ensures legal { Goes result (at filter.old line.old Free)
+    ensures legal { GoesOn result (at filter.old line.old Free)
         (P.journal pairs.old) (P.journal pairs.new) (at filter.new line.new Free) }
     ensures pairs { OnOk result (P.last_pair pairs.new ≡ filter.new.last_pair) }
     ensures later { P.faults pairs.old ≤ P.faults pairs.new }
@@ -94,6 +95,15 @@ fn accept<P: Pairs>(line: &mut Line, filter: &mut Filter, pairs: &mut P) -> Resu
     }
 }
 
+// The first bytes of a room.
+fn front_of(room: &[u8], count: usize) -> &[u8]
+    requires { count ≤ length room.now }
+    ensures front { result.now ≡ take count room.now }
+    ensures bytes { IsBytes result.now }
+{
+    &room[..count]
+}
+
 // Reads from a side into this room, of which nothing that was read is left.
 fn read<P: Pairs>(
     line: &mut Line,
@@ -106,7 +116,7 @@ fn read<P: Pairs>(
     requires next { first_servable filter.old line.old ≡ Some (Read pair side) }
     requires pairs { P.last_pair pairs.old ≡ filter.old.last_pair }
     requires room { length room.old ≡ read_room }
-    ensures legal { Goes result (at filter.old line.old Free)
+    ensures legal { GoesOn result (at filter.old line.old Free)
         (P.journal pairs.old) (P.journal pairs.new) (at filter.new line.new Free) }
     ensures pairs { OnOk result (P.last_pair pairs.new ≡ filter.new.last_pair) }
     ensures room { length room.new ≡ length room.old }
@@ -114,10 +124,10 @@ fn read<P: Pairs>(
 {
     match pairs.read(pair, side, room) {
         Ok(Got::Bytes(n)) => {
+            let piece = front_of(room, n as usize);
             let Ok(()) = line.send_back(Thing::Read(pair, side)) else {
                 return Err(AllocError);
             };
-            let piece = &room[..n as usize];
             let heard = happen(
                 line,
                 filter,
@@ -153,7 +163,7 @@ fn write<P: Pairs>(
 ) -> Result<(), AllocError>
     requires next { first_servable filter.old line.old ≡ Some (Write pair side) }
     requires pairs { P.last_pair pairs.old ≡ filter.old.last_pair }
-    ensures legal { Goes result (at filter.old line.old Free)
+    ensures legal { GoesOn result (at filter.old line.old Free)
         (P.journal pairs.old) (P.journal pairs.new) (at filter.new line.new Free) }
     ensures pairs { OnOk result (P.last_pair pairs.new ≡ filter.new.last_pair) }
     ensures later { P.faults pairs.old ≤ P.faults pairs.new }

@@ -1,4 +1,4 @@
-use Rattle.std.proofs.Common.{refl, ◌∙◌, Ok, Some, ◌+◌, List, ap, sym, drop, get_or, arith}
+use Rattle.std.proofs.Common.{◌∙◌, Ok, Some, ◌+◌, List, ap, sym, drop, get_or, arith}
 use Rattle.std.specs.Prelude.{is_err}
 use Rattle.pair_ports.specs.declared.entry.PairEntry.TheVariants as entry
 use Rattle.filter_model.specs.declared.thing.Thing.{Thing}

@@ -1,4 +1,4 @@
-use Rattle.std.proofs.Common.{◌∙◌, List, ap, subst, sym}
+use Rattle.std.proofs.Common.{◌∙◌, ap, subst, sym}
 use Rattle.filter_model.specs.Filters.{State}
 use Rattle.filter_model.specs.Answered.{Free, after_event, at, due_of}
 use Rattle.filter_core.specs.Happenings.{happening}

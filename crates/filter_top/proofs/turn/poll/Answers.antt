@@ -9,7 +9,7 @@ use Rattle.filter_model.specs.declared.thing.Thing.{Thing}
 use Rattle.filter_model.specs.Lines.{queued_all}
 use Rattle.filter_model.specs.Answered.{Free, after_poll, at}
 use Rattle.filter_top.proofs.CallLemmas.{poll_any}
-use Rattle.filter_top.proofs.MoveLemmas.{one_call, stops_short, stops_there, told_at, up_to}
+use Rattle.filter_top.proofs.MoveLemmas.{first_call, one_call, stops_short, stops_there, told_at, up_to}
 use Rattle.filter_top.proofs.turn.poll.Goals as goal
 
 pub returns-in-Ok-clause-legal : goal.returns-in-Ok-clause-legal
@@ -18,7 +18,7 @@ returns-in-Ok-clause-legal g c =
     let line = c.args.line.now in
     let answer : Result Polled WorldFault = Ok polled.Some in
     let added = c.in-Ok.ensures ∙ ap (λ (items : List PairReady). queued_all state items line) c.deref.ensures.value in
-    one_call (at state line Free) (at state c.add_all.new.self Free) (g.P.Pairs.journal c.args.pairs.now) (g.P.Pairs.journal c.poll.new.self)
+    first_call (at state line Free) (at state c.add_all.new.self Free) (g.P.Pairs.journal c.args.pairs.now) (g.P.Pairs.journal c.poll.new.self)
     (entry.Poll c.poll.new.out.items answer) (poll_any state line c.poll.new.out.items answer c.requires.idle ∙ ap (λ (l : List Thing). Some (at state l Free)) (sym added))
     (told_at (λ r. entry.Poll c.poll.new.out.items r) (g.P.Pairs.journal c.args.pairs.now) (g.P.Pairs.journal c.poll.new.self)
     (c.in-Ok-Some.is ∙ ap Ok c.in-Ok-Some.field-0-is) c.poll.ensures.told)

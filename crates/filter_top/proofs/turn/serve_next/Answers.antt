@@ -1,8 +1,7 @@
-use Rattle.std.proofs.Common.{◌≡◌, ◌∙◌, ap, subst, sym}
+use Rattle.std.proofs.Common.{subst, sym}
 use Rattle.filter_model.specs.Answered.{Free, at}
 use Rattle.filter_top.specs.Moves.{Turns}
 use Rattle.filter_top.specs.declared.turn.Turn.{Turn}
-use Rattle.filter_top.proofs.CallLemmas.{nothing_is}
 use Rattle.filter_top.proofs.MoveLemmas.{never_refused, served_ok, served_turns}
 use Rattle.filter_top.proofs.turn.serve_next.Goals as goal
 

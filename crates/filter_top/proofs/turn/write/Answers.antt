@@ -1,4 +1,4 @@
-use Rattle.std.proofs.Common.{refl, Ok, Err, Result, List, ap, subst, sym, ◌∙◌, ◌≡◌, ◌≤◌, true, Some, length, arith}
+use Rattle.std.proofs.Common.{refl, Ok, Err, Result, List, ap, subst, sym, ◌∙◌, true, Some, length}
 use Rattle.world_ports.specs.Worlds.{TookWithin}
 use Rattle.world_ports.specs.declared.answers.Wrote.{Wrote}
 use Rattle.world_ports.specs.declared.answers.Wrote.TheVariants as wrote
@@ -6,11 +6,10 @@ use Rattle.world_ports.specs.declared.answers.WorldFault.{WorldFault}
 use Rattle.world_ports.specs.declared.answers.WorldFault.TheVariants.{Failed, Memory}
 use Rattle.pair_ports.specs.declared.entry.PairEntry.TheVariants as entry
 use Rattle.filter_model.specs.declared.thing.Thing.{Thing}
-use Rattle.filter_model.specs.declared.thing.Thing.TheVariants.{Write}
-use Rattle.filter_model.specs.Filters.{Ended, Took, owed_of}
+use Rattle.filter_model.specs.Filters.{Ended, Took}
 use Rattle.filter_model.specs.Answered.{Free, after_event, after_write, at}
-use Rattle.filter_top.proofs.CallLemmas.{last_ended, last_took, write_any, write_open, write_some}
-use Rattle.filter_top.proofs.MoveLemmas.{call_then, one_call, stops_short, stops_there, told_at}
+use Rattle.filter_top.proofs.CallLemmas.{taken_is, write_any, write_open, write_some}
+use Rattle.filter_top.proofs.MoveLemmas.{call_then, first_call, one_call, stops_short, stops_there, told_at}
 use Rattle.filter_top.proofs.turn.write.Goals as goal
 
 pub write-requires : goal.write-requires
@@ -30,7 +29,8 @@ returns-in_default-clause-legal g c =
     let line = c.args.line.now in
     let answer : Result Wrote WorldFault = Ok (wrote.Took c.in-Ok-Took.n) in
     stops_there (one_call (at state line Free) (after_write c.args.pair c.args.side state line answer) (g.P.Pairs.journal c.args.pairs.now) (g.P.Pairs.journal c.write.new.self)
-    (entry.Write c.args.pair c.args.side c.owed.result.now answer) (write_any state line c.args.pair c.args.side c.owed.result.now answer c.requires.next c.owed.ensures)
+    (entry.Write c.args.pair c.args.side c.owed.result.now answer) (write_any state line c.args.pair c.args.side c.owed.result.now answer c.requires.next c.owed.ensures (taken_is c.owed.result.now c.in-Ok-Took.n
+    (subst (λ r. TookWithin r (length c.owed.result.now)) (c.in-Ok-Took.is ∙ ap Ok c.in-Ok-Took.field-0-is) c.write.ensures.within)))
     (told_at (λ r. entry.Write c.args.pair c.args.side c.owed.result.now r) (g.P.Pairs.journal c.args.pairs.now) (g.P.Pairs.journal c.write.new.self)
     (c.in-Ok-Took.is ∙ ap Ok c.in-Ok-Took.field-0-is) c.write.ensures.told))
 
@@ -41,7 +41,8 @@ returns-in-Ok-clause-legal g c =
     let answer : Result Wrote WorldFault = Ok (wrote.Took c.in-Ok-Took.n) in
     call_then c.happen.result (at state line Free) (after_event (Took c.args.pair c.args.side c.in-Ok-Took.n) state c.send_back.new.self) (at c.happen.new.filter c.happen.new.line Free)
     (g.P.Pairs.journal c.args.pairs.now) (g.P.Pairs.journal c.write.new.self) (g.P.Pairs.journal c.happen.new.pairs) (entry.Write c.args.pair c.args.side c.owed.result.now answer)
-    (write_any state line c.args.pair c.args.side c.owed.result.now answer c.requires.next c.owed.ensures ∙ ap (λ (l : List Thing). Some (after_event (Took c.args.pair c.args.side c.in-Ok-Took.n) state l)) (sym c.in-Ok.ensures))
+    (write_any state line c.args.pair c.args.side c.owed.result.now answer c.requires.next c.owed.ensures (taken_is c.owed.result.now c.in-Ok-Took.n
+    (subst (λ r. TookWithin r (length c.owed.result.now)) (c.in-Ok-Took.is ∙ ap Ok c.in-Ok-Took.field-0-is) c.write.ensures.within)) ∙ ap (λ (l : List Thing). Some (after_event (Took c.args.pair c.args.side c.in-Ok-Took.n) state l)) (sym c.in-Ok.ensures))
     (told_at (λ r. entry.Write c.args.pair c.args.side c.owed.result.now r) (g.P.Pairs.journal c.args.pairs.now) (g.P.Pairs.journal c.write.new.self)
     (c.in-Ok-Took.is ∙ ap Ok c.in-Ok-Took.field-0-is) c.write.ensures.told)
     c.happen.ensures.legal
@@ -51,8 +52,8 @@ returns-in-Ok-NotNow-clause-legal g c =
     let state = c.args.filter.now in
     let line = c.args.line.now in
     let answer : Result Wrote WorldFault = Ok wrote.NotNow in
-    one_call (at state line Free) (at state c.remove.new.self Free) (g.P.Pairs.journal c.args.pairs.now) (g.P.Pairs.journal c.write.new.self)
-    (entry.Write c.args.pair c.args.side c.owed.result.now answer) (write_any state line c.args.pair c.args.side c.owed.result.now answer c.requires.next c.owed.ensures ∙ ap (λ (l : List Thing). Some (at state l Free)) (sym c.remove.ensures))
+    first_call (at state line Free) (at state c.remove.new.self Free) (g.P.Pairs.journal c.args.pairs.now) (g.P.Pairs.journal c.write.new.self)
+    (entry.Write c.args.pair c.args.side c.owed.result.now answer) (write_any state line c.args.pair c.args.side c.owed.result.now answer c.requires.next c.owed.ensures refl ∙ ap (λ (l : List Thing). Some (at state l Free)) (sym c.remove.ensures))
     (told_at (λ r. entry.Write c.args.pair c.args.side c.owed.result.now r) (g.P.Pairs.journal c.args.pairs.now) (g.P.Pairs.journal c.write.new.self)
     (c.in-Ok-NotNow.is ∙ ap Ok c.in-Ok-NotNow.field-0-is) c.write.ensures.told)
 
@@ -63,7 +64,7 @@ returns-in-Err-Failed-clause-legal g c =
     let answer : Result Wrote WorldFault = Err Failed in
     call_then c.happen-in-Err-Failed.result (at state line Free) (after_event (Ended c.args.pair) state c.remove-in-Err-Failed.new.self) (at c.happen-in-Err-Failed.new.filter c.happen-in-Err-Failed.new.line Free)
     (g.P.Pairs.journal c.args.pairs.now) (g.P.Pairs.journal c.write.new.self) (g.P.Pairs.journal c.happen-in-Err-Failed.new.pairs) (entry.Write c.args.pair c.args.side c.owed.result.now answer)
-    (write_any state line c.args.pair c.args.side c.owed.result.now answer c.requires.next c.owed.ensures ∙ ap (λ (l : List Thing). Some (after_event (Ended c.args.pair) state l)) (sym c.remove-in-Err-Failed.ensures))
+    (write_any state line c.args.pair c.args.side c.owed.result.now answer c.requires.next c.owed.ensures refl ∙ ap (λ (l : List Thing). Some (after_event (Ended c.args.pair) state l)) (sym c.remove-in-Err-Failed.ensures))
     (told_at (λ r. entry.Write c.args.pair c.args.side c.owed.result.now r) (g.P.Pairs.journal c.args.pairs.now) (g.P.Pairs.journal c.write.new.self)
     (c.in-Err-Failed.is ∙ ap Err c.in-Err-Failed.field-0-is) c.write.ensures.told)
     c.happen-in-Err-Failed.ensures.legal
@@ -74,6 +75,6 @@ returns-in-Err-Memory-clause-legal g c =
     let line = c.args.line.now in
     let answer : Result Wrote WorldFault = Err Memory in
     stops_short (at state line Free) (after_write c.args.pair c.args.side state line answer) (g.P.Pairs.journal c.args.pairs.now) (g.P.Pairs.journal c.write.new.self) true
-    (entry.Write c.args.pair c.args.side c.owed.result.now answer) (write_any state line c.args.pair c.args.side c.owed.result.now answer c.requires.next c.owed.ensures)
+    (entry.Write c.args.pair c.args.side c.owed.result.now answer) (write_any state line c.args.pair c.args.side c.owed.result.now answer c.requires.next c.owed.ensures refl)
     (told_at (λ r. entry.Write c.args.pair c.args.side c.owed.result.now r) (g.P.Pairs.journal c.args.pairs.now) (g.P.Pairs.journal c.write.new.self)
     (c.in-Err-Memory.is ∙ ap Err c.in-Err-Memory.field-0-is) c.write.ensures.told)
