@@ -1,5 +1,5 @@
 # shellcheck shell=sh
-# shellcheck disable=SC2154 # who sources it sets these variables
+# shellcheck disable=SC2154,SC2034,SC2317 # who sources it sets and reads these variables, and calls by names
 # What mortarleek, mortarleek-agent with its guard, mortarleek-add, mortarleek-filter and
 # mortarleek-status share, which source it. `me` is the name that errors begin with, and `here` the
 # folder beside which programs are looked for.
@@ -197,3 +197,40 @@ is_ours() {
 
 # The agent is one of mortarleek-agent's that has no program that asks.
 cannot_ask() { is_ours "${SSH_AUTH_SOCK-}" && [ -e "$folder/asks_nobody" ]; }
+
+# COMMAND: runs it while this process alone has the lock of $path, as agent_prog and filter_proxy take
+# it: a plain file that stays. It is descriptor 9, which what is started meanwhile isn't handed. Sets
+# `why` where the lock can't be had.
+under_lock() {
+    why="$path: in use"
+    [ -e "$path.lock" ] || [ -h "$path.lock" ] || (set -C && : > "$path.lock") 2> /dev/null
+    if [ -h "$path.lock" ] || { [ -e "$path.lock" ] && [ ! -f "$path.lock" ]; }; then
+        why="$path.lock: is there, and is no plain file, as the lock of $path has to be: remove it"
+        return 1
+    elif [ ! -r "$path.lock" ]; then
+        why="$path.lock: can't be made or read, and $path needs it as its lock: whose folder is it?"
+        return 1
+    fi
+    # shellcheck disable=SC2094 # nothing is read of it
+    locked "$@" 9< "$path.lock"
+}
+
+locked() {
+    if ! timeout 10 flock 9; then
+        why="$path.lock: another program has held this lock for ten seconds"
+        return 1
+    fi
+    "$@" 9<&-
+}
+
+# Gives $socket the name that -a asked for. A link is made or refused in one step.
+claim() {
+    ln -- "$socket" "$path" 2> /dev/null && return
+    is_stale "$path" && rm -f -- "$path"
+    ln -- "$socket" "$path" 2> /dev/null
+}
+
+# Takes that name away, where it is still that socket's, whose number was $claimed_inode.
+unclaim() {
+    [ "$(inode "$path")" != "$claimed_inode" ] || rm -f -- "$path"
+}

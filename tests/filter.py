@@ -404,12 +404,12 @@ def the_guard_removes_nothing_that_the_front_end_did_not_make(folder):
         for file in ("list", "said"):
             for mode in (0o755, 0o700):
                 place.chmod(mode)
-                words = [front.script, "--guard", place, folder / "nobody", "1"]
+                words = [front.script, "--guard", place, folder / "nobody", "1", ""]
                 said = run(words, None, env=dict(front.environment, SSH_AUTH_SOCK=""), timeout=30)
                 assert (place / "kept").read_text() == "kept", said
                 assert said.startswith("usage") or name != "mine", said
             (place / file).write_text("")
-    for words in (["--guard"], ["--guard", folder], ["--guard", folder / "none", "x", "1"]):
+    for words in (["--guard"], ["--guard", folder], ["--guard", folder / "none", "x", "1", ""]):
         assert run([front.script, *words], 1, env=front.environment).startswith("usage: "), words
 
 
@@ -434,6 +434,99 @@ def the_front_end_hands_on_signals(folder):
         interrupts = ("sh", "-c", "trap 'ssh-add -l; exit 3' INT; kill -INT 0")
         said = front.run(agent, "-k", f"{key}.pub", *interrupts, status=3, start_new_session=True)
         assert "no identities" in said
+        until(front.is_clean, what="an empty folder")
+
+
+def home(folder):
+    """A folder of the user's for sockets that stay."""
+    place = folder / "home"
+    place.mkdir(mode=0o700)
+    return place
+
+
+@check
+def a_socket_that_stays_until_it_is_ended(folder):
+    keys = [keygen(folder / name) for name in ("one", "two", "three")]
+    front, place = Front(folder), home(folder)
+    path = place / "some.sock"
+    with openssh_agent(folder, stderr=subprocess.DEVNULL) as agent:
+        agent.run("ssh-add", "-q", *keys)
+        shown = lambda: run(["ssh-add", "-L"], env=dict(front.environment, SSH_AUTH_SOCK=str(path)))
+        assert front.run(agent, "-a", path, "-k", keys[0]) == ""
+        assert shown() == public(keys[0])
+        (own,) = place.glob(".mortarleek-filter-*")
+        assert [oct(held.stat().st_mode & 0o777) for held in (own, path)] == ["0o700", "0o600"]
+        # It holds its place, and nobody but its own filter is ended.
+        assert "in use" in front.run(agent, "-a", path, "-k", keys[1], status=1)
+        assert "no filter" in front.run(agent, "--end", "-a", place / "other.sock", status=1)
+        assert shown() == public(keys[0])
+        assert front.run(agent, "--end", "-a", path) == ""
+        assert [left.name for left in place.iterdir()] == ["some.sock.lock"]
+        assert "no filter" in front.run(agent, "--end", "-a", path, status=1)
+        # What a guard that was killed left is taken away by the next start.
+        for key in keys[1:]:
+            front.run(agent, "-a", path, "-k", key)
+            (own,) = place.glob(".mortarleek-filter-*")
+            guard = int((own / "running").read_text().split()[1])
+            if key is keys[1]:
+                os.kill(guard, signal.SIGKILL)
+                until(lambda: not listening(path), what="the filter's end")
+        assert shown() == public(keys[2])
+        # A relative path is the same one.
+        front.run(agent, "--end", "-a", "some.sock", cwd=place)
+        assert not path.exists()
+        for words, why in (
+            (["-a", path, "true"], "usage"),
+            (["--end"], "usage"),
+            (["--end", "-a", path, "-k", keys[0]], "usage"),
+            (["-a", folder / "none/s"], "no such folder"),
+            (["-a", f"{place}/"], "no name for a socket"),
+            (["-a", f"{keys[0]}.pub"], "is no socket"),
+            (["-a", place / ("s" * 108)], "too long"),
+        ):
+            assert why in front.run(agent, *words, status=1), words
+        place.chmod(0o777)
+        assert "others may change" in front.run(agent, "-a", path, "-k", keys[0], status=1)
+        assert [left.name for left in place.iterdir()] == ["some.sock.lock"]
+
+
+@check
+def a_forwarded_socket_shows_its_keys_on_two_hosts(folder):
+    keys = [keygen(folder / name) for name in ("near", "far", "other")]
+    front, place = Front(folder), home(folder)
+    path = place / "far.sock"
+    with Hosts(folder, "one", "two") as hosts, openssh_agent(folder, stderr=subprocess.DEVNULL) as agent:
+        agent.run("ssh-add", "-q", *keys)
+        hosts.allow(*keys)
+        front.run(agent, "-a", path, "-k", f"{keys[1]}.pub")
+        to_two = f"ssh -F {hosts.config} -o ForwardAgent=yes two 'ssh-add -L'"
+        for command in ("ssh-add -L", to_two):
+            seen = hosts.ssh(agent, "-o", f"ForwardAgent={path}", "one", command)
+            assert seen[0] == 0 and seen[1] == public(keys[1]), seen
+        front.run(agent, "--end", "-a", path)
+
+
+@check
+def keys_are_named_by_pipes_fingerprints_and_comments(folder):
+    keys = [keygen(folder / name) for name in ("one", "two", "three")]
+    front = Front(folder)
+    with openssh_agent(folder, stderr=subprocess.DEVNULL) as agent:
+        agent.run("ssh-add", "-q", *keys)
+        one, two, three = public(*keys).splitlines(True)
+        told = [run(["ssh-keygen", "-l", "-E", hash, "-f", f"{keys[1]}.pub"]).split()[1] for hash in ("sha256", "md5")]
+        for word in (*told, two.split()[2]):
+            assert front.run(agent, "-k", word, "ssh-add", "-L") == two, word
+        piped = [front.script, "-k", "/dev/stdin", "ssh-add", "-L"]
+        assert run(piped, env=dict(front.environment, SSH_AUTH_SOCK=agent.path), input=one + three) == one + three
+        agent.run("ssh-keygen", "-q", "-t", "ed25519", "-N", "", "-C", two.split()[2], "-f", folder / "twin")
+        agent.run("ssh-add", "-q", folder / "twin")
+        for word, why in (
+            (two.split()[2], "more than one key"),
+            ("nobody", "no key with this comment"),
+            ("SHA256:nothing", "no key with this fingerprint"),
+            ("", "wants a file"),
+        ):
+            assert why in front.run(agent, "-k", word, "true", status=1), word
         until(front.is_clean, what="an empty folder")
 
 

@@ -131,6 +131,25 @@ def each_host_is_shown_its_own_of_twenty_keys(folder):
 
 
 @check
+def a_host_gets_the_key_of_a_socket_that_stays(folder):
+    start, lines = recipe("One key for a host")
+    with Home(folder) as home, Hosts(folder, "build") as hosts:
+        keys = [keygen(home.home / f".ssh/{name}") for name in ("build", "other")]
+        hosts.allow(*keys)
+        shutil.copy(rig.built("filter_proxy"), home.installed.prefix / "libexec/mortarleek")
+        home.with_ours("mortarleek add -q ~/.ssh/build ~/.ssh/other")
+        home.with_ours(start)
+        file = home.config(hosts, lines)
+        for _ in range(2):
+            said = home.with_ours(f"ssh -F {file} build ssh-add -l")
+            assert re.findall(r"(?m)^256 \S+ (\S+)", said) == ["build"], said
+        ends = '`mortarleek filter --end -a "$XDG_RUNTIME_DIR/build.sock"`'
+        assert ends in PAGE
+        home.with_ours(ends.strip("`"))
+        assert not (home.runtime / "build.sock").exists()
+
+
+@check
 def a_deployment_s_key_stands_in_no_file(folder):
     (line,) = recipe("Deployments")
     with Home(folder) as home, Hosts(folder, "forge") as hosts:

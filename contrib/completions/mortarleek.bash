@@ -29,7 +29,8 @@ _mortarleek_add() {
 _mortarleek_filter() {
     case $3:$2 in
     -k:*) mapfile -t COMPREPLY < <(compgen -f -X '!*.pub' -- "$2"; compgen -d -- "$2") ;;
-    *:-*) _mortarleek_offer -W '-k' -- "$2" ;;
+    -a:*) _mortarleek_offer -f -- "$2" ;;
+    *:-*) _mortarleek_offer -W '-a -k --end' -- "$2" ;;
     *) mapfile -t COMPREPLY < <(compgen -c -- "$2"; compgen -f -- "$2") ;;
     esac
 }

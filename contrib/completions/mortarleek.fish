@@ -53,7 +53,9 @@ function __mortarleek_add
 end
 
 function __mortarleek_filter
-    complete $argv -s k -r -F -d 'A public key that the command may use'
+    complete $argv -s a -r -F -d 'Serve at a socket that stays'
+    complete $argv -l end -d 'End the filter of -a'
+    complete $argv -s k -r -F -d 'Public keys that may be used: a file, a fingerprint, a comment'
 end
 
 __mortarleek_agent -c mortarleek-agent
