@@ -70,10 +70,32 @@ failed_by false false ends.BindFault is = ap tells_write is
 failed_by false false ends.PollFault is = ap tells_write is
 failed_by false false ends.Memory is = ap tells_write is
 
+tells_done : Status → Bool
+tells_done status.Done = true
+tells_done (status.ScheduleRefused line fault) = false
+tells_done status.Usage = false
+tells_done status.BindFault = false
+tells_done status.PollFault = false
+tells_done status.Memory = false
+tells_done status.ReadFault = false
+tells_done status.WriteFault = false
+
+-- the status tells an end without a fault only where no write failed
+pub whole_by : (short failed : Bool) (end : ServeEnd) → status_of_recorded short failed end ≡ status.Done → failed ≡ false
+unfolding tells_done
+whole_by short false end is = refl
+whole_by true true end is = sym (ap tells_done is)
+whole_by false true ends.Over is = sym (ap tells_done is)
+whole_by false true ends.Idle is = sym (ap tells_done is)
+whole_by false true ends.BindFault is = sym (ap tells_done is)
+whole_by false true ends.PollFault is = sym (ap tells_done is)
+whole_by false true ends.Memory is = sym (ap tells_done is)
+
 -- all that a recorder says to its caller at the end
 pub record Told (result : Status) (journal later : Option (List Entry)) (old new : StreamView) : Type 0 where
   pub records : RecordsExactly result journal later old new
   pub write : result ≡ status.WriteFault → Rose old.write_faults new.write_faults
+  pub done : result ≡ status.Done → new.write_faults ≡ old.write_faults
   pub only : OnlyWrites old new
 
 pub told_by : (result : Status) (seen_short seen_failed short failed : Bool) (end : ServeEnd) (journal begun later : Option (List Entry)) (old new : StreamView) (first : Taped) (after : Recording)
@@ -87,5 +109,6 @@ told_by result seen_short seen_failed short failed end journal begun later old n
     record {
       records = subst (λ (r : Status). RecordsExactly r journal later old new) (sym ends) (records_by short failed end after journal later old new led);
       write = λ wrote. subst (λ (broken : Bool). BreaksFor false broken old.write_faults new.write_faults) (failed_by short failed end (sym ends ∙ wrote)) led.writes.cause;
+      done = λ finished. subst (λ (broken : Bool). BreaksFor false broken old.write_faults new.write_faults) (whole_by short failed end (sym ends ∙ finished)) led.writes.cause;
       only = led.writes.only;
     }

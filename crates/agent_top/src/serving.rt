@@ -67,6 +67,8 @@ pub fn serve_by<R: Wait, W: World, O: Sink>(
     ensures poll { result ≡ Status.PollFault → Rose (W.faults world.old) (W.faults world.new) }
     ensures write { result ≡ Status.WriteFault
         → Rose (O.seen output.old).write_faults (O.seen output.new).write_faults }
+    ensures done { result ≡ Status.Done
+        → (O.seen output.new).write_faults ≡ (O.seen output.old).write_faults }
     ensures led { W.leads world.old world.new }
     ensures only { OnlyWrites (O.seen output.old) (O.seen output.new) }
 {

@@ -71,6 +71,8 @@ pub fn agent_main<R: Wait, W: World, I: Source, O: Sink>(
         → RecordsExactly result (W.journal world.old) (W.journal world.new) (O.seen output.old) (O.seen output.new) }
     ensures write { (setting : Setting) → IsServe words.now setting → result ≡ Status.WriteFault
         → Rose (O.seen output.old).write_faults (O.seen output.new).write_faults }
+    ensures done { (setting : Setting) → IsServe words.now setting → result ≡ Status.Done
+        → (O.seen output.new).write_faults ≡ (O.seen output.old).write_faults }
     ensures serve_alone { replay_life (texts_of words.now) ≡ None
         → (input.new ≡ input.old) × (drill_words (texts_of words.now) ≡ None
         → is_recorded (texts_of words.now) ≡ false → output.new ≡ output.old) }

@@ -77,7 +77,7 @@ silent false one sink false false kept goes none = record {
   only = only-none sink;
   broken = tt;
   short = tt;
-  cause = tt;
+  cause = refl;
   lines = record { lines = of_one one kept [] (sym none); left = refl };
 }
 

@@ -45,11 +45,11 @@ abbrev pub Stays : Bool → Bool → Type 0
 Stays true now = now ≡ true
 Stays false now = Unit {0}
 
--- broken later only where it was before, or the sink's count rose
+-- broken later where it was before, and else exactly where the sink counted a failed write
 abbrev pub BreaksFor : Bool → Bool → ℕ → ℕ → Type 0
 BreaksFor true now before after = Unit {0}
 BreaksFor false true before after = Rose before after
-BreaksFor false false before after = Unit {0}
+BreaksFor false false before after = after ≡ before
 
 -- since then it wrote the lines of these entries: all, or where it is stopped since a front of them, and nothing where it
 -- was stopped before

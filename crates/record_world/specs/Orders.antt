@@ -97,13 +97,13 @@ rose-earlier a b c ab (inr top) = inr top
 cause-twice : (x y z : Bool) (a b c : ℕ) → a ≤ b → b ≤ c → Stays y z → BreaksFor x y a b → BreaksFor y z b c → BreaksFor x z a c
 cause-twice true y z a b c ab bc stays first later = tt
 cause-twice false true true a b c ab bc stays first later = rose-later a b c ab bc first
-cause-twice false true false a b c ab bc stays first later = tt
+cause-twice false true false a b c ab bc stays first later = absurd (no stays)
 cause-twice false false true a b c ab bc stays first later = rose-earlier a b c ab later
-cause-twice false false false a b c ab bc stays first later = tt
+cause-twice false false false a b c ab bc stays first later = later ∙ first
 
 pub cause-same : (b : Bool) (n : ℕ) → BreaksFor b b n n
 cause-same true n = tt
-cause-same false n = tt
+cause-same false n = refl
 
 -- ---- the sink
 
