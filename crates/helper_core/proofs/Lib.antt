@@ -1,0 +1,5 @@
+pub mod ReplyLemmas
+pub mod StepLemmas
+pub mod ServeLemmas
+pub mod EndLemmas
+pub mod ProgramLemmas

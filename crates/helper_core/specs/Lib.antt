@@ -1,0 +1,5 @@
+pub mod Claims
+pub mod Codes
+pub mod Routes
+pub mod Serving
+pub mod Transcript
