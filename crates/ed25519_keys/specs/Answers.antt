@@ -8,12 +8,11 @@ use Rattle.child_msg.specs.declared.fault.ChildFault.{ChildFault}
 use Rattle.ed25519.specs.Keys.{public_key}
 use Rattle.ed25519.specs.Signatures.{signature}
 use Rattle.ed25519.specs.Verification.{accepts}
-use Rattle.ed25519_keys.specs.declared.fault.KeyFault.{KeyFault}
-use Rattle.ed25519_keys.specs.declared.fault.KeyFault.TheVariants.{Unfit}
+use Rattle.ed25519_wire.specs.declared.fault.KeyFault.{KeyFault}
 use Rattle.ed25519_keys.specs.declared.verifying.Verdict.{Verdict}
 use Rattle.ed25519_keys.specs.declared.verifying.Verdict.TheVariants as verdict
-use Rattle.ed25519_keys.specs.Names.{is_certified_name, is_ed25519, is_plain_name, plain_name}
-use Rattle.ed25519_keys.specs.Reading.{KeyPair, Seal, field_then, certified_key_at, pair_in, plain_key_at, seal_at, sealed, signature_in}
+use Rattle.ed25519_wire.specs.Names.{is_certified_name, is_ed25519, is_plain_name, plain_name}
+use Rattle.ed25519_wire.specs.Reading.{KeyPair, Seal, authority_key, certified_key_at, pair_in, plain_key_at, seal_at, sealed, signature_in}
 use Rattle.helper_core.specs.declared.asked.Asked.TheVariants as asked
 use Rattle.helper_core.specs.Routes.{Route, Answered, HandedOn, NoRequest}
 use Rattle.wire_core.specs.Fields.{string_at}
@@ -76,11 +75,6 @@ plain_verdict (Err _) message text = verdict.Wrong
 abbrev pub key_signs : Result (List ℕ) KeyFault → List ℕ → List ℕ → Bool
 key_signs (Ok public) message text = signs public message text
 key_signs (Err _) message text = false
-
--- the authority's plain key, behind the name
-unfoldable pub authority_key : List ℕ → Result (List ℕ) KeyFault
-authority_key blob = field_then (string_at blob) (λ name rest.
-    if is_plain_name name then plain_key_at rest else Err Unfit)
 
 -- a certificate's key signed, and the authority sealed the certificate; an authority of another type is for the helper
 -- behind

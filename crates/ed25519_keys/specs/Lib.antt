@@ -1,3 +1,1 @@
 pub mod Answers
-pub mod Names
-pub mod Reading

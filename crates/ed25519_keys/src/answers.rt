@@ -2,15 +2,14 @@
 ghost use Rattle.std.specs.Prelude.{◌≡◌, ◌++◌, IfOk, OnOk, option_map};
 ghost use Rattle.child_msg.specs.ChildFrames.{from_child_body};
 ghost use Rattle.ed25519_keys.specs.Answers.{plain_signing, route_of, signature_text, signature_with, signed_by, signing_route, verifying_route};
-ghost use Rattle.ed25519_keys.specs.Reading.{pair_in};
+ghost use Rattle.ed25519_wire.specs.Reading.{pair_in};
 ghost use Rattle.helper_core.specs.Routes.{IsRouted};
 ghost use Rattle.wire_text.specs.Wire.{string};
 
-use crate::names::is_ed25519;
-use crate::signing::read_pair;
-use crate::verifying::{Verdict, verdict};
+use crate::verifying::{Verdict, judge};
 use child_msg::{FromChild, ToChild, read_to_child, write_from_child};
 use ed25519::{Doublings, sign_erased};
+use ed25519_wire::{is_ed25519, read_pair};
 use helper_core::{Answerer, Asked, Routed};
 use secret_buf::ScrubBuf;
 use std::alloc::{AllocError, Global};
@@ -54,7 +53,7 @@ impl Answerer for Ed25519Keys {
                     signature,
                     session,
                 },
-            ) => put_verdict(ask, verdict(&self.doublings, host_key, session, signature), out),
+            ) => put_verdict(ask, judge(&self.doublings, host_key, session, signature), out),
             Ok(ToChild::Confirm { .. }) => Ok(Routed::NoRequest),
             Err(_) => Ok(Routed::NoRequest),
         }

@@ -1,15 +1,10 @@
-//! What a helper answers with Ed25519 keys, plain or certified: `Ed25519Keys` signs and verifies, and hands
-//! on what asks for keys of other types (RFC 8709; OpenSSH's PROTOCOL.certkeys). `ed25519_main` is the
-//! program over any helper behind and any connection. Stands on helper_core, ed25519 and wire_core.
+//! What a helper answers with Ed25519 keys, plain or certified: `Ed25519Keys` signs and verifies, and hands on
+//! what asks for keys of other types. `ed25519_main` is the program over any helper behind and any connection
+//! (docs/PROTOCOL.md, "Messages of child processes"). Stands on helper_core, ed25519 and ed25519_wire.
 #![tactic(auto)]
 
 mod answers;
-mod certified;
-mod cursor;
-mod fault;
-mod names;
 mod program;
-mod signing;
 mod verifying;
 
 pub use answers::Ed25519Keys;

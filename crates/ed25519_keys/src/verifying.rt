@@ -1,14 +1,10 @@
 // Signatures and certificates, and what verifies them.
-ghost use Rattle.std.specs.Prelude.{◌≡◌, ◌≤◌, ◌-◌, ◌==◌, ℕ, List, length, take, Ok, Err, IfOk, MatchResult};
-ghost use Rattle.ed25519_keys.specs.Answers.{authority_key, certificate_verdict, certified_verdict, key_signs, plain_verdict, signs, verdict_of, here};
-ghost use Rattle.ed25519_keys.specs.Reading.{certified_key_at, plain_key_at, names_at, options_at, seal_at, seal_end_at, seal_of, sealed, signature_in, times_at};
-ghost use Rattle.wire_core.specs.Readings.{IsAnswer};
+ghost use Rattle.std.specs.Prelude.{◌≡◌, ◌≤◌, length, take};
+ghost use Rattle.ed25519_keys.specs.Answers.{certificate_verdict, here, key_signs, plain_verdict, signs, verdict_of};
+ghost use Rattle.ed25519_wire.specs.Reading.{authority_key, certified_key_at, plain_key_at, seal_of, sealed};
 
-use crate::cursor::{end, take_sized};
-use crate::fault::KeyFault;
-use crate::names::{is_certified, is_ed25519, is_plain};
-use crate::signing::{read_certified_key, read_plain_key};
 use ed25519::{Doublings, verify};
+use ed25519_wire::{Closing, is_certified, is_ed25519, is_plain, read_authority, read_certified_key, read_closing, read_plain_key, read_signature};
 use wire_core::Cursor;
 
 /// Whether a host key made a signature.
@@ -22,17 +18,9 @@ pub enum Verdict {
     Elsewhere,
 }
 
-/// What closes a certificate: the authority's key, its signature, and how many bytes that takes with its length.
-#[derive(Clone, Copy)]
-pub struct Closing<'a> {
-    pub authority: &'a [u8],
-    pub signature: &'a [u8],
-    pub signature_field: usize,
-}
-
 /// Whether a host key signed the message, and of a certificate, whether its authority signed that.
 #[tactic(auto, unfolding(crate::specs::Answers::verdict_of))]
-pub fn verdict(doublings: &Doublings, host_key: &[u8], message: &[u8], signature: &[u8]) -> Verdict
+pub fn judge(doublings: &Doublings, host_key: &[u8], message: &[u8], signature: &[u8]) -> Verdict
     ensures { result ≡ verdict_of host_key.now message.now signature.now }
 {
     let mut cursor = Cursor::new(host_key);
@@ -111,18 +99,6 @@ fn front(bytes: &[u8], len: usize) -> &[u8]
     &bytes[..len]
 }
 
-#[tactic(auto, unfolding(crate::specs::Answers::authority_key))]
-fn read_authority(blob: &[u8]) -> Result<&[u8], KeyFault>
-    ensures answer { IsAnswer (λ key. key.now) result (authority_key blob.now) }
-    ensures sized { IfOk result (λ key. length key.now ≡ 32) }
-{
-    let mut cursor = Cursor::new(blob);
-    if !is_plain(cursor.take_string()?) {
-        return Err(KeyFault::Unfit);
-    }
-    read_plain_key(cursor.rest())
-}
-
 // Whether the key signed the message.
 fn signs(doublings: &Doublings, public: &[u8], message: &[u8], signature: &[u8]) -> bool
     requires { length public.now ≡ 32 }
@@ -136,76 +112,4 @@ fn signs(doublings: &Doublings, public: &[u8], message: &[u8], signature: &[u8])
     let mut both = [0; 64];
     both.copy_from_slice(bytes);
     verify(doublings, &key, message, &both)
-}
-
-#[tactic(auto, unfolding(crate::specs::Reading::signature_in))]
-fn read_signature(signature: &[u8]) -> Result<&[u8], KeyFault>
-    ensures answer { IsAnswer (λ bytes. bytes.now) result (signature_in signature.now) }
-    ensures sized { IfOk result (λ bytes. length bytes.now ≡ 64) }
-{
-    let mut cursor = Cursor::new(signature);
-    if !is_plain(cursor.take_string()?) {
-        return Err(KeyFault::Unfit);
-    }
-    let bytes = take_sized(&mut cursor, 64)?;
-    end(&cursor)?;
-    Ok(bytes)
-}
-
-// The end of a certificate, behind the key that is certified.
-#[tactic(auto, unfolding(crate::specs::Reading::seal_at))]
-fn read_closing(bytes: &[u8]) -> Result<Closing<'_>, KeyFault>
-    ensures { IsAnswer seal_of result (seal_at bytes.now) }
-{
-    let mut cursor = Cursor::new(bytes);
-    cursor.take_u64()?;
-    cursor.take_u32()?;
-    read_names(cursor.rest())
-}
-
-#[tactic(auto, unfolding(crate::specs::Reading::names_at))]
-fn read_names(bytes: &[u8]) -> Result<Closing<'_>, KeyFault>
-    ensures { IsAnswer seal_of result (names_at bytes.now) }
-{
-    let mut cursor = Cursor::new(bytes);
-    cursor.take_string()?;
-    cursor.take_string()?;
-    read_times(cursor.rest())
-}
-
-#[tactic(auto, unfolding(crate::specs::Reading::times_at))]
-fn read_times(bytes: &[u8]) -> Result<Closing<'_>, KeyFault>
-    ensures { IsAnswer seal_of result (times_at bytes.now) }
-{
-    let mut cursor = Cursor::new(bytes);
-    cursor.take_u64()?;
-    cursor.take_u64()?;
-    read_options(cursor.rest())
-}
-
-#[tactic(auto, unfolding(crate::specs::Reading::options_at))]
-fn read_options(bytes: &[u8]) -> Result<Closing<'_>, KeyFault>
-    ensures { IsAnswer seal_of result (options_at bytes.now) }
-{
-    let mut cursor = Cursor::new(bytes);
-    cursor.take_string()?;
-    cursor.take_string()?;
-    cursor.take_string()?;
-    read_end(cursor.rest())
-}
-
-#[tactic(auto, unfolding(crate::specs::Reading::seal_end_at))]
-fn read_end(bytes: &[u8]) -> Result<Closing<'_>, KeyFault>
-    ensures { IsAnswer seal_of result (seal_end_at bytes.now) }
-{
-    let mut cursor = Cursor::new(bytes);
-    let authority = cursor.take_string()?;
-    let signature_field = cursor.rest().len();
-    let signature = cursor.take_string()?;
-    end(&cursor)?;
-    Ok(Closing {
-        authority,
-        signature,
-        signature_field,
-    })
 }

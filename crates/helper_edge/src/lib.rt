@@ -1,13 +1,8 @@
-// A library with one function.
+//! The helper behind, as a program of the system that is started where it is first needed.
+//! Stands on helper_core and frame_core.
 #![tactic(auto)]
 
-ghost use Rattle.std.specs.Prelude.{◌≡◌};
-ghost use Rattle.helper_edge.specs.Echo.{echo_of};
+mod program;
+mod running;
 
-// The `ensures` clause is the contract: what `echo` returns is `echo_of` of its argument, a definition
-// in `specs/Echo.antt`, which a caller's clause can cite too.
-pub fn echo(x: usize) -> usize
-    ensures { result ≡ echo_of x }
-{
-    x
-}
+pub use program::ProgramBehind;

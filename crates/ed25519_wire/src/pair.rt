@@ -1,6 +1,6 @@
-// Private strings, and signing with them.
+// Keys: blobs and private strings.
 ghost use Rattle.std.specs.Prelude.{◌≡◌, ℕ, List, length, Ok, Err, IfOk, MatchResult};
-ghost use Rattle.ed25519_keys.specs.Reading.{certified_key_at, certified_pair, pair_at, pair_in, plain_key_at, plain_pair, plain_pair_of};
+ghost use Rattle.ed25519_wire.specs.Reading.{authority_key, certified_key_at, certified_pair, pair_at, pair_in, plain_key_at, plain_pair, plain_pair_of};
 ghost use Rattle.wire_core.specs.Readings.{IsAnswer};
 
 use crate::cursor::{end, take_sized};
@@ -107,4 +107,17 @@ fn read_seed<'a>(public: &[u8], bytes: &'a [u8]) -> Result<&'a [u8], KeyFault>
     }
     end(&cursor)?;
     Ok(seed)
+}
+
+/// The public key of an authority, whose blob is that of a plain key.
+#[tactic(auto, unfolding(crate::specs::Reading::authority_key))]
+pub fn read_authority(blob: &[u8]) -> Result<&[u8], KeyFault>
+    ensures answer { IsAnswer (λ key. key.now) result (authority_key blob.now) }
+    ensures sized { IfOk result (λ key. length key.now ≡ 32) }
+{
+    let mut cursor = Cursor::new(blob);
+    if !is_plain(cursor.take_string()?) {
+        return Err(KeyFault::Unfit);
+    }
+    read_plain_key(cursor.rest())
 }

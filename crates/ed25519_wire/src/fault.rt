@@ -1,5 +1,5 @@
 ghost use Rattle.std.specs.Prelude.{◌≡◌};
-ghost use Rattle.ed25519_keys.specs.declared.fault.KeyFault.TheVariants.{Unfit};
+ghost use Rattle.ed25519_wire.specs.declared.fault.KeyFault.TheVariants.{Unfit};
 
 use wire_core::Short;
 

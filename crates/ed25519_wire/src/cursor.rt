@@ -1,6 +1,6 @@
 // Fields of a known length, and the end.
 ghost use Rattle.std.specs.Prelude.{◌≡◌, ◌≢◌, [], ◌==◌, length, Ok, Err, IfOk, MatchResult};
-ghost use Rattle.ed25519_keys.specs.Reading.{sized_at};
+ghost use Rattle.ed25519_wire.specs.Reading.{sized_at};
 
 use crate::fault::KeyFault;
 use wire_core::Cursor;

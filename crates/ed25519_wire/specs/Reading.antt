@@ -2,11 +2,11 @@
 -- RFC 8709, sections 4 and 6; draft-miller-ssh-agent, "Adding keys to the agent"; OpenSSH's PROTOCOL.certkeys.
 use Rattle.std.specs.Prelude.{ℕ, ◌==◌, ◌-◌, if◌then◌else◌, List, [], length, take, drop, Option, Result, Ok, Err}
 use Rattle.std.specs.Str.{bytes_eq}
-use Rattle.ed25519_keys.specs.declared.fault.KeyFault.{KeyFault}
-use Rattle.ed25519_keys.specs.declared.fault.KeyFault.TheVariants.{Unfit}
-use Rattle.ed25519_keys.specs.declared.signing.Pair.{Pair}
-use Rattle.ed25519_keys.specs.declared.verifying.Closing.{Closing}
-use Rattle.ed25519_keys.specs.Names.{is_certified_name, is_plain_name}
+use Rattle.ed25519_wire.specs.declared.fault.KeyFault.{KeyFault}
+use Rattle.ed25519_wire.specs.declared.fault.KeyFault.TheVariants.{Unfit}
+use Rattle.ed25519_wire.specs.declared.pair.Pair.{Pair}
+use Rattle.ed25519_wire.specs.declared.closing.Closing.{Closing}
+use Rattle.ed25519_wire.specs.Names.{is_certified_name, is_plain_name}
 use Rattle.wire_core.specs.Fields.{uint32_at, uint64_at, string_at}
 use Rattle.wire_core.specs.Readings.{field_or, ended_or, ◌>>=◌}
 
@@ -31,6 +31,11 @@ plain_key_at bytes = sized_at 32 bytes >>= λ key. ended key.0 key.1
 -- the public key of a certificate behind its type's name and the nonce, and what follows the key
 unfoldable pub certified_key_at : List ℕ → Result (List ℕ × List ℕ) KeyFault
 certified_key_at bytes = field_then (string_at bytes) (λ nonce more. sized_at 32 more)
+
+-- the public key of an authority, whose blob is that of a plain key
+unfoldable pub authority_key : List ℕ → Result (List ℕ) KeyFault
+authority_key blob = field_then (string_at blob) (λ name rest.
+    if is_plain_name name then plain_key_at rest else Err Unfit)
 
 -- ---- private strings
 
