@@ -3,3 +3,4 @@ pub mod StepLemmas
 pub mod ServeLemmas
 pub mod EndLemmas
 pub mod ProgramLemmas
+pub mod LawLemmas

@@ -6,6 +6,7 @@
 mod answerer;
 mod asked;
 mod behind;
+mod laws;
 mod list_behind;
 mod program;
 mod reply;
@@ -15,6 +16,7 @@ mod stream;
 pub use answerer::{Answerer, Routed};
 pub use asked::Asked;
 pub use behind::{Exchange, HelperBehind};
+pub use laws::{answers_are_in_order, what_is_handed_on};
 pub use list_behind::ListBehind;
 pub use program::helper_main;
 pub use status::HelperStatus;
