@@ -1,5 +1,5 @@
 -- Lemmas on specs/Laws.antt.
-use Rattle.std.proofs.Common.{◌≡◌, ℕ, ◌++◌, Bool, true, false, List, [], ◌∷◌, length, map, take, filter, Option, refl, ap, sym, ◌∙◌, subst}
+use Rattle.std.proofs.Common.{◌≡◌, ℕ, ◌++◌, Bool, if◌then◌else◌, true, false, List, [], ◌∷◌, length, map, take, filter, Option, refl, ap, sym, ◌∙◌, subst}
 use Rattle.child_msg.specs.ChildFrames.{from_child_body}
 use Rattle.child_msg.specs.Messages.{FromChildMessage}
 use Rattle.helper_core.specs.declared.behind.Exchange.{Exchange}
@@ -46,16 +46,11 @@ sends_answers route end (body ∷ bodies) replies =
 
 -- the bodies for the helper behind, with one in front
 abbrev for_behind_then : Bool → List ℕ → List (List ℕ) → List (List ℕ)
-for_behind_then true body bodies = body ∷ bodies
-for_behind_then false body bodies = bodies
+for_behind_then asks body bodies = if asks then body ∷ bodies else bodies
 
 for_behind-cons : (route : List ℕ → Route) (body : List ℕ) (bodies : List (List ℕ))
     → for_behind route (body ∷ bodies) ≡ for_behind_then (is_handed_on (route body)) body (for_behind route bodies)
-for_behind-cons route body bodies = cases (is_handed_on (route body)) refl
-  where
-    cases : (b : Bool) → is_handed_on (route body) ≡ b → for_behind route (body ∷ bodies) ≡ for_behind_then (is_handed_on (route body)) body (for_behind route bodies)
-    cases true is = grind is
-    cases false is = grind is
+for_behind-cons route body bodies = refl
 
 -- what a body hands on, by its route
 first_then : (route : List ℕ → Route) (given : Route) (body : List ℕ) (bodies : List (List ℕ)) (replies : Replies) (later : Replies → Transcript)
