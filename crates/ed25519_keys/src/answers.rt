@@ -36,27 +36,38 @@ impl Answerer for Ed25519Keys {
     ghost route = { λ keys. route_of };
 
     fn answer(&self, body: &[u8], out: &mut ScrubBuf) -> Result<Routed, AllocError> {
-        match read_to_child(body) {
-            Ok(
-                ToChild::Sign {
-                    ask,
-                    private,
-                    blob,
-                    message,
-                    ..
-                },
-            ) => sign(&self.doublings, ask, private, blob, message, out),
-            Ok(
-                ToChild::Verify {
-                    ask,
-                    host_key,
-                    signature,
-                    session,
-                },
-            ) => put_verdict(ask, judge(&self.doublings, host_key, session, signature), out),
-            Ok(ToChild::Confirm { .. }) => Ok(Routed::NoRequest),
-            Err(_) => Ok(Routed::NoRequest),
-        }
+        put_answer(&self.doublings, body, out)
+    }
+}
+
+// Appends the frame of the answer to a body, where the body is answered here.
+fn put_answer(
+    doublings: &Doublings,
+    body: &[u8],
+    out: &mut ScrubBuf,
+) -> Result<Routed, AllocError>
+    ensures { IfOk result (λ routed. IsRouted routed (route_of body.now) out.old.live out.new.live) }
+{
+    match read_to_child(body) {
+        Ok(
+            ToChild::Sign {
+                ask,
+                private,
+                blob,
+                message,
+                ..
+            },
+        ) => sign(doublings, ask, private, blob, message, out),
+        Ok(
+            ToChild::Verify {
+                ask,
+                host_key,
+                signature,
+                session,
+            },
+        ) => put_verdict(ask, judge(doublings, host_key, session, signature), out),
+        Ok(ToChild::Confirm { .. }) => Ok(Routed::NoRequest),
+        Err(_) => Ok(Routed::NoRequest),
     }
 }
 

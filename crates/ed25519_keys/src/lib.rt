@@ -4,8 +4,10 @@
 #![tactic(auto)]
 
 mod answers;
+mod laws;
 mod program;
 mod verifying;
 
 pub use answers::Ed25519Keys;
+pub use laws::an_ed25519_key_stays;
 pub use program::ed25519_main;
