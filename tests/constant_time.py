@@ -124,4 +124,4 @@ def no_jump_stands_but_at_the_ends_of_loops(_):
 
 
 if __name__ == "__main__":
-    check.main(TOOL, "valgrind", "gdb", "binutils")
+    check.main(TOOL)

@@ -91,7 +91,7 @@ def three(seed, public, message, signature):
 @functools.cache
 def libcrypto():
     """The key types of Python's cryptography, which calls libcrypto."""
-    rig.install("ed25519", "python3-cryptography")
+    rig.install("ed25519")
     try:
         from cryptography.exceptions import InvalidSignature
         from cryptography.hazmat.primitives.asymmetric import ed25519
@@ -134,7 +134,7 @@ def the_vectors_of_the_standard(folder):
 @check
 def the_thousand_vectors_of_debian(folder):
     """Messages of 0 to 1023 bytes: the rows that came with the reference implementation."""
-    rig.install("ed25519", "python3-cryptography-vectors")
+    rig.install("ed25519")
     rows = []
     for line in pathlib.Path(VECTORS).read_text().splitlines():
         secret, public, message, signed = line.split(":")[:4]

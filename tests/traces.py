@@ -123,4 +123,4 @@ def a_signature_that_is_erased_leaves_nothing(_):
 
 
 if __name__ == "__main__":
-    check.main(PROGRAM, "gdb")
+    check.main(PROGRAM)
