@@ -27,6 +27,9 @@ NUMBERS = [int(word) for word in sys.argv[1:] if word.isdigit()]
 COUNT = NUMBERS[0] if NUMBERS else 10000
 SEED = NUMBERS[1] if len(NUMBERS) > 1 else 64
 
+# What a program is asked about each vector.
+CALLS = ["key", "sign", "verify"]
+
 # RFC 8032, section 7.1: seed, public key, message and signature of TEST 1, 2, 3 and SHA(abc).
 ROWS = [
     (
@@ -79,13 +82,14 @@ def same(folder, rows):
     return len(rows)
 
 
-def three(seed, public, message, signature):
-    """The three calls of one vector."""
-    return [
-        (f"key {seed}", public),
-        (f"sign {seed} {public} {message}", signature),
-        (f"verify {public} {signature} {message}", "true"),
-    ]
+def calls_of(seed, public, message, signature):
+    """The calls of one vector."""
+    rows = {
+        "key": (f"key {seed}", public),
+        "sign": (f"sign {seed} {public} {message}", signature),
+        "verify": (f"verify {public} {signature} {message}", "true"),
+    }
+    return [rows[call] for call in CALLS]
 
 
 @functools.cache
@@ -126,7 +130,7 @@ def public_bytes(key):
 
 @check
 def the_vectors_of_the_standard(folder):
-    rows = [row for vector in ROWS for row in three(*vector)]
+    rows = [row for vector in ROWS for row in calls_of(*vector)]
     rows.append((f"sign {ROWS[0][0]} {ROWS[1][1]} ", "refused"))
     same(folder, rows)
 
@@ -138,8 +142,8 @@ def the_thousand_vectors_of_debian(folder):
     rows = []
     for line in pathlib.Path(VECTORS).read_text().splitlines():
         secret, public, message, signed = line.split(":")[:4]
-        rows += three(secret[:64], public, message, signed[:128])
-    assert same(folder, rows) == 3 * 1024
+        rows += calls_of(secret[:64], public, message, signed[:128])
+    assert same(folder, rows) == len(CALLS) * 1024
 
 
 @check
@@ -151,7 +155,7 @@ def random_keys_beside_libcrypto(folder):
         seed, message = pick.randbytes(32), pick.randbytes(pick.choice((0, 1, 31, 64, 111, 112, 200)))
         key = private.from_private_bytes(seed)
         public, signature = public_bytes(key), key.sign(message)
-        rows += three(seed.hex(), public.hex(), message.hex(), signature.hex())
+        rows += calls_of(seed.hex(), public.hex(), message.hex(), signature.hex())
         texts = [public, message, signature]
         place = pick.choice((0, 2, 2) if not message else (0, 1, 2, 2))
         texts[place] = turned(texts[place], pick)
@@ -189,7 +193,7 @@ def long_messages(folder):
     key, rows = private.from_private_bytes(b"\x07" * 32), []
     for length in (*range(1025), 262000):
         message = b"m" * length
-        rows += three("07" * 32, public_bytes(key).hex(), message.hex(), key.sign(message).hex())
+        rows += calls_of("07" * 32, public_bytes(key).hex(), message.hex(), key.sign(message).hex())
     same(folder, rows)
 
 
@@ -254,7 +258,7 @@ def the_second_reading(folder):
     for _ in range(max(1, COUNT // 200)):
         seed, message = pick.randbytes(32), pick.randbytes(pick.randrange(100))
         public, signature = model.public_key(seed), model.sign(seed, message)
-        rows += three(seed.hex(), public.hex(), message.hex(), signature.hex())
+        rows += calls_of(seed.hex(), public.hex(), message.hex(), signature.hex())
         wrong = turned(signature, pick)
         rows.append((verifying(public, message, wrong), spoken(model.verify(public, message, wrong))))
     same(folder, rows)

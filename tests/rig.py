@@ -252,11 +252,23 @@ def serves(path, before=None):
     return True
 
 
+# The proved helper, which knows Ed25519 keys, and the one behind it, which knows the others too.
+HELPER, BEHIND = BUILT / "ed25519_helper", BUILT / "mortarleek-helper"
+
+
+def signing():
+    """An agent's words for the helpers that sign: the proved one with the other behind it, as mortarleek-agent starts
+    them, or the one of them that is built."""
+    if not HELPER.exists():
+        return ["--helper", str(BEHIND)]
+    return ["--helper", str(HELPER), *(["--helper-data", str(BEHIND)] if BEHIND.exists() else [])]
+
+
 def our_agent(program, folder, *words, helper=None, name="ours", limits=(), **more):
-    """Ours, started as its words say, with the helper that signs where it is built."""
+    """Ours, started as its words say, with the helpers that sign unless another is named."""
     path = f"{folder}/{name}.sock"
-    helper = helper or BUILT / "mortarleek-helper"
-    command = [*limits, str(program), "serve", "-a", path, "--helper", str(helper), *map(str, words)]
+    helpers = ["--helper", str(helper)] if helper else signing()
+    command = [*limits, str(program), "serve", "-a", path, *helpers, *map(str, words)]
     more.setdefault("stdin", subprocess.DEVNULL)
     more.setdefault("stdout", subprocess.DEVNULL)
     before = file_at(path)

@@ -1,0 +1,296 @@
+#!/usr/bin/env python3
+"""The proved helper as it is built (ed25519_helper), of which this process is the agent: the vectors of tests/ed25519.py
+beside libcrypto, random requests beside model/ed25519_helper.py, the helper behind, and how it ends. Words choose checks by
+a part of their names; `ed25519_helper.py N SEED` takes N random keys (1000) and 2 N random requests by a seed.
+ED25519_HELPER=PROGRAM puts another program in its place."""
+
+import json
+import os
+import pathlib
+import random
+import socket
+import struct
+import subprocess
+import sys
+import time
+
+sys.dont_write_bytecode = True
+
+import ed25519 as vectors
+import rig
+from rig import TOP, children, is_alive, run, string, strings, until
+
+sys.path.insert(0, str(TOP / "helper/tests"))
+
+from model import differential_ed25519 as differential
+
+check = rig.Checks("ed25519_helper")
+PROGRAM = pathlib.Path(os.environ.get("ED25519_HELPER", rig.HELPER))
+PLAIN = b"ssh-ed25519"
+SIGN, VERIFY, SIGNED, REFUSED, TRUE, FALSE = 1, 2, 101, 102, 103, 104
+vectors.COUNT = vectors.NUMBERS[0] if vectors.NUMBERS else 1000
+SEED = vectors.NUMBERS[1] if len(vectors.NUMBERS) > 1 else random.SystemRandom().randrange(10**9)
+
+
+class Helper(rig.Child):
+    """The helper, with what it is asked."""
+
+    def __init__(self, *words, program=PROGRAM, **more):
+        super().__init__(program, *words, **more)
+        self.asks = 0
+
+    def __enter__(self):
+        return self
+
+    def __exit__(self, *_):
+        self.end()
+
+    def ask(self, kind, *texts):
+        """The kind of the answer, and what stands in it."""
+        self.asks += 1
+        flags = bytes(4) if kind == SIGN else b""
+        self.peer.send(struct.pack(">BQ", kind, self.asks) + b"".join(map(string, texts)) + flags)
+        answer = self.peer.reply()
+        found, number = struct.unpack_from(">BQ", answer)
+        assert number == self.asks, (number, self.asks)
+        return found, answer[9:]
+
+    def sign(self, private, blob, message):
+        """The signature, or None."""
+        kind, rest = self.ask(SIGN, private, blob, message)
+        assert kind == SIGNED or (kind, rest) == (REFUSED, b""), (kind, rest)
+        return strings(rest)[0] if kind == SIGNED else None
+
+    def verify(self, host_key, signature, session):
+        answer = self.ask(VERIFY, host_key, signature, session)
+        assert answer in ((TRUE, b""), (FALSE, b"")), answer
+        return answer[0] == TRUE
+
+
+def public_blob(public):
+    return string(PLAIN) + string(public)
+
+
+def addition(seed, public):
+    return public_blob(public) + string(seed + public)
+
+
+def by_helper(folder, lines):
+    """What it answers to each line of tests/ed25519.py, as requests with plain keys."""
+    said = []
+    with Helper() as helper:
+        for line in lines:
+            call, *fields = line.split(" ")
+            first, second, message = map(bytes.fromhex, fields)
+            if call == "sign":
+                signature = helper.sign(addition(first, second), public_blob(second), message)
+                name, text = strings(signature) if signature else (PLAIN, None)
+                assert name == PLAIN, name
+                said.append(text.hex() if text else "refused")
+            else:
+                signature = string(PLAIN) + string(second)
+                said.append("true" if helper.verify(public_blob(first), signature, message) else "false")
+    return said
+
+
+# What is asked of the tool is asked of the helper, but for the calls that it hasn't.
+vectors.answers, vectors.CALLS = by_helper, ["sign", "verify"]
+check.part = "vectors"
+for _, case in vectors.check.cases:
+    if case not in (vectors.lines_that_are_none, vectors.wrong_readings_are_told_by_the_vectors):
+        check(case)
+
+check.part = "requests"
+
+
+@check
+def random_requests_are_answered_as_by_the_model(_):
+    print(f"ed25519_helper: {differential.run(str(PROGRAM), 2 * vectors.COUNT, str(SEED))}", flush=True)
+
+
+def behind(folder, does):
+    """A helper behind, which says its hello, and then does this in Python with its connection `here`."""
+    text = f"""#!{sys.executable} -IS
+import json, os, socket, sys, time
+places = os.listdir("/proc/self/fd")
+here = socket.socket(fileno=os.dup(0))
+with open({str(folder)!r} + "/started", "a") as file:
+    print(os.getpid(), json.dumps([sys.argv[1:], dict(os.environ), places]), file=file)
+job = int(sys.argv[2]).to_bytes(8, "big")
+here.sendall((29).to_bytes(4, "big") + b"\\1" + job + (16).to_bytes(4, "big") + bytes(16))
+{does}
+"""
+    path = folder / "behind"
+    path.write_text(text)
+    path.chmod(0o700)
+    return path
+
+
+OTHER = string(b"ssh-rsa") + string(b"\x01\x00\x01") + string(bytes(128))
+SEED_OF_ONE, PUBLIC_OF_ONE = (bytes.fromhex(text) for text in vectors.ROWS[0][:2])
+
+
+def signs(helper):
+    """It signs with an Ed25519 key."""
+    signature = helper.sign(addition(SEED_OF_ONE, PUBLIC_OF_ONE), public_blob(PUBLIC_OF_ONE), b"")
+    return signature == string(PLAIN) + string(bytes.fromhex(vectors.ROWS[0][3]))
+
+
+def started(folder):
+    """The numbers of the helpers behind that were started."""
+    path = folder / "started"
+    return [int(line.split()[0]) for line in path.read_text().splitlines()] if path.exists() else []
+
+
+@check
+def keys_of_other_types_are_refused_where_nothing_is_behind(_):
+    with Helper() as helper:
+        assert helper.sign(OTHER + string(b"private"), OTHER, b"message") is None
+        assert not helper.verify(OTHER, string(b"rsa-sha2-256") + string(b"signature"), b"session")
+        assert signs(helper) and children(helper.process.pid) == []
+
+
+@check
+def a_helper_behind_that_can_t_be_run_is_none(folder):
+    (folder / "text").write_text("no program")
+    for path in (folder / "nowhere", folder, folder / "text"):
+        with Helper(path) as helper:
+            for _ in range(2):
+                assert helper.sign(OTHER + string(b"private"), OTHER, b"message") is None
+                assert signs(helper)
+            assert children(helper.process.pid) == []
+
+
+@check
+def it_starts_the_helper_behind_at_the_first_need_and_ends_it(folder):
+    """With words of its own, no variables and three descriptors, and not for an Ed25519 key."""
+    echo = "while here.recv(65536): here.sendall((9).to_bytes(4, 'big') + b'f' + job[:7] + b'\\2')"
+    path = behind(folder, echo)
+    with Helper(path) as helper:
+        assert signs(helper) and started(folder) == []
+        assert helper.sign(OTHER + string(b"private"), OTHER, b"message") is None
+        (pid,) = started(folder)
+        assert children(helper.process.pid) == [pid]
+        words, variables, places = json.loads((folder / "started").read_text().split(" ", 1)[1])
+        assert words == ["-", str(helper.job), "0" * 32], words
+        # The fourth is the folder that is listed; Python sets its own variable.
+        assert set(variables) <= {"LC_CTYPE"} and set(places) <= {"0", "1", "2", "3"}, (variables, places)
+        # Of its own it has its standard streams, of which the input is the agent's connection, and one more connection.
+        folder = pathlib.Path(f"/proc/{helper.process.pid}/fd")
+        targets = {place.name: os.readlink(place) for place in folder.iterdir()}
+        others = set(targets.values()) - {targets["0"], targets["1"], targets["2"]}
+        assert len(others) == 1 and others.pop().startswith("socket:"), targets
+    until(lambda: not is_alive(pid), what="the end of the helper behind")
+
+
+@check
+def a_helper_behind_that_ends_is_started_again(folder):
+    path = behind(folder, "here.recv(65536)")
+    with Helper(path) as helper:
+        for count in (1, 2, 3):
+            assert helper.sign(OTHER + string(b"private"), OTHER, b"message") is None
+            assert len(started(folder)) == count and signs(helper)
+        assert rig.zombies(helper.process.pid) <= 1
+
+
+@check.beside
+def a_helper_behind_that_says_nothing_is_waited_for_for_20_seconds(folder):
+    """Also one that says a part of a frame, and one that never says its hello."""
+    silent = folder / "silent"
+    silent.mkdir()
+    hanging = rig.script(silent / "behind", f'echo "$$ {{}}" >> {silent}/started; exec sleep 100')
+    (folder / "part").mkdir()
+    for place, path in ((silent, hanging), (folder / "part", behind(folder / "part", "here.recv(65536); here.sendall(b'\\0\\0'); time.sleep(100)"))):
+        with Helper(path) as helper:
+            helper.peer.socket.settimeout(60)
+            begin = time.monotonic()
+            assert helper.sign(OTHER + string(b"private"), OTHER, b"message") is None
+            assert 19 <= time.monotonic() - begin < 25, time.monotonic() - begin
+            assert signs(helper)
+            (pid,) = started(place)
+        until(lambda: not is_alive(pid), 10, what="the end of the helper behind")
+
+
+@check
+def what_mortarleek_helper_answers_is_handed_back(folder):
+    """Each kind of key, plain and certified: signed and verified, as OpenSSH accepts it."""
+    import openssh
+
+    rig.there(rig.BEHIND)
+    authority = openssh.generate(folder, "ed25519", "256")
+    other = openssh.generate(folder, "ecdsa", "256")
+    keys = [openssh.generate(folder, kind, bits) for kind, bits in openssh.KINDS]
+    certified = [(openssh.certify(key, signer), signer) for key in keys for signer in (authority, other)]
+    with Helper(rig.BEHIND) as helper:
+        for key, signer in [(key, None) for key in keys] + certified:
+            signature = helper.sign(key.private, key.blob, openssh.signed_text(b"a message\n"))
+            if key.plain != "ssh-rsa":
+                assert openssh.accepts(folder, key, signature, b"a message\n", signer), (key, signer)
+            assert helper.verify(key.blob, signature, openssh.signed_text(b"a message\n"))
+            assert not helper.verify(key.blob, signature, openssh.signed_text(b"another\n"))
+        # A certificate of another authority's key, changed.
+        for key, signer in certified:
+            if key.plain == "ssh-ed25519":
+                signature = helper.sign(key.private, key.blob, b"session")
+                assert helper.verify(key.blob, signature, b"session")
+                assert not helper.verify(key.blob[:-1] + bytes([key.blob[-1] ^ 1]), signature, b"session"), signer
+        assert len(children(helper.process.pid)) == 1
+
+
+# How it ends.
+check.part = "ends"
+
+
+def ended(told, *, shut=True):
+    """The status behind these bytes."""
+    helper = Helper()
+    helper.peer.socket.sendall(told)
+    if shut:
+        helper.peer.socket.shutdown(socket.SHUT_WR)
+    status = helper.process.wait(20)
+    helper.end()
+    return status
+
+
+@check
+def each_end_has_its_status(_):
+    request = struct.pack(">BQ", VERIFY, 1) + string(b"") * 3
+    assert ended(b"") == ended(string(request)) == 0
+    for body in (b"\0", request + b"\0", request[:-1], struct.pack(">BQ", 3, 7) + string(b"prompt")):
+        assert ended(string(body), shut=False) == 1, body
+    for length in (0, 1048577, 2**32 - 1):
+        assert ended(struct.pack(">I", length), shut=False) == 1, length
+    for words in ([], ["-"], ["-", "1"], ["-", "01", "0" * 32], ["-", "1", "0" * 31], ["-", "1", "0" * 32, "a", "b"], ["-", "1", "-"]):
+        run([PROGRAM, *words], 2, env={}, stdin=subprocess.DEVNULL, timeout=20)
+    run([PROGRAM, "/nowhere/at/all", "1", "0" * 32], 7, stdin=subprocess.DEVNULL, timeout=20)
+    for part in (1, 4, 12):
+        assert ended(string(request)[:part]) == 8, part
+
+
+@check
+def a_request_in_single_bytes_is_one(_):
+    request = struct.pack(">BQ", SIGN, 9) + string(addition(SEED_OF_ONE, PUBLIC_OF_ONE)) + string(public_blob(PUBLIC_OF_ONE))
+    request += string(b"") + bytes(4)
+    with Helper() as helper:
+        for byte in string(request):
+            helper.peer.socket.sendall(bytes([byte]))
+            time.sleep(0.0005)
+        wanted = string(PLAIN) + string(bytes.fromhex(vectors.ROWS[0][3]))
+        assert helper.peer.reply() == struct.pack(">BQ", SIGNED, 9) + string(wanted)
+
+
+@check
+def the_longest_request_is_answered(_):
+    """A body of 1048576 bytes."""
+    blob = public_blob(PUBLIC_OF_ONE)
+    left = 1048576 - 9 - 12 - 4 - len(addition(SEED_OF_ONE, PUBLIC_OF_ONE)) - len(blob)
+    with Helper() as helper:
+        message = b"m" * left
+        signature = helper.sign(addition(SEED_OF_ONE, PUBLIC_OF_ONE), blob, message)
+        private, keys, _ = vectors.libcrypto()
+        assert strings(signature)[1] == private.from_private_bytes(SEED_OF_ONE).sign(message)
+
+
+if __name__ == "__main__":
+    sys.argv[1:] = [word for word in sys.argv[1:] if not word.isdigit()]
+    check.main(PROGRAM)
