@@ -1,8 +1,8 @@
 #!/usr/bin/env python3
 """Real clients against the built agent, on loopback: each check is made with OpenSSH's agent too, in the same run, and
 what that gives is the expected value; but for a number of uses, which that agent doesn't know. It starts an sshd of its
-own, with its own keys, at free ports. Words choose checks: the parts ssh, destinations, programs, others and scripts,
-or a part of a check's name. With the environment variable AGENT another program is taken for agent_prog."""
+own, with its own keys, at free ports. Words choose checks: the parts ssh, destinations, programs, alone, others and
+scripts, or a part of a check's name. With the environment variable AGENT another program is taken for agent_prog."""
 
 import atexit
 import concurrent.futures
@@ -39,7 +39,11 @@ def alike(folder, case, *words, **more):
     return wanted
 
 
-def log_in(folder, keys, names=("one",), words=("one", "echo in"), added=(), **more):
+# Ours with the proved helper, and none behind it.
+ALONE = dict(helper=rig.HELPER)
+
+
+def log_in(folder, keys, names=("one",), words=("one", "echo in"), added=(), start={}, **more):
     """Logs in with keys that an agent holds."""
     with Hosts(folder, *names, **more) as hosts:
         hosts.allow(*keys)
@@ -52,7 +56,7 @@ def log_in(folder, keys, names=("one",), words=("one", "echo in"), added=(), **m
                 agent.run("ssh-add", "-q", "-D")
             return [*answers, hosts.ssh(agent, *words)]
 
-        return alike(folder, case)
+        return alike(folder, case, **start)
 
 
 # ssh.
@@ -346,7 +350,7 @@ def a_client_that_dies_in_the_middle_disturbs_nobody(folder):
 check.part = "destinations"
 
 
-def destinations(folder, rules, tries, **more):
+def destinations(folder, rules, tries, start={}, **more):
     """Adds a key under rules, and tries ways through the hosts `one`, `two` and `three`: a way is the hosts in order."""
     key = keygen(folder / "key")
     with Hosts(folder, "one", "two", "three", **more) as hosts:
@@ -367,7 +371,7 @@ def destinations(folder, rules, tries, **more):
                 answers.append(hosts.ssh(agent, "-A", first, command))
             return [*answers, agent.run("ssh-add", "-l", status=None)]
 
-        return alike(folder, case)
+        return alike(folder, case, **start)
 
 
 WAYS = (("one",), ("two",), ("one", "two"), ("two", "one"), ("one", "two", "three"), ("one", "three"))
@@ -504,8 +508,8 @@ def a_certificate_authority_s_key_can_stay_in_the_agent(folder):
     assert "Serial: 7" in alike(folder, case)
 
 
-@check
-def git_signs_commits_and_tags(folder):
+def git_signs(folder, start={}):
+    """Signs a commit and a tag with a key that the agent alone has, and has git verify them."""
     key = keygen(folder / "key")
     (folder / "allowed").write_text(f"me@example.org {pathlib.Path(f'{key}.pub').read_text()}")
     hidden = pathlib.Path(f"{key}.hidden")
@@ -548,8 +552,51 @@ def git_signs_commits_and_tags(folder):
         finally:
             os.rename(hidden, key)
 
-    commit, tag, refused = alike(folder, case)
+    commit, tag, refused = alike(folder, case, **start)
     assert "Good" in commit and "Good" in tag and refused != 0
+
+
+@check
+def git_signs_commits_and_tags(folder):
+    git_signs(folder)
+
+
+# The proved helper alone.
+check.part = "alone"
+
+
+@check
+def a_login_by_the_proved_helper_alone(folder):
+    """With an Ed25519 key, and with one in a certificate; a key of another type isn't signed with."""
+    log_in(folder, [keygen(folder / "key")], start=ALONE)
+    place = folder / "certified"
+    place.mkdir()
+    with Hosts(place, "one") as hosts, our_agent(PROGRAM, place, **ALONE) as agent:
+        key, other = keygen(place / "key"), keygen(place / "rsa", "rsa", 2048)
+        certify(hosts.authority, key, "-n", USER)
+        agent.run("ssh-add", "-q", key)
+        agent.run("ssh-add", "-q", "-d", "-k", key)
+        assert hosts.ssh(agent, "one", "echo in") == (0, "in\n")
+        agent.run("ssh-add", "-q", "-D")
+        hosts.allow(other)
+        agent.run("ssh-add", "-q", other)
+        assert hosts.ssh(agent, "one", "echo in")[0] == 255
+        assert rig.children(rig.children(agent.process.pid)[0]) == []
+
+
+@check
+def git_signs_by_the_proved_helper_alone(folder):
+    git_signs(folder, ALONE)
+
+
+@check
+def hosts_are_bound_by_the_proved_helper_alone(folder):
+    """Destinations, which want each host's signature verified: of plain host keys, and of certified ones."""
+    for certified in (False, True):
+        place = folder / str(certified)
+        place.mkdir()
+        said = destinations(place, ["one", "one>two"], WAYS, ALONE, certified=certified)
+        assert [status for status, _ in said[1:4]] == [0, 255, 0], said
 
 
 # Other people's clients.
@@ -808,9 +855,8 @@ def regress():
     os.makedirs("/run/sshd", exist_ok=True)
     bin = folder / "bin"
     bin.mkdir()
-    helper = rig.built("mortarleek-helper")
     rig.lay_scripts(bin)
-    for name, source in (("agent_prog", PROGRAM), ("mortarleek-helper", helper)):
+    for name, source in (("agent_prog", PROGRAM), ("ed25519_helper", rig.HELPER), ("mortarleek-helper", rig.BEHIND)):
         shutil.copy(source, bin / name)
         (bin / name).chmod(0o755)
     # DSA is left out of the kinds of key: it is refused, by choice.
@@ -934,5 +980,6 @@ def other_programs_of_the_user_can_t_trace_it(folder):
 
 
 if __name__ == "__main__":
-    rig.built("mortarleek-helper")
+    rig.there(rig.HELPER)
+    rig.there(rig.BEHIND)
     check.main(PROGRAM)
