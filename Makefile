@@ -1,9 +1,10 @@
-# make            proves each crate, a line for each, and builds the programs into bin/, the helper too where it can
-# make demo       shows the agent at work with OpenSSH's tools, built without proofs where it isn't proved yet
+# make            proves each crate, a line for each, and builds the programs into bin/, mortarleek-helper too where it can
+# make demo       shows the agent at work with OpenSSH's tools, built without proofs where it isn't proved yet; the helper
+#                 that signs with Ed25519 keys is proved first
 # make check      proves and tests everything: the gate, .ci/run
 # make nightly    what takes hours: .ci/nightly
 # make bench      measures, beside other programs of the same machine
-# make helper     builds the helper that signs, which isn't proved, or says which packages it wants
+# make helper     builds the helper that signs with other keys, which isn't proved, or says which packages it wants
 # make install    copies what was built to $(DESTDIR)$(PREFIX), with manuals, completions and a systemd unit
 # make uninstall  removes what that copied
 # make deb        builds a Debian package of it, in bin/
@@ -19,7 +20,7 @@ SOURCES := crates.txt $(shell find crates -name out -prune -o \( -name '*.rt' -o
 # scripts/prove does side by side what can be done so.
 .NOTPARALLEL:
 
-# What is missing is told before the first proof. Without its packages the helper isn't built.
+# What is missing is told before the first proof. Without its packages mortarleek-helper isn't built.
 all: toolchain packages proofs $(PROGRAMS:%=bin/%) version
 	@helper/build || true
 
@@ -72,7 +73,7 @@ OWN := $(if $(DESTDIR),,$(filter $(HOME)/%,$(PREFIX)) $(filter-out 0,$(shell id 
 UNITS := $(if $(strip $(OWN)),$(or $(XDG_DATA_HOME),$(HOME)/.local/share)/systemd/user,$(DESTDIR)$(PREFIX)/lib/systemd/user)
 UNIT := contrib/systemd/mortarleek-agent$(if $(strip $(OWN)),.own).service
 COMPLETIONS := $(SHARE)/bash-completion/completions $(SHARE)/zsh/site-functions $(SHARE)/fish/vendor_completions.d
-HELPERS := mortarleek-helper standin_helper confirm_relay add_tool filter_proxy audit_prog
+HELPERS := ed25519_helper mortarleek-helper standin_helper confirm_relay add_tool filter_proxy audit_prog
 SCRIPTS := $(notdir $(wildcard front/mortarleek front/mortarleek-*))
 # What these start and source beside the programs.
 PARTS := agent_guard front_end.sh version

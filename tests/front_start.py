@@ -10,7 +10,7 @@ import subprocess
 import time
 
 import rig
-from installed import Installed, agent_of, both, check, plain
+from installed import Installed, agent_of, both, check, keygen, plain
 from rig import children, is_alive, openssh_agent, run, until
 
 
@@ -210,7 +210,8 @@ def words_reach_the_agent(folder):
         words = pathlib.Path(f"/proc/{agent}/cmdline").read_text().rstrip("\0").split("\0")
         words = words[words.index("serve") :]
         assert words[:4] == ["serve", "-a", daemon.path, "--helper"] and words[-2:] == ["-t", "90m"], words
-        assert words[4].endswith("libexec/mortarleek/mortarleek-helper")
+        helpers = [str(installed.prefix / "libexec/mortarleek" / name) for name in ("ed25519_helper", "mortarleek-helper")]
+        assert words[4:7] == [helpers[0], "--helper-data", helpers[1]], words
         if "--relay" in words:
             assert words[words.index("--askpass") + 1] == str(asker), words
         elif (rig.BUILT / "confirm_relay").exists():
@@ -230,10 +231,40 @@ def without_a_helper_that_signs_it_says_so(folder):
 
 @check
 def a_helper_that_can_t_be_run_is_refused(folder):
-    installed = Installed(folder)
-    helper = installed.prefix / "libexec/mortarleek/mortarleek-helper"
-    helper.unlink()
-    rig.script(helper, "exit 0").write_text("#!/nowhere/at/all\n")
-    said = run([installed.agent], 1, env=installed.environment)
-    assert "mortarleek-helper can't be run" in said and said.count("\n") == 1, said
-    assert installed.folders() == []
+    for name in ("ed25519_helper", "mortarleek-helper"):
+        place = folder / name
+        place.mkdir()
+        installed = Installed(place)
+        helper = installed.prefix / "libexec/mortarleek" / name
+        helper.unlink()
+        rig.script(helper, "exit 0").write_text("#!/nowhere/at/all\n")
+        said = run([installed.agent], 1, env=installed.environment)
+        assert f"{name} can't be run" in said and said.count("\n") == 1, said
+        assert installed.folders() == []
+
+
+@check
+def one_helper_that_signs_is_enough(folder):
+    """The proved one alone signs with Ed25519 keys and refuses others, the other one alone with all; -d says so."""
+    for left, refused in (("ed25519_helper", ["rsa"]), ("mortarleek-helper", [])):
+        place = folder / left
+        place.mkdir()
+        installed = Installed(place)
+        for name in {"ed25519_helper", "mortarleek-helper"} - {left}:
+            (installed.prefix / "libexec/mortarleek" / name).unlink()
+        with installed.start() as daemon:
+            agent = agent_of(daemon.pid)
+            words = pathlib.Path(f"/proc/{agent}/cmdline").read_text().split("\0")
+            assert words[words.index("--helper") + 1].endswith(left) and "--helper-data" not in words, words
+            for kind in ("ed25519", "rsa"):
+                key = keygen(place / kind, kind=kind)
+                daemon.run("ssh-add", "-q", key)
+                # -T has the agent sign something, and verifies that.
+                daemon.run("ssh-add", "-T", f"{key}.pub", status=1 if kind in refused else 0)
+        if refused:
+            more = dict(env=installed.environment, stdout=subprocess.PIPE, stderr=subprocess.STDOUT, text=True)
+            with subprocess.Popen([installed.agent, "-d"], **more) as debugged:
+                said = debugged.stdout.readline()
+                debugged.terminate()
+                debugged.communicate(timeout=20)
+            assert said == "mortarleek-agent: no mortarleek-helper: Ed25519 keys alone can sign\n", said
