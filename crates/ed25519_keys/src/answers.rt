@@ -41,11 +41,7 @@ impl Answerer for Ed25519Keys {
 }
 
 // Appends the frame of the answer to a body, where the body is answered here.
-fn put_answer(
-    doublings: &Doublings,
-    body: &[u8],
-    out: &mut ScrubBuf,
-) -> Result<Routed, AllocError>
+fn put_answer(doublings: &Doublings, body: &[u8], out: &mut ScrubBuf) -> Result<Routed, AllocError>
     ensures { IfOk result (λ routed. IsRouted routed (route_of body.now) out.old.live out.new.live) }
 {
     match read_to_child(body) {
@@ -116,12 +112,7 @@ fn put_signature(
 }
 
 // The 64 bytes of the signature, where the private string and the blob are one key's.
-fn signature(
-    doublings: &Doublings,
-    private: &[u8],
-    blob: &[u8],
-    message: &[u8],
-) -> Option<[u8; 64]>
+fn signature(doublings: &Doublings, private: &[u8], blob: &[u8], message: &[u8]) -> Option<[u8; 64]>
     ensures { option_map (λ bytes. bytes) result ≡ signature_with (pair_in private.now blob.now) message.now }
 {
     let Ok(pair) = read_pair(private, blob) else {

@@ -4,7 +4,10 @@ ghost use Rattle.ed25519_keys.specs.Answers.{certificate_verdict, here, key_sign
 ghost use Rattle.ed25519_wire.specs.Reading.{authority_key, certified_key_at, plain_key_at, seal_of, sealed};
 
 use ed25519::{Doublings, verify};
-use ed25519_wire::{Closing, is_certified, is_ed25519, is_plain, read_authority, read_certified_key, read_closing, read_plain_key, read_signature};
+use ed25519_wire::{
+    Closing, is_certified, is_ed25519, is_plain, read_authority, read_certified_key, read_closing,
+    read_plain_key, read_signature,
+};
 use wire_core::Cursor;
 
 /// Whether a host key made a signature.
@@ -74,8 +77,7 @@ fn certificate_verdict(
         return Verdict::Elsewhere;
     }
     here(
-        signs(doublings, public, message, signature)
-            && is_sealed(doublings, certificate, &closing),
+        signs(doublings, public, message, signature) && is_sealed(doublings, certificate, &closing),
     )
 }
 
@@ -87,7 +89,10 @@ fn is_sealed(doublings: &Doublings, certificate: &[u8], closing: &Closing<'_>) -
     let Ok(public) = read_authority(closing.authority) else {
         return false;
     };
-    let signed = front(certificate, certificate.len().saturating_sub(closing.signature_field));
+    let signed = front(
+        certificate,
+        certificate.len().saturating_sub(closing.signature_field),
+    );
     signs(doublings, public, signed, closing.signature)
 }
 

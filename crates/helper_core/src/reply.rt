@@ -91,10 +91,12 @@ fn signed_under(ask: u64, message: Option<FromChild<'_>>) -> FromChild<'_>
     ensures small { from_child_length (from_child_message result) ≤ longest_body }
 {
     match message {
-        Some(FromChild::Signed {
-            ask: number,
-            signature,
-        }) if number == ask => FromChild::Signed { ask, signature },
+        Some(
+            FromChild::Signed {
+                ask: number,
+                signature,
+            },
+        ) if number == ask => FromChild::Signed { ask, signature },
         _ => FromChild::Refused { ask },
     }
 }

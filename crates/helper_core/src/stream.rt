@@ -62,9 +62,13 @@ fn answer_front<A: Answerer, B: HelperBehind, P: Sink>(
         (λ status. Ends status talk start
         (record { behind = B.seen behind.new; peer = P.seen peer.new })) }
 {
-    let Ok(is_request) =
-        put_answer(alloc, answerer, behind, front_body(heard.live(), body_len), out)
-    else {
+    let Ok(is_request) = put_answer(
+        alloc,
+        answerer,
+        behind,
+        front_body(heard.live(), body_len),
+        out,
+    ) else {
         return Some(HelperStatus::Memory);
     };
     if !is_request {

@@ -14,6 +14,7 @@ use std::time::{Clock, Duration};
 
 // The words for a connection that is the standard input, and for a ticket that nobody asks for.
 const STANDARD_INPUT: &str = "-";
+
 const NO_TICKET: &str = "00000000000000000000000000000000";
 
 // How many bytes a read brings at most.
@@ -106,7 +107,8 @@ impl<P: OpenProcess + Drop> Running<P> {
         if !self.heard.live().is_empty() {
             return None;
         }
-        self.send(rt, &(request.len() as u32).to_be_bytes(), end).ok()?;
+        self.send(rt, &(request.len() as u32).to_be_bytes(), end)
+            .ok()?;
         self.send(rt, request, end).ok()?;
         self.next_body(rt, alloc, end).ok()
     }
