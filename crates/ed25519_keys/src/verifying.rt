@@ -96,7 +96,7 @@ fn is_sealed(doublings: &Doublings, certificate: &[u8], closing: &Closing<'_>) -
     signs(doublings, public, signed, closing.signature)
 }
 
-// So many bytes from the front, or all.
+// So many bytes from the front.
 fn front(bytes: &[u8], len: usize) -> &[u8]
     requires { len ≤ length bytes.now }
     ensures { result.now ≡ take len bytes.now }

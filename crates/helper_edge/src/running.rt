@@ -107,8 +107,8 @@ impl<P: OpenProcess + Drop> Running<P> {
         if !self.heard.live().is_empty() {
             return None;
         }
-        self.send(rt, &(request.len() as u32).to_be_bytes(), end)
-            .ok()?;
+        let len = u32::try_from(request.len()).ok()?;
+        self.send(rt, &len.to_be_bytes(), end).ok()?;
         self.send(rt, request, end).ok()?;
         self.next_body(rt, alloc, end).ok()
     }
