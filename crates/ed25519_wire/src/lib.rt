@@ -5,12 +5,14 @@
 mod closing;
 mod cursor;
 mod fault;
+mod laws;
 mod names;
 mod pair;
 mod signature;
 
 pub use closing::{Closing, read_closing};
 pub use fault::KeyFault;
+pub use laws::keys_are_read_exactly;
 pub use names::{is_certified, is_ed25519, is_plain};
 pub use pair::{Pair, read_authority, read_certified_key, read_pair, read_plain_key};
 pub use signature::read_signature;
