@@ -121,8 +121,8 @@ def at_work(manager, prefix, own, enable):
     manager.run(f"umask 077; ssh-keygen -q -t ed25519 -N '' -f {key} && SSH_AUTH_SOCK={socket} {prefix}/bin/mortarleek add -q {key}")
     manager.run(f"SSH_AUTH_SOCK={socket} ssh-add -T {key}.pub")
     # Nobody but root reads the memory of agent and helper.
-    (agent,) = manager.run("pgrep -u $(id -u) -x agent_prog").split()
-    (helper,) = manager.run("pgrep -u $(id -u) -x mortarleek-help").split()
+    (agent,) = manager.run("pgrep -x agent_prog -P $(systemctl --user show -P MainPID mortarleek-agent)").split()
+    (helper,) = manager.run(f"pgrep -P {agent}").split()
     for pid in (agent, helper):
         assert pathlib.Path(f"/proc/{pid}/mem").stat().st_uid == 0
         assert "Permission denied" in manager.run(f"cat /proc/{pid}/maps", 1)
