@@ -1,12 +1,12 @@
 -- What each call leaves of how the journal reads, by its answer.
-use Rattle.std.proofs.Common.{◌≡◌, ◌∙◌, ℕ, suc, ◌+◌, ◌-◌, ◌^◌, ◌<◌, Bool, true, false, List, [], ◌∷◌, length, drop, get_or, Option, Some, None, Result, Ok, refl, sym, ap, ◌==◌, add-one, arith}
+use Rattle.std.proofs.Common.{◌≡◌, ◌∙◌, ℕ, suc, ◌+◌, ◌-◌, ◌^◌, ◌<◌, Bool, true, false, List, [], ◌∷◌, length, drop, get_or, Option, Some, None, Result, Ok, Err, refl, sym, ap, ◌==◌, add-one, arith}
 use Rattle.std.proofs.Math.Seq.{drop-cons}
 use Rattle.std.specs.Prelude.{IsSome, is_some}
 use Rattle.std.specs.declared.alloc.AllocError.{AllocError}
 use Rattle.std.specs.Str.{bytes_eq}
 use Rattle.std.specs.Cmp.Lexicographic.{bytes_decides}
 use Rattle.std.proofs.lemmas.Bool.Decides.{Decides-eqb, Decides-ltb, nat_tests}
-use Rattle.world_ports.specs.Journal.{Grows}
+use Rattle.world_ports.specs.Journal.{Grows, Tells}
 use Rattle.world_ports.specs.declared.answers.Accepted.{Accepted}
 use Rattle.world_ports.specs.declared.answers.Got.{Got}
 use Rattle.world_ports.specs.declared.answers.Polled.{Polled}
@@ -23,7 +23,7 @@ use Rattle.agent_model.specs.State.{State, find_port, owed_of, starts}
 use Rattle.agent_model.specs.Step.{step}
 use Rattle.loop_model.specs.Calls.{served_of}
 use Rattle.loop_model.specs.Dues.{Closing, Free, NowFor, Polling, due_look, due_of, port_of, same_wait, wait_of}
-use Rattle.loop_model.specs.LegalJournal.{after_entry, after_if_legal, in_state, is_first_job}
+use Rattle.loop_model.specs.LegalJournal.{LoopState, after_entry, after_if_legal, in_state, is_first_job}
 use Rattle.world_ports.specs.Worlds.{read_room}
 use Rattle.loop_model.specs.Lines.{Line, after_event, in_hand, is_idle}
 use Rattle.loop_model.specs.Queues.{first_servable, is_next, is_thing}
@@ -32,9 +32,9 @@ use Rattle.loop_model.specs.declared.thing.Thing.TheVariants.{Accept, Read, Writ
 use Rattle.loop_model.proofs.JournalLemmas.{after_if_legal-is}
 use Rattle.loop_model.proofs.TestLemmas.{both_and}
 use Rattle.loop_model.proofs.ThingLemmas.{same_thing-refl}
-use Rattle.ready_loop.specs.Moves.{Advances, is_poll}
+use Rattle.ready_loop.specs.Moves.{AdvancesOrStops, is_poll}
 use Rattle.ready_loop.proofs.IdleLemmas.{first_is_found, owed_is_open, wanted_is_open}
-use Rattle.ready_loop.proofs.TurningLemmas.{advances_once}
+use Rattle.ready_loop.proofs.TurningLemmas.{advances_once, stops_short}
 
 -- ---- the moment of an event, and closing
 
@@ -163,13 +163,22 @@ start-any state line job answer first =
     after_if_legal-is (in_state state line Free) (entry.Start job answer) first
 
 -- a call that finds that the thing isn't ready any more
-pub serves_dropped : (state : State) (line after : Line) (thing : Thing) (old new : Option (List Entry)) (next : Entry)
-    → is_poll next ≡ false → after_if_legal (in_state state line Free) next ≡ Some (in_state state (in_hand thing line) Free)
+pub serves_dropped : {T E : Type 0} {value : T} {state : State} {line after : Line} {old new : Option (List Entry)}
+    (thing : Thing) (next : Entry) → is_poll next ≡ false
+    → after_if_legal (in_state state line Free) next ≡ Some (in_state state (in_hand thing line) Free)
     → after ≡ in_hand thing line → Grows old new (next ∷ [])
-    → Advances (in_state state line Free) old new (in_state state after Free)
-serves_dropped state line after thing old new next quiet is gone told =
-    advances_once (in_state state line Free) (in_state state after Free) old new next quiet
-    (is ∙ ap (λ (l : Line). Some (in_state state l Free)) (sym gone)) told
+    → AdvancesOrStops {T = T} {E = E} (Ok value) (in_state state line Free) old new (in_state state after Free)
+serves_dropped {state = state} {line = line} {after = after} {old = old} {new = new} thing next quiet is gone told = record {
+  by = advances_once (in_state state line Free) (in_state state after Free) old new next quiet
+      (is ∙ ap (λ (l : Line). Some (in_state state l Free)) (sym gone)) told;
+}
+
+-- a call for which memory ran out, which may be missing from the journal
+pub serves_short : {T E : Type 0} {fault : E} {from left to : LoopState} {old new : Option (List Entry)} (next : Entry)
+    → is_poll next ≡ false → after_if_legal from next ≡ Some left → Tells old new true next
+    → AdvancesOrStops {T = T} {E = E} (Err fault) from old new to
+serves_short {from = from} {left = left} {old = old} {new = new} next quiet is told =
+    record { by = stops_short from left old new true next quiet is told }
 
 -- ---- what fits
 

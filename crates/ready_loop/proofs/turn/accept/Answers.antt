@@ -15,7 +15,7 @@ use Rattle.ready_loop.proofs.IdleLemmas.{first_is_found}
 use Rattle.ready_loop.proofs.KeepingLemmas.{ordered_is}
 use Rattle.ready_loop.proofs.RoundingLemmas.{round-event, rounds-none}
 use Rattle.ready_loop.proofs.CallLemmas as calls
-use Rattle.ready_loop.proofs.TurningLemmas.{one_call, serves_then, stops_short, stops_there, told_at}
+use Rattle.ready_loop.proofs.TurningLemmas.{one_call, serves_then, stops_there, told_at}
 use Rattle.ready_loop.proofs.turn.accept.Goals as goal
 
 pub accept-requires : goal.accept-requires
@@ -65,12 +65,11 @@ happen-requires-clause-cold g c =
 pub returns-in-Ok-clause-legal : goal.returns-in-Ok-clause-legal
 returns-in-Ok-clause-legal g c =
     let state = g.A.Core.state c.args.agent.now in
-    let line = c.args.queue.now in
     serves_then (entry.Accept c.args.door (Ok (accepted.Port c.in-Ok-Port.number))) refl
-    (calls.accept-any state line c.args.door (Ok (accepted.Port c.in-Ok-Port.number)) c.requires.next
+    (calls.accept-any (g.A.Core.state c.args.agent.now) c.args.queue.now c.args.door (Ok (accepted.Port c.in-Ok-Port.number)) c.requires.next
     ∙ ap (λ (l : Line). Some (in_state state l (NowFor (Joined c.args.door))))
     (sym (c.in-Ok.ensures ∙ ap (joined_line state c.args.door c.in-Ok-Port.number) c.take.ensures)))
-    (told_at (λ r. entry.Accept c.args.door r) (g.W.World.journal c.args.world.now) (g.W.World.journal c.accept.new.self)
+    (told_at (λ r. entry.Accept c.args.door r) _ _
     (c.in-Ok-Port.is ∙ ap Ok c.in-Ok-Port.field-0-is) c.accept.ensures.told)
     c.happen.ensures.legal
 
@@ -89,29 +88,17 @@ returns-in-Ok-clause-round g c =
 
 pub returns-in-Ok-NotNow-clause-legal : goal.returns-in-Ok-NotNow-clause-legal
 returns-in-Ok-NotNow-clause-legal g c =
-    let state = g.A.Core.state c.args.agent.now in
-    let line = c.args.queue.now in
-    record {
-      by = calls.serves_dropped state line c.take-in-Ok-NotNow.new.self (Accept c.args.door)
-          (g.W.World.journal c.args.world.now) (g.W.World.journal c.accept.new.self) (entry.Accept c.args.door (Ok accepted.NotNow)) refl
-          (calls.accept-any state line c.args.door (Ok accepted.NotNow) c.requires.next)
-          c.take-in-Ok-NotNow.ensures
-          (told_at (λ r. entry.Accept c.args.door r) (g.W.World.journal c.args.world.now) (g.W.World.journal c.accept.new.self)
-          (c.in-Ok-NotNow.is ∙ ap Ok c.in-Ok-NotNow.field-0-is) c.accept.ensures.told);
-    }
+    calls.serves_dropped (Accept c.args.door) _ refl
+    (calls.accept-any (g.A.Core.state c.args.agent.now) c.args.queue.now c.args.door (Ok accepted.NotNow) c.requires.next)
+    c.take-in-Ok-NotNow.ensures
+    (told_at (λ r. entry.Accept c.args.door r) _ _ (c.in-Ok-NotNow.is ∙ ap Ok c.in-Ok-NotNow.field-0-is) c.accept.ensures.told)
 
 pub returns-in-Err-Failed-clause-legal : goal.returns-in-Err-Failed-clause-legal
 returns-in-Err-Failed-clause-legal g c =
-    let state = g.A.Core.state c.args.agent.now in
-    let line = c.args.queue.now in
-    record {
-      by = calls.serves_dropped state line c.take-in-Err-Failed.new.self (Accept c.args.door)
-          (g.W.World.journal c.args.world.now) (g.W.World.journal c.accept.new.self) (entry.Accept c.args.door (Err Failed)) refl
-          (calls.accept-any state line c.args.door (Err Failed) c.requires.next)
-          c.take-in-Err-Failed.ensures
-          (told_at (λ r. entry.Accept c.args.door r) (g.W.World.journal c.args.world.now) (g.W.World.journal c.accept.new.self)
-          (c.in-Err-Failed.is ∙ ap Err c.in-Err-Failed.field-0-is) c.accept.ensures.told);
-    }
+    calls.serves_dropped (Accept c.args.door) _ refl
+    (calls.accept-any (g.A.Core.state c.args.agent.now) c.args.queue.now c.args.door (Err Failed) c.requires.next)
+    c.take-in-Err-Failed.ensures
+    (told_at (λ r. entry.Accept c.args.door r) _ _ (c.in-Err-Failed.is ∙ ap Err c.in-Err-Failed.field-0-is) c.accept.ensures.told)
 
 pub returns-in-Ok-NotNow-clause-round : goal.returns-in-Ok-NotNow-clause-round
 returns-in-Ok-NotNow-clause-round g c =
@@ -133,14 +120,6 @@ take-requires-in-Err-Failed g c =
 
 pub returns-in-Err-Memory-clause-legal : goal.returns-in-Err-Memory-clause-legal
 returns-in-Err-Memory-clause-legal g c =
-    let state = g.A.Core.state c.args.agent.now in
-    let line = c.args.queue.now in
-    let answer : Result Accepted WorldFault = Err Memory in
-    let next = entry.Accept c.args.door answer in
-    record {
-      by = stops_short (in_state state line Free) (after_entry (in_state state line Free) next)
-          (g.W.World.journal c.args.world.now) (g.W.World.journal c.accept.new.self) true next refl
-          (calls.accept-any state line c.args.door answer c.requires.next)
-          (told_at (λ r. entry.Accept c.args.door r) (g.W.World.journal c.args.world.now) (g.W.World.journal c.accept.new.self)
-          (c.in-Err-Memory.is ∙ ap Err c.in-Err-Memory.field-0-is) c.accept.ensures.told);
-    }
+    calls.serves_short _ refl
+    (calls.accept-any (g.A.Core.state c.args.agent.now) c.args.queue.now c.args.door (Err Memory) c.requires.next)
+    (told_at (λ r. entry.Accept c.args.door r) _ _ (c.in-Err-Memory.is ∙ ap Err c.in-Err-Memory.field-0-is) c.accept.ensures.told)

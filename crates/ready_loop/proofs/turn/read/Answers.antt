@@ -11,7 +11,7 @@ use Rattle.loop_model.specs.Dues.{Free}
 use Rattle.loop_model.specs.declared.thing.Thing.TheVariants.{Read}
 use Rattle.loop_model.specs.LegalJournal.{after_entry, in_state}
 use Rattle.ready_loop.proofs.CallLemmas as calls
-use Rattle.ready_loop.proofs.TurningLemmas.{serves_then, stops_short, told_at}
+use Rattle.ready_loop.proofs.TurningLemmas.{serves_then, told_at}
 use Rattle.ready_loop.proofs.RoomLemmas.{wiped_again}
 use Rattle.ready_loop.proofs.HandingLemmas.{front-next, read-at}
 use Rattle.ready_loop.proofs.RoundingLemmas.{rounds-none}
@@ -34,13 +34,11 @@ end-requires-in-Err-Failed-clause-fits g c =
 
 pub returns-in-Ok-Bytes-clause-legal : goal.returns-in-Ok-Bytes-clause-legal
 returns-in-Ok-Bytes-clause-legal g c =
-    let state = g.A.Core.state c.args.agent.now in
-    let line = c.args.queue.now in
     let answer = Ok (got.Bytes c.in-Ok-Bytes.n) in
     let bytes = take c.in-Ok-Bytes.n c.read.new.room in
     serves_then (entry.Read c.args.port (length c.args.room.now) bytes answer) refl
-    (calls.read-any state line c.args.port (length c.args.room.now) bytes answer c.requires.next c.requires.room)
-    (told_at (λ r. entry.Read c.args.port (length c.args.room.now) (got_of r c.read.new.room) r) (g.W.World.journal c.args.world.now) (g.W.World.journal c.read.new.self)
+    (calls.read-any (g.A.Core.state c.args.agent.now) c.args.queue.now c.args.port (length c.args.room.now) bytes answer c.requires.next c.requires.room)
+    (told_at (λ r. entry.Read c.args.port (length c.args.room.now) (got_of r c.read.new.room) r) _ _
     (c.in-Ok-Bytes.is ∙ ap Ok c.in-Ok-Bytes.field-0-is) c.read.ensures.told)
     c.hear-heard.ensures.legal
 
@@ -52,27 +50,19 @@ returns-in-Ok-Bytes-clause-zero g c =
 
 pub returns-in-Ok-End-clause-legal : goal.returns-in-Ok-End-clause-legal
 returns-in-Ok-End-clause-legal g c =
-    let state = g.A.Core.state c.args.agent.now in
-    let line = c.args.queue.now in
     let answer = Ok got.End in
     serves_then (entry.Read c.args.port (length c.args.room.now) [] answer) refl
-    (calls.read-any state line c.args.port (length c.args.room.now) [] answer c.requires.next c.requires.room)
-    (told_at (λ r. entry.Read c.args.port (length c.args.room.now) (got_of r c.read.new.room) r) (g.W.World.journal c.args.world.now) (g.W.World.journal c.read.new.self)
+    (calls.read-any (g.A.Core.state c.args.agent.now) c.args.queue.now c.args.port (length c.args.room.now) [] answer c.requires.next c.requires.room)
+    (told_at (λ r. entry.Read c.args.port (length c.args.room.now) (got_of r c.read.new.room) r) _ _
     (c.in-Ok-End.is ∙ ap Ok c.in-Ok-End.field-0-is) c.read.ensures.told)
     c.end.ensures.legal
 
 pub returns-in-Ok-NotNow-clause-legal : goal.returns-in-Ok-NotNow-clause-legal
 returns-in-Ok-NotNow-clause-legal g c =
-    let state = g.A.Core.state c.args.agent.now in
-    let line = c.args.queue.now in
-    record {
-      by = calls.serves_dropped state line c.take.new.self (Read c.args.port)
-          (g.W.World.journal c.args.world.now) (g.W.World.journal c.read.new.self) (entry.Read c.args.port (length c.args.room.now) [] (Ok got.NotNow)) refl
-          (calls.read-any state line c.args.port (length c.args.room.now) [] (Ok got.NotNow) c.requires.next c.requires.room)
-          c.take.ensures
-          (told_at (λ r. entry.Read c.args.port (length c.args.room.now) (got_of r c.read.new.room) r) (g.W.World.journal c.args.world.now) (g.W.World.journal c.read.new.self)
-          (c.in-Ok-NotNow.is ∙ ap Ok c.in-Ok-NotNow.field-0-is) c.read.ensures.told);
-    }
+    calls.serves_dropped (Read c.args.port) _ refl
+    (calls.read-any (g.A.Core.state c.args.agent.now) c.args.queue.now c.args.port (length c.args.room.now) [] (Ok got.NotNow) c.requires.next c.requires.room)
+    c.take.ensures
+    (told_at (λ r. entry.Read c.args.port (length c.args.room.now) (got_of r c.read.new.room) r) _ _ (c.in-Ok-NotNow.is ∙ ap Ok c.in-Ok-NotNow.field-0-is) c.read.ensures.told)
 
 pub returns-in-Ok-NotNow-clause-round : goal.returns-in-Ok-NotNow-clause-round
 returns-in-Ok-NotNow-clause-round g c =
@@ -91,25 +81,15 @@ end-requires-in-Err-Failed-clause-at g c = read-at c.args.port
 
 pub returns-in-Err-Failed-clause-legal : goal.returns-in-Err-Failed-clause-legal
 returns-in-Err-Failed-clause-legal g c =
-    let state = g.A.Core.state c.args.agent.now in
-    let line = c.args.queue.now in
     let answer : Result Got WorldFault = Err Failed in
     serves_then (entry.Read c.args.port (length c.args.room.now) [] answer) refl
-    (calls.read-any state line c.args.port (length c.args.room.now) [] answer c.requires.next c.requires.room)
-    (told_at (λ r. entry.Read c.args.port (length c.args.room.now) (got_of r c.read.new.room) r) (g.W.World.journal c.args.world.now) (g.W.World.journal c.read.new.self)
+    (calls.read-any (g.A.Core.state c.args.agent.now) c.args.queue.now c.args.port (length c.args.room.now) [] answer c.requires.next c.requires.room)
+    (told_at (λ r. entry.Read c.args.port (length c.args.room.now) (got_of r c.read.new.room) r) _ _
     (c.in-Err-Failed.is ∙ ap Err c.in-Err-Failed.field-0-is) c.read.ensures.told)
     c.end-in-Err-Failed.ensures.legal
 
 pub returns-in-Err-Memory-clause-legal : goal.returns-in-Err-Memory-clause-legal
 returns-in-Err-Memory-clause-legal g c =
-    let state = g.A.Core.state c.args.agent.now in
-    let line = c.args.queue.now in
-    let answer : Result Got WorldFault = Err Memory in
-    let next = entry.Read c.args.port (length c.args.room.now) [] answer in
-    record {
-      by = stops_short (in_state state line Free) (after_entry (in_state state line Free) next)
-          (g.W.World.journal c.args.world.now) (g.W.World.journal c.read.new.self) true next refl
-          (calls.read-any state line c.args.port (length c.args.room.now) [] answer c.requires.next c.requires.room)
-          (told_at (λ r. entry.Read c.args.port (length c.args.room.now) (got_of r c.read.new.room) r) (g.W.World.journal c.args.world.now) (g.W.World.journal c.read.new.self)
-          (c.in-Err-Memory.is ∙ ap Err c.in-Err-Memory.field-0-is) c.read.ensures.told);
-    }
+    calls.serves_short _ refl
+    (calls.read-any (g.A.Core.state c.args.agent.now) c.args.queue.now c.args.port (length c.args.room.now) [] (Err Memory) c.requires.next c.requires.room)
+    (told_at (λ r. entry.Read c.args.port (length c.args.room.now) (got_of r c.read.new.room) r) _ _ (c.in-Err-Memory.is ∙ ap Err c.in-Err-Memory.field-0-is) c.read.ensures.told)

@@ -7,40 +7,30 @@ use Rattle.loop_model.specs.LegalJournal.{after_entry, in_state}
 use Rattle.loop_model.specs.Lines.{after_event}
 use Rattle.ready_loop.proofs.CallLemmas as calls
 use Rattle.ready_loop.proofs.RoundingLemmas.{keeps-event, keeps-is}
-use Rattle.ready_loop.proofs.TurningLemmas.{serves_then, stops_short, told_at}
+use Rattle.ready_loop.proofs.TurningLemmas.{serves_then, told_at}
 use Rattle.ready_loop.proofs.turn.start.Goals as goal
 
 pub returns-in-Ok-clause-legal : goal.returns-in-Ok-clause-legal
 returns-in-Ok-clause-legal g c =
-    let state = g.A.Core.state c.args.agent.now in
     let answer : Result (List ℕ) WorldFault = Ok c.in-Ok.ticket in
     serves_then (entry.Start c.args.job answer) refl
-    (calls.start-any state c.args.queue.now c.args.job answer c.requires.first)
+    (calls.start-any (g.A.Core.state c.args.agent.now) c.args.queue.now c.args.job answer c.requires.first)
     c.in-Ok.ensures.told c.happen.ensures.legal
 
 pub returns-in-Err-Failed-clause-legal : goal.returns-in-Err-Failed-clause-legal
 returns-in-Err-Failed-clause-legal g c =
-    let state = g.A.Core.state c.args.agent.now in
     let answer : Result (List ℕ) WorldFault = Err Failed in
     serves_then (entry.Start c.args.job answer) refl
-    (calls.start-any state c.args.queue.now c.args.job answer c.requires.first)
-    (told_at (λ r. entry.Start c.args.job r) (g.W.World.journal c.args.world.now) (g.W.World.journal c.start.new.self)
+    (calls.start-any (g.A.Core.state c.args.agent.now) c.args.queue.now c.args.job answer c.requires.first)
+    (told_at (λ r. entry.Start c.args.job r) _ _
     (c.in-Err-Failed.is ∙ ap Err c.in-Err-Failed.field-0-is) c.start.ensures.told)
     c.happen-in-Err-Failed.ensures.legal
 
 pub returns-in-Err-Memory-clause-legal : goal.returns-in-Err-Memory-clause-legal
 returns-in-Err-Memory-clause-legal g c =
-    let state = g.A.Core.state c.args.agent.now in
-    let line = c.args.queue.now in
-    let answer : Result (List ℕ) WorldFault = Err Memory in
-    let next = entry.Start c.args.job answer in
-    record {
-      by = stops_short (in_state state line Free) (after_entry (in_state state line Free) next)
-          (g.W.World.journal c.args.world.now) (g.W.World.journal c.start.new.self) true next refl
-          (calls.start-any state line c.args.job answer c.requires.first)
-          (told_at (λ r. entry.Start c.args.job r) (g.W.World.journal c.args.world.now) (g.W.World.journal c.start.new.self)
-          (c.in-Err-Memory.is ∙ ap Err c.in-Err-Memory.field-0-is) c.start.ensures.told);
-    }
+    calls.serves_short _ refl
+    (calls.start-any (g.A.Core.state c.args.agent.now) c.args.queue.now c.args.job (Err Memory) c.requires.first)
+    (told_at (λ r. entry.Start c.args.job r) _ _ (c.in-Err-Memory.is ∙ ap Err c.in-Err-Memory.field-0-is) c.start.ensures.told)
 
 pub returns-in-Ok-clause-round : goal.returns-in-Ok-clause-round
 returns-in-Ok-clause-round g c =

@@ -8,7 +8,7 @@ use Rattle.loop_model.specs.Dues.{Free}
 use Rattle.loop_model.specs.declared.thing.Thing.TheVariants.{Write}
 use Rattle.loop_model.specs.LegalJournal.{after_entry, in_state}
 use Rattle.ready_loop.proofs.CallLemmas as calls
-use Rattle.ready_loop.proofs.TurningLemmas.{serves_then, stops_short, told_at}
+use Rattle.ready_loop.proofs.TurningLemmas.{serves_then, told_at}
 use Rattle.ready_loop.proofs.HandingLemmas.{front-next, write-at}
 use Rattle.ready_loop.proofs.RoundingLemmas.{rounds-none}
 use Rattle.ready_loop.proofs.turn.write.Goals as goal
@@ -22,27 +22,19 @@ end-requires-clause-fits g c =
 
 pub returns-in-Ok-Took-clause-legal : goal.returns-in-Ok-Took-clause-legal
 returns-in-Ok-Took-clause-legal g c =
-    let state = g.A.Core.state c.args.agent.now in
-    let line = c.args.queue.now in
     let answer = Ok (wrote.Took c.in-Ok-Took.n) in
     serves_then (entry.Write c.args.port c.owed.result.now answer) refl
-    (calls.write-any state line c.args.port c.owed.result.now answer c.requires.next c.owed.ensures)
-    (told_at (λ r. entry.Write c.args.port c.owed.result.now r) (g.W.World.journal c.args.world.now) (g.W.World.journal c.write.new.self)
+    (calls.write-any (g.A.Core.state c.args.agent.now) c.args.queue.now c.args.port c.owed.result.now answer c.requires.next c.owed.ensures)
+    (told_at (λ r. entry.Write c.args.port c.owed.result.now r) _ _
     (c.in-Ok-Took.is ∙ ap Ok c.in-Ok-Took.field-0-is) c.write.ensures.told)
     c.send.ensures.legal
 
 pub returns-in-Ok-NotNow-clause-legal : goal.returns-in-Ok-NotNow-clause-legal
 returns-in-Ok-NotNow-clause-legal g c =
-    let state = g.A.Core.state c.args.agent.now in
-    let line = c.args.queue.now in
-    record {
-      by = calls.serves_dropped state line c.take.new.self (Write c.args.port)
-          (g.W.World.journal c.args.world.now) (g.W.World.journal c.write.new.self) (entry.Write c.args.port c.owed.result.now (Ok wrote.NotNow)) refl
-          (calls.write-any state line c.args.port c.owed.result.now (Ok wrote.NotNow) c.requires.next c.owed.ensures)
-          c.take.ensures
-          (told_at (λ r. entry.Write c.args.port c.owed.result.now r) (g.W.World.journal c.args.world.now) (g.W.World.journal c.write.new.self)
-          (c.in-Ok-NotNow.is ∙ ap Ok c.in-Ok-NotNow.field-0-is) c.write.ensures.told);
-    }
+    calls.serves_dropped (Write c.args.port) _ refl
+    (calls.write-any (g.A.Core.state c.args.agent.now) c.args.queue.now c.args.port c.owed.result.now (Ok wrote.NotNow) c.requires.next c.owed.ensures)
+    c.take.ensures
+    (told_at (λ r. entry.Write c.args.port c.owed.result.now r) _ _ (c.in-Ok-NotNow.is ∙ ap Ok c.in-Ok-NotNow.field-0-is) c.write.ensures.told)
 
 pub returns-in-Ok-NotNow-clause-round : goal.returns-in-Ok-NotNow-clause-round
 returns-in-Ok-NotNow-clause-round g c =
@@ -58,25 +50,15 @@ end-requires-clause-at g c = write-at c.args.port
 
 pub returns-in-Err-Failed-clause-legal : goal.returns-in-Err-Failed-clause-legal
 returns-in-Err-Failed-clause-legal g c =
-    let state = g.A.Core.state c.args.agent.now in
-    let line = c.args.queue.now in
     let answer : Result Wrote WorldFault = Err Failed in
     serves_then (entry.Write c.args.port c.owed.result.now answer) refl
-    (calls.write-any state line c.args.port c.owed.result.now answer c.requires.next c.owed.ensures)
-    (told_at (λ r. entry.Write c.args.port c.owed.result.now r) (g.W.World.journal c.args.world.now) (g.W.World.journal c.write.new.self)
+    (calls.write-any (g.A.Core.state c.args.agent.now) c.args.queue.now c.args.port c.owed.result.now answer c.requires.next c.owed.ensures)
+    (told_at (λ r. entry.Write c.args.port c.owed.result.now r) _ _
     (c.in-Err-Failed.is ∙ ap Err c.in-Err-Failed.field-0-is) c.write.ensures.told)
     c.end.ensures.legal
 
 pub returns-in-Err-Memory-clause-legal : goal.returns-in-Err-Memory-clause-legal
 returns-in-Err-Memory-clause-legal g c =
-    let state = g.A.Core.state c.args.agent.now in
-    let line = c.args.queue.now in
-    let answer : Result Wrote WorldFault = Err Memory in
-    let next = entry.Write c.args.port c.owed.result.now answer in
-    record {
-      by = stops_short (in_state state line Free) (after_entry (in_state state line Free) next)
-          (g.W.World.journal c.args.world.now) (g.W.World.journal c.write.new.self) true next refl
-          (calls.write-any state line c.args.port c.owed.result.now answer c.requires.next c.owed.ensures)
-          (told_at (λ r. entry.Write c.args.port c.owed.result.now r) (g.W.World.journal c.args.world.now) (g.W.World.journal c.write.new.self)
-          (c.in-Err-Memory.is ∙ ap Err c.in-Err-Memory.field-0-is) c.write.ensures.told);
-    }
+    calls.serves_short _ refl
+    (calls.write-any (g.A.Core.state c.args.agent.now) c.args.queue.now c.args.port c.owed.result.now (Err Memory) c.requires.next c.owed.ensures)
+    (told_at (λ r. entry.Write c.args.port c.owed.result.now r) _ _ (c.in-Err-Memory.is ∙ ap Err c.in-Err-Memory.field-0-is) c.write.ensures.told)
