@@ -237,6 +237,15 @@ def what_mortarleek_helper_answers_is_handed_back(folder):
         assert len(children(helper.process.pid)) == 1
 
 
+@check
+def what_is_tried_of_mortarleek_helper_holds_of_both(folder):
+    """Its own tests of keys and vectors, each of whose requests goes to the proved one first."""
+    rig.there(rig.BEHIND)
+    both = rig.script(folder / "both", f'exec {PROGRAM.absolute()} "$@" {rig.BEHIND}')
+    words = [sys.executable, "-B", "-m", "unittest", "-q", "test_keys", *(f"test_vectors.{name}" for name in ("Ed25519", "Ecdsa", "Rsa"))]
+    run(words, cwd=TOP / "helper/tests", env=dict(os.environ, HELPER=str(both)), timeout=900)
+
+
 # How it ends.
 check.part = "ends"
 
