@@ -1,8 +1,13 @@
 """Random requests to the helper for Ed25519 keys, beside its model: plain keys and certificates of any authority, good and
-with something changed, keys of other types, and helpers behind that reply rightly, wrongly or not at all."""
+with something changed, keys of other types, and helpers behind that reply rightly, wrongly or not at all.
+
+    python3 -m model.differential_ed25519 PROGRAM N [SEED]
+    python3 -m model.differential_ed25519 --wrong N [SEED]    tries the wrong ones of wrong_helpers.txt
+"""
 
 from __future__ import annotations
 
+import importlib
 import json
 import socket
 import subprocess
@@ -13,15 +18,18 @@ from collections import Counter
 from dataclasses import dataclass
 from pathlib import Path
 from random import Random
+from types import ModuleType
 
 from . import ed25519
+from .differential import HERE, read_wrong
 from .ed25519_helper import CERTIFIED, ED25519, FALSE, REFUSED, SIGNED, TRUE, Transcript, helper
 from .formats import sign_frame, verify_frame
 from .wire import string, uint32, uint64
 
 ECDSA, RSA = b"ecdsa-sha2-nistp256", b"ssh-rsa"
-# Points of order 1, 2 and 4, and a y that is no number of the field.
-ODD = [ed25519.octets(number) for number in (1, ed25519.P - 1, 0, 1 << 255, ed25519.P, ed25519.P + 1, 2**256 - 1)]
+# Points of order 1, 2 and 4; x = 0 with the sign; and a y that is no number of the field.
+SMALL, SIGN_OF_X = (1, ed25519.P - 1, 0, 1 << 255), 1 << 255
+ODD = [ed25519.octets(number) for number in (*SMALL, 1 | SIGN_OF_X, ed25519.P - 1 | SIGN_OF_X, ed25519.P, ed25519.P + 1, 2**256 - 1)]
 
 # The helper behind: it takes down what it is asked, and replies by the plan that stands beside it.
 BEHIND = """#!{python} -IS
@@ -342,5 +350,55 @@ def run(program: str, requests: int, seed: str) -> str:
     return ", ".join(f"{what} {counts[what]}" for what in sorted(counts))
 
 
+# What the model of the helper is made of.
+MODULES = ("wire", "formats", "tools", "ed25519", "ed25519_helper")
+
+
+def wrong_module(edit: dict[str, str], folder: str, number: int) -> ModuleType:
+    """The model with one line changed, as a package of its own in a folder that modules are looked for in."""
+    place = Path(folder, f"wrong_helper_{number}")
+    place.mkdir()
+    for name in MODULES:
+        text = (HERE / f"{name}.py").read_text()
+        if edit["file"] == f"{name}.py":
+            text = text.replace(edit["old"], edit["new"])
+        (place / f"{name}.py").write_text(text)
+    return importlib.import_module(f"{place.name}.ed25519_helper")
+
+
+def seen_of(model: ModuleType, words: list[str], replies: list[bytes | None], peer: bytes) -> tuple:
+    """What a model sends, hands on and ends with, given these replies."""
+    left = list(replies)
+    told = model.helper(words, lambda body: left.pop(0) if left else None, peer)
+    return told.sent, told.handed, told.status
+
+
+def try_wrong(requests: int, seed: str) -> bool:
+    """Says behind how many requests each wrong helper is told from the right one; whether all are."""
+    random, sessions, told = Random(seed), [], 0
+    pool = Pool(random)
+    while told < requests:
+        words, peer, count = session(pool)
+        planned = Planned(pool)
+        words = [*words, "behind"] if len(words) == 3 and random.random() < 0.8 else words
+        wanted = helper(words, planned, peer)
+        replies = [bytes.fromhex(text) if how == "body" else None for how, text in planned.plan]
+        told += count
+        sessions.append((words, replies, peer, told, (wanted.sent, wanted.handed, wanted.status)))
+    missed = 0
+    with tempfile.TemporaryDirectory() as folder:
+        sys.path.insert(0, folder)
+        for number, edit in enumerate(read_wrong("wrong_helpers.txt")):
+            wrong = wrong_module(edit, folder, number)
+            found = next((at for words, replies, peer, at, wanted in sessions if seen_of(wrong, words, replies, peer) != wanted), None)
+            missed += found is None
+            print(f"{found or 'never':>5}  {edit['wrong']}", flush=True)
+    print(f"{number + 1} wrong helpers: {missed} not told by {told} requests")
+    return missed == 0
+
+
 if __name__ == "__main__":
-    print(run(sys.argv[1], int(sys.argv[2]), sys.argv[3] if len(sys.argv) > 3 else "1"))
+    program, count, seed = sys.argv[1], int(sys.argv[2]), sys.argv[3] if len(sys.argv) > 3 else "1"
+    if program == "--wrong":
+        sys.exit(not try_wrong(count, seed))
+    print(run(program, count, seed))
