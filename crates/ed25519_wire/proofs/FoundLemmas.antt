@@ -67,10 +67,11 @@ seed_at-is public bytes seed small read =
     let tail : drop 32 secret.0.0 ≡ public = same_bytes (drop 32 secret.0.0) public found.0 in
     let head : take 32 secret.0.0 ≡ seed = cc (found.1, end.1) in
     let whole : seed ++ public ≡ secret.0.0 =
-    ap (λ (s : List ℕ). s ++ public) (sym head) ∙ ap (λ (p : List ℕ). take 32 secret.0.0 ++ p) (sym tail) ∙ take-append-drop 32 secret.0.0 in
-    (last bytes (string secret.0.0) secret.0.1 front.parts end.0 ∙ ap string (sym whole),
-    omega (arith, ap length head, length-take 32 secret.0.0, front.sized),
-    omega (arith, ap length tail, length-drop 32 secret.0.0, front.sized))
+    ap (λ (s : List ℕ). s ++ public) (sym head) ∙ ap (λ (p : List ℕ). take 32 secret.0.0 ++ p) (sym tail) ∙ take-append-drop 32 secret.0.0 in (
+      last bytes (string secret.0.0) secret.0.1 front.parts end.0 ∙ ap string (sym whole),
+      omega (arith, ap length head, length-take 32 secret.0.0, front.sized),
+      omega (arith, ap length tail, length-drop 32 secret.0.0, front.sized),
+    )
 
 -- the public key, and the seed behind it
 pair_at-is : (public bytes seed : List ℕ) → IsBytes bytes → pair_at public bytes ≡ Ok seed
@@ -80,10 +81,11 @@ pair_at-is public bytes seed small read =
     let field = field_or_is Unfit (string_at bytes) (λ text more. if bytes_eq text public then seed_at public more else Err Unfit) seed read in
     let found = chosen (bytes_eq field.field public) (seed_at public field.rest) seed field.read in
     let front = string_is_front bytes field.field field.rest small field.there in
-    let is = seed_at-is public field.rest seed front.0.left found.1 in
-    (behind bytes (string field.field) field.rest (string (seed ++ public)) front.0.parts is.0
-    ∙ ap (λ (t : List ℕ). string t ++ string (seed ++ public)) (same_bytes field.field public found.0),
-    record { seed = is.1; public = is.2 })
+    let is = seed_at-is public field.rest seed front.0.left found.1 in (
+      behind bytes (string field.field) field.rest (string (seed ++ public)) front.0.parts is.0
+          ∙ ap (λ (t : List ℕ). string t ++ string (seed ++ public)) (same_bytes field.field public found.0),
+      record { seed = is.1; public = is.2 },
+    )
 
 plain_key_at-is : (bytes public : List ℕ) → IsBytes bytes → plain_key_at bytes ≡ Ok public → bytes ≡ string public
 unfolding plain_key_at
@@ -99,9 +101,9 @@ plain_pair-found : (private blob rest : List ℕ) (pair : KeyPair) → IsBytes p
 unfolding plain_pair
 plain_pair-found private blob rest pair small rest_small blob_is read =
     let public = bind_ok (plain_key_at rest) (λ p. field_then (string_at private) (λ name more.
-        if is_plain_name name then pair_at p more >>= (λ seed. Ok (pair_of p seed)) else Err Unfit)) pair read in
+    if is_plain_name name then pair_at p more >>= (λ seed. Ok (pair_of p seed)) else Err Unfit)) pair read in
     let field = field_or_is Unfit (string_at private) (λ name more.
-        if is_plain_name name then pair_at public.0 more >>= (λ seed. Ok (pair_of public.0 seed)) else Err Unfit) pair public.2 in
+    if is_plain_name name then pair_at public.0 more >>= (λ seed. Ok (pair_of public.0 seed)) else Err Unfit) pair public.2 in
     let found = chosen (is_plain_name field.field) (pair_at public.0 field.rest >>= (λ seed. Ok (pair_of public.0 seed))) pair field.read in
     let seed = bind_ok (pair_at public.0 field.rest) (λ s. Ok (pair_of public.0 s)) pair found.1 in
     let front = string_is_front private field.field field.rest small field.there in
@@ -137,10 +139,12 @@ behind_certificate-found whole public bytes seed small read =
     let found = chosen (bytes_eq field.field whole) (pair_at public field.rest) seed field.read in
     let front = string_is_front bytes field.field field.rest small field.there in
     let text_is = same_bytes field.field whole found.0 in
-    let is = pair_at-is public field.rest seed front.0.left found.1 in
-    (behind bytes (string field.field) field.rest (private_fields (pair_of public seed)) front.0.parts is.0
-    ∙ ap (λ (t : List ℕ). string t ++ private_fields (pair_of public seed)) text_is,
-    subst (λ (t : List ℕ). length t < 2 ^ 32) text_is front.1, is.1)
+    let is = pair_at-is public field.rest seed front.0.left found.1 in (
+      behind bytes (string field.field) field.rest (private_fields (pair_of public seed)) front.0.parts is.0
+          ∙ ap (λ (t : List ℕ). string t ++ private_fields (pair_of public seed)) text_is,
+      subst (λ (t : List ℕ). length t < 2 ^ 32) text_is front.1,
+      is.1,
+    )
 
 -- what is read of a certified key is in the grammar
 certified_pair-found : (private blob rest : List ℕ) (pair : KeyPair) → IsBytes private → IsBytes rest → blob ≡ string certified_name ++ rest
@@ -148,10 +152,10 @@ certified_pair-found : (private blob rest : List ℕ) (pair : KeyPair) → IsByt
 unfolding certified_pair
 certified_pair-found private blob rest pair small rest_small blob_is read =
     let public = bind_ok (certified_key_at rest) (λ p. field_then (string_at private) (λ name more.
-        if is_certified_name name then behind_certificate blob p.0 more >>= (λ seed. Ok (pair_of p.0 seed)) else Err Unfit)) pair read in
+    if is_certified_name name then behind_certificate blob p.0 more >>= (λ seed. Ok (pair_of p.0 seed)) else Err Unfit)) pair read in
     let key = certified_key_at-is rest public.0.0 public.0.1 rest_small public.1 in
     let field = field_or_is Unfit (string_at private) (λ name more.
-        if is_certified_name name then behind_certificate blob public.0.0 more >>= (λ seed. Ok (pair_of public.0.0 seed)) else Err Unfit) pair public.2 in
+    if is_certified_name name then behind_certificate blob public.0.0 more >>= (λ seed. Ok (pair_of public.0.0 seed)) else Err Unfit) pair public.2 in
     let found = chosen (is_certified_name field.field) (behind_certificate blob public.0.0 field.rest >>= (λ seed. Ok (pair_of public.0.0 seed))) pair field.read in
     let seed = bind_ok (behind_certificate blob public.0.0 field.rest) (λ s. Ok (pair_of public.0.0 s)) pair found.1 in
     let front = string_is_front private field.field field.rest small field.there in
@@ -182,7 +186,7 @@ pub pair_in-found : (private blob : List ℕ) (pair : KeyPair) → IsBytes priva
 unfolding pair_in
 pair_in-found private blob pair small blob_small read =
     let field = field_or_is Unfit (string_at blob) (λ name rest.
-        if is_plain_name name then plain_pair private rest
-        else if is_certified_name name then certified_pair private blob rest else Err Unfit) pair read in
+    if is_plain_name name then plain_pair private rest
+    else if is_certified_name name then certified_pair private blob rest else Err Unfit) pair read in
     let front = string_is_front blob field.field field.rest blob_small field.there in
     by_name private blob field.field field.rest pair (is_plain_name field.field) (is_certified_name field.field) small front.0.left front.0.parts refl refl field.read

@@ -75,7 +75,7 @@ unfolding plain_pair
 plain_pair-is private pair is sized =
     let later : List ℕ → List ℕ → Result KeyPair KeyFault = λ name more. if is_plain_name name then pair_at pair.public more >>= (λ seed. Ok (pair_of pair.public seed)) else Err Unfit in
     ap (λ (r : Result (List ℕ) KeyFault). r >>= (λ public. field_then (string_at private) (λ name more.
-        if is_plain_name name then pair_at public more >>= (λ seed. Ok (pair_of public seed)) else Err Unfit))) (plain_key_at-alone pair sized)
+    if is_plain_name name then pair_at public more >>= (λ seed. Ok (pair_of public seed)) else Err Unfit))) (plain_key_at-alone pair sized)
     ∙ ap (λ (at : Option (List ℕ × List ℕ)). field_then at later) (ap string_at is ∙ string_at-string plain_name (private_fields pair) (omega arith))
     ∙ ap (λ (r : Result (List ℕ) KeyFault). r >>= (λ seed. Ok (pair_of pair.public seed))) (pair_at-fields pair sized)
 
@@ -94,7 +94,7 @@ unfolding certified_pair
 certified_pair-is private whole nonce rest pair is short small sized =
     let later : List ℕ → List ℕ → Result KeyPair KeyFault = λ name more. if is_certified_name name then behind_certificate whole pair.public more >>= (λ seed. Ok (pair_of pair.public seed)) else Err Unfit in
     ap (λ (r : Result (List ℕ × List ℕ) KeyFault). r >>= (λ public. field_then (string_at private) (λ name more.
-        if is_certified_name name then behind_certificate whole public.0 more >>= (λ seed. Ok (pair_of public.0 seed)) else Err Unfit))) (certified_key_at-key pair nonce rest sized short)
+    if is_certified_name name then behind_certificate whole public.0 more >>= (λ seed. Ok (pair_of public.0 seed)) else Err Unfit))) (certified_key_at-key pair nonce rest sized short)
     ∙ ap (λ (at : Option (List ℕ × List ℕ)). field_then at later) (ap string_at is ∙ string_at-string certified_name (string whole ++ private_fields pair) (omega arith))
     ∙ ap (λ (r : Result (List ℕ) KeyFault). r >>= (λ seed. Ok (pair_of pair.public seed))) (behind_certificate-is whole pair small sized)
 
