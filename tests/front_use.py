@@ -88,6 +88,12 @@ def swap(path):
     os.rename(f"{path}.new", path)
 
 
+def helper_of(installed):
+    """The helper that the agent starts: the proved one, where it is there."""
+    libexec = installed.prefix / "libexec/mortarleek"
+    return next(path for path in (libexec / "ed25519_helper", libexec / "mortarleek-helper") if path.exists())
+
+
 def not_started(daemon):
     """The programs of which `mortarleek status` tells that they are started no more."""
     said = daemon.run(daemon.installed.prefix / "bin/mortarleek", "status")
@@ -98,7 +104,7 @@ def not_started(daemon):
 def status_tells_of_a_program_that_was_swapped_and_is_started_no_more(folder):
     installed, key = Installed(folder), keygen(folder / "key")
     libexec, asker = installed.prefix / "libexec/mortarleek", rig.script(folder / "ask", "exit 1")
-    programs = [str(path) for path in (libexec / "mortarleek-helper", libexec / "confirm_relay", asker)]
+    programs = [str(path) for path in (helper_of(installed), libexec / "confirm_relay", asker)]
     with installed.start(environment={"DISPLAY": ":0", "SSH_ASKPASS": str(asker)}) as daemon:
         daemon.run("ssh-add", "-q", key)
         assert not_started(daemon) == []
@@ -118,7 +124,7 @@ def status_tells_of_no_upgrade_by_root_but_in_a_user_namespace(folder):
         raise rig.Skip("it takes root")
     with tempfile.TemporaryDirectory(dir="/usr/local/lib", prefix="mk-") as place:
         installed, key = Installed(pathlib.Path(place)), keygen(folder / "key")
-        helper = installed.prefix / "libexec/mortarleek/mortarleek-helper"
+        helper = helper_of(installed)
         agent, inside = installed.agent, rig.script(folder / "inside", f'exec unshare -U {installed.agent} "$@"')
         for start, mode, told, status in (
             (agent, 0o755, [], 0),
