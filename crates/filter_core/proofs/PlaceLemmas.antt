@@ -1,5 +1,5 @@
 -- Lemmas on the place of a pair in a list whose numbers rise.
-use Rattle.std.proofs.Common.{◌≡◌, ◌≢◌, ◌==◌, ◌^◌, ℕ, zero, suc, ◌<◌, ◌≤◌, List, [], ◌∷◌, ◌++◌, length, map, get_or, refl, arith, ap, sym, subst, ◌∙◌, Some, None, Result, Ok, Err, MatchOption, slice_get, slice_set, inl, inr, Bool, true, if◌then◌else◌}
+use Rattle.std.proofs.Common.{◌≡◌, ◌≢◌, ◌==◌, ℕ, zero, suc, ◌<◌, ◌≤◌, List, [], ◌∷◌, ◌++◌, length, map, get_or, refl, arith, ap, sym, subst, ◌∙◌, Some, None, Result, Ok, Err, MatchOption, slice_get, slice_set, inl, inr, Bool, true, if◌then◌else◌}
 use Rattle.std.proofs.lemmas.Bool.Decides.{Decides-eqb, nat_tests}
 use Rattle.std.specs.List.{remove}
 use Rattle.std.proofs.lemmas.Bool.{cases_eq, cases_lt}
@@ -10,7 +10,7 @@ use Rattle.std.specs.List.Sorted.{IsBinarySearchResult, IsSearchInRange, IsNonDe
 use Rattle.std.specs.Ordering.{nat_cmp, ordering_index}
 use Rattle.std.specs.Result.{result_ok}
 use Rattle.filter_model.specs.declared.waits.Waits.TheVariants as waits
-use Rattle.filter_model.specs.Pairs.{Pair, empty_half, new_pair}
+use Rattle.filter_model.specs.Pairs.{Pair, empty_half}
 use Rattle.filter_model.specs.Filters.{Numbered, find_pair, put_pair, remove_pair}
 use Rattle.filter_core.specs.declared.slot.Slot.{Slot}
 use Rattle.filter_core.specs.Slots.{IsRising, pairs_of}

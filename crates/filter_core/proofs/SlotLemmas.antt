@@ -1,16 +1,14 @@
 -- Edits of the slots are edits of the pairs, and these are the steps of the definition.
-use Rattle.std.proofs.Common.{◌≡◌, ◌∙◌, ℕ, zero, suc, ◌+◌, ◌-◌, ◌^◌, ◌<◌, List, [], ◌∷◌, ◌++◌, Bool, true, false, length, map, get_or, set, refl, ap, arith, sym, subst, Some, None, slice_get, Result, Ok, Err, drop, Vec, Global, ◌||◌}
-use Rattle.std.proofs.lemmas.List.{drop_more, map-set, map-append, drop-map, take-map}
+use Rattle.std.proofs.Common.{◌≡◌, ◌∙◌, ℕ, zero, suc, ◌+◌, ◌-◌, ◌^◌, ◌<◌, List, [], ◌∷◌, ◌++◌, Bool, true, false, length, get_or, set, refl, ap, arith, sym, subst, Some, slice_get, Result, Ok, Err}
+use Rattle.std.proofs.lemmas.List.{map-set, map-append, drop-map, take-map}
 use Rattle.std.specs.Prelude.{OnOk}
-use Rattle.std.specs.Str.{bytes_eq}
 use Rattle.std.proofs.lemmas.Option.{slice_get-map}
 use Rattle.std.specs.List.{remove}
 use Rattle.std.specs.Option.{option_map}
 use Rattle.filter_model.specs.Pairs.{Pair}
-use Rattle.filter_model.specs.Looking.{is_listed}
 use Rattle.filter_model.specs.Filters.{Happening, Numbered, State, at_pair, find_pair, put_pair, remove_pair, settled, told}
 use Rattle.filter_core.specs.declared.slot.Slot.{Slot}
-use Rattle.filter_core.specs.Slots.{IsKept, IsRising, Leaves, blobs_of, numbered_of, pair_of, pairs_of}
+use Rattle.filter_core.specs.Slots.{IsKept, IsRising, Leaves, numbered_of, pair_of, pairs_of}
 use Rattle.filter_core.specs.Places.{IsPlace}
 use Rattle.filter_core.proofs.PlaceLemmas.{length-pairs_of, rising-append, rising-higher, rising-put, rising-remove}
 
@@ -135,8 +133,3 @@ after_ok (Ok value) step holds = step holds
 after_ok (Err want) step holds = tt
 
 -- ---- a list of blobs
-
-pub more_listed : (blob : List ℕ) (listed : List (Vec ℕ Global)) (i : ℕ) (one : Vec ℕ Global) → i < length listed → one ≡ get_or listed i one
-    → is_listed blob (blobs_of (drop i listed)) ≡ (bytes_eq blob one.items || is_listed blob (blobs_of (drop (i + 1) listed)))
-more_listed blob listed i one inside is =
-    ap (λ (l : List (Vec ℕ Global)). is_listed blob (blobs_of l)) (drop_more listed i one inside ∙ ap (λ (v : Vec ℕ Global). v ∷ drop (i + 1) listed) (sym is))

@@ -1,6 +1,7 @@
 -- The storage of the open pairs as the definition sees it.
 use Rattle.std.specs.Prelude.{◌≡◌, ℕ, ◌+◌, ◌^◌, ◌<◌, ◌≤◌, Bool, true, false, ◌&&◌, List, [], ◌∷◌, length, map, Option, Some, None, Vec}
 use Rattle.std.specs.declared.alloc.Global.{Global}
+use Rattle.std.specs.BTreeSet.{BTreeSet}
 use Rattle.wire_text.specs.Bounds.{longest_body}
 use Rattle.agent_msg.specs.Replies.{entries_length}
 use Rattle.agent_msg.specs.ReplyReading.{AgentReply, Failure, Identities, Signature, Success}
@@ -11,9 +12,9 @@ use Rattle.filter_model.specs.Pairs.{Half, Pair, half_of, owes_more}
 use Rattle.filter_model.specs.Looking.{Looked}
 use Rattle.filter_model.specs.Filters.{Ended, Happening, Heard, Joined, Numbered, Took}
 
--- the blobs of a list
-abbrev pub blobs_of : List (Vec ℕ Global) → List (List ℕ)
-blobs_of listed = map (λ blob. blob.items) listed
+-- the blobs of a set, in order
+abbrev pub blobs_of : BTreeSet (Vec ℕ Global) → List (List ℕ)
+blobs_of listed = map (λ blob. blob.items) listed.keys
 
 -- a pair without its storage, and with its number
 abbrev pub pair_of : Slot → Pair

@@ -12,9 +12,10 @@ use crate::fate::is_listed;
 use agent_msg::{Reply, ReplyFault, put_list_entry, put_list_head, read_reply};
 use secret_buf::ScrubBuf;
 use std::alloc::{AllocError, Global};
+use std::collections::BTreeSet;
 
 // Keeps those of the identities whose blobs are listed.
-fn keep_listed(identities: &mut Vec<(&[u8], &[u8])>, listed: &[Vec<u8>])
+fn keep_listed(identities: &mut Vec<(&[u8], &[u8])>, listed: &BTreeSet<Vec<u8>>)
     ensures { map lent identities.new.items ≡ only_listed (blobs_of listed.now) (map lent identities.old.items) }
 {
     identities.retain(|identity| is_listed(listed, identity.0));
@@ -67,6 +68,7 @@ pub fn put_list(out: &mut ScrubBuf, identities: &[(&[u8], &[u8])]) -> Result<(),
     let entries = entries_len(identities);
     let body = 5 + entries;
     let count = identities.len();
+    out.reserve(4 + body)?;
     put_list_head(out, body as u32, count as u32)?;
     put_entries(out, identities)?;
     Ok(())
@@ -76,7 +78,7 @@ pub fn put_list(out: &mut ScrubBuf, identities: &[(&[u8], &[u8])]) -> Result<(),
 pub fn owe_cut(
     alloc: Global,
     client: &mut Buffers,
-    listed: &[Vec<u8>],
+    listed: &BTreeSet<Vec<u8>>,
     answer: &[u8],
 ) -> Result<bool, AllocError>
     requires { length answer.now ≤ longest_body }
@@ -93,7 +95,11 @@ pub fn owe_cut(
 }
 
 // Owes the client what this reply makes, cut to what is listed; tells whether it answers a list.
-fn owe_read(client: &mut Buffers, listed: &[Vec<u8>], reply: Reply<'_>) -> Result<bool, AllocError>
+fn owe_read(
+    client: &mut Buffers,
+    listed: &BTreeSet<Vec<u8>>,
+    reply: Reply<'_>,
+) -> Result<bool, AllocError>
     requires { IsShort (agent_reply reply) }
     ensures is_one { IfOk result (λ is_one. is_one
         ≡ is_some (cut_reply (blobs_of listed.now) (Ok (agent_reply reply.entry)))) }
@@ -117,7 +123,7 @@ fn owe_read(client: &mut Buffers, listed: &[Vec<u8>], reply: Reply<'_>) -> Resul
 // Owes the list of those of these identities that are listed.
 fn owe_listed(
     client: &mut Buffers,
-    listed: &[Vec<u8>],
+    listed: &BTreeSet<Vec<u8>>,
     identities: Vec<(&[u8], &[u8])>,
 ) -> Result<(), AllocError>
     requires { 5 + entries_length (map lent identities.items) ≤ longest_body }

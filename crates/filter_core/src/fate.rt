@@ -1,7 +1,6 @@
 //! What becomes of a client's request.
 
 ghost use Rattle.std.specs.Prelude.{◌≡◌, IfOk, Ok};
-ghost use Rattle.std.specs.Str.{bytes_eq};
 ghost use Rattle.agent_msg.specs.Requests.{client_request};
 ghost use Rattle.filter_model.specs.Looking.{fate_of, is_listed, waits_by, waits_for};
 ghost use Rattle.filter_core.specs.Slots.{blobs_of};
@@ -9,29 +8,18 @@ ghost use Rattle.filter_core.specs.Slots.{blobs_of};
 use agent_msg::{MsgFault, Request, read_request};
 use filter_model::Waits;
 use std::alloc::{AllocError, Global};
-
-// Whether a blob of the list is this one.
-fn is_same(blob: &[u8], one: &Vec<u8>) -> bool
-    ensures { result ≡ bytes_eq blob.now one.now.items }
-{
-    blob == one.as_slice()
-}
+use std::collections::BTreeSet;
 
 /// Whether the blob stands in the list.
-pub fn is_listed(listed: &[Vec<u8>], blob: &[u8]) -> bool
+pub fn is_listed(listed: &BTreeSet<Vec<u8>>, blob: &[u8]) -> bool
     ensures { result ≡ is_listed blob.now (blobs_of listed.now) }
 {
-    'listed: for one in listed {
-        if is_same(blob, one) {
-            return true;
-        }
-    }
-    false
+    listed.contains(blob)
 }
 
 /// What a pair waits for after this body: nothing where the request is refused. Only a list, a signature by a key that
 /// is listed and a bind pass.
-pub fn fate_of(alloc: Global, listed: &[Vec<u8>], body: &[u8]) -> Result<Waits, AllocError>
+pub fn fate_of(alloc: Global, listed: &BTreeSet<Vec<u8>>, body: &[u8]) -> Result<Waits, AllocError>
     ensures { IfOk result (λ waits. waits ≡ fate_of (blobs_of listed.now) body.now) }
 {
     match read_request(alloc, body) {
@@ -42,7 +30,7 @@ pub fn fate_of(alloc: Global, listed: &[Vec<u8>], body: &[u8]) -> Result<Waits, 
 }
 
 // What a pair waits for after this request.
-fn waits_for(listed: &[Vec<u8>], request: Request<'_>) -> Waits
+fn waits_for(listed: &BTreeSet<Vec<u8>>, request: Request<'_>) -> Waits
     ensures { result ≡ waits_for (blobs_of listed.now) (Ok (client_request request.entry)) }
 {
     match request {

@@ -13,17 +13,18 @@ use crate::places::place_of;
 use crate::slot::{self, Slot};
 use pair_ports::Side;
 use std::alloc::{AllocError, Global};
+use std::collections::BTreeSet;
 use std::marker::Model;
 
 /// The most pairs that are open at once.
 const MOST_PAIRS: usize = 128;
 
-/// A filter: its list, its open pairs, and those that its last step closed. Dropping it wipes what its pairs sent and
+/// A filter: its blobs, its open pairs, and those that its last step closed. Dropping it wipes what its pairs sent and
 /// are owed.
 #[derive(Drop)]
 pub struct Filter {
     alloc: Global,
-    listed: Vec<Vec<u8>>,
+    listed: BTreeSet<Vec<u8>>,
     // By their numbers, which rise.
     slots: Vec<Slot>,
     last: u64,
@@ -37,7 +38,7 @@ impl Model for Filter {
     ghost Value = { State };
 
     ghost view = { λ f. record {
-      listed = blobs_of f.listed.items;
+      listed = blobs_of f.listed;
       pairs = pairs_of f.slots.items;
       last_pair = f.last;
       closes = f.closed.items;
@@ -48,8 +49,8 @@ impl Model for Filter {
 
 impl Filter {
     /// A filter that lets the keys of these blobs be listed and used. Takes no memory.
-    pub fn new(alloc: Global, listed: Vec<Vec<u8>>) -> Filter
-        ensures { result ≡ first_state (map (λ blob. blob.items) listed.items) }
+    pub fn new(alloc: Global, listed: BTreeSet<Vec<u8>>) -> Filter
+        ensures { result ≡ first_state (map (λ blob. blob.items) listed.keys) }
     {
         Filter {
             alloc,

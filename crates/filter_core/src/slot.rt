@@ -19,6 +19,7 @@ use filter_model::Waits;
 use frame_core::Look;
 use pair_ports::Side;
 use std::alloc::{AllocError, Global};
+use std::collections::BTreeSet;
 
 /// An open pair. Dropping it wipes what was heard and what is owed.
 #[derive(Drop)]
@@ -85,7 +86,12 @@ fn drop_sent(slot: &mut Slot, side: Side, count: usize)
 }
 
 // Takes the client's request with a body of this length: refuses or forwards it.
-fn take(alloc: Global, slot: &mut Slot, listed: &[Vec<u8>], body_len: u32) -> Result<(), AllocError>
+fn take(
+    alloc: Global,
+    slot: &mut Slot,
+    listed: &BTreeSet<Vec<u8>>,
+    body_len: u32,
+) -> Result<(), AllocError>
     requires whole { front longest_body slot.old.client.heard ≡ Whole body_len }
     requires quiet { slot.old.waits ≡ waiting.Nothing }
     ensures pair { OnOk result (pair_of slot.new ≡ taken_as
@@ -134,7 +140,11 @@ fn is_free(slot: &Slot) -> bool
 
 // Looks at what the client sent, where it is its turn; tells whether the pair stays open.
 #[tactic(auto, using(crate::proofs::LookLemmas::held_leaves, crate::proofs::LookLemmas::more_leaves, crate::proofs::LookLemmas::bad_leaves, crate::proofs::LookLemmas::taken_leaves, crate::proofs::LookLemmas::free_is_quiet))]
-fn look_at_client(alloc: Global, slot: &mut Slot, listed: &[Vec<u8>]) -> Result<bool, AllocError>
+fn look_at_client(
+    alloc: Global,
+    slot: &mut Slot,
+    listed: &BTreeSet<Vec<u8>>,
+) -> Result<bool, AllocError>
     ensures looked { IfOk result (λ stays. Leaves stays (pair_of slot.new)
         (client_looked (blobs_of listed.now) (pair_of slot.old))) }
     ensures number { slot.new.number ≡ slot.old.number }
@@ -156,7 +166,7 @@ fn look_at_client(alloc: Global, slot: &mut Slot, listed: &[Vec<u8>]) -> Result<
 fn owe_reply(
     alloc: Global,
     slot: &mut Slot,
-    listed: &[Vec<u8>],
+    listed: &BTreeSet<Vec<u8>>,
     body_len: u32,
 ) -> Result<bool, AllocError>
     requires { front longest_body slot.old.upstream.heard ≡ Whole body_len }
@@ -184,7 +194,7 @@ fn owe_reply(
 fn take_answer(
     alloc: Global,
     slot: &mut Slot,
-    listed: &[Vec<u8>],
+    listed: &BTreeSet<Vec<u8>>,
     body_len: u32,
 ) -> Result<bool, AllocError>
     requires { front longest_body slot.old.upstream.heard ≡ Whole body_len }
@@ -203,7 +213,11 @@ fn take_answer(
 
 // Looks at what the upstream sent; tells whether the pair stays open.
 #[tactic(auto, using(crate::proofs::LookLemmas::unasked_leaves, crate::proofs::LookLemmas::upstream_more, crate::proofs::LookLemmas::upstream_bad, crate::proofs::LookLemmas::upstream_whole))]
-fn look_at_upstream(alloc: Global, slot: &mut Slot, listed: &[Vec<u8>]) -> Result<bool, AllocError>
+fn look_at_upstream(
+    alloc: Global,
+    slot: &mut Slot,
+    listed: &BTreeSet<Vec<u8>>,
+) -> Result<bool, AllocError>
     ensures looked { IfOk result (λ stays. Leaves stays (pair_of slot.new)
         (upstream_looked (blobs_of listed.now) (pair_of slot.old))) }
     ensures number { slot.new.number ≡ slot.old.number }
@@ -220,7 +234,7 @@ fn look_at_upstream(alloc: Global, slot: &mut Slot, listed: &[Vec<u8>]) -> Resul
 
 // Looks at both sides, the client's first; tells whether the pair stays open.
 #[tactic(auto, using(crate::proofs::LookLemmas::then_stops, crate::proofs::LookLemmas::then_goes))]
-fn look(alloc: Global, slot: &mut Slot, listed: &[Vec<u8>]) -> Result<bool, AllocError>
+fn look(alloc: Global, slot: &mut Slot, listed: &BTreeSet<Vec<u8>>) -> Result<bool, AllocError>
     ensures looked { IfOk result (λ stays. Leaves stays (pair_of slot.new)
         (looked (blobs_of listed.now) (pair_of slot.old))) }
     ensures number { slot.new.number ≡ slot.old.number }
@@ -235,7 +249,7 @@ fn look(alloc: Global, slot: &mut Slot, listed: &[Vec<u8>]) -> Result<bool, Allo
 fn hear(
     alloc: Global,
     slot: &mut Slot,
-    listed: &[Vec<u8>],
+    listed: &BTreeSet<Vec<u8>>,
     side: Side,
     piece: &[u8],
 ) -> Result<bool, AllocError>
@@ -251,7 +265,7 @@ fn hear(
 fn sent(
     alloc: Global,
     slot: &mut Slot,
-    listed: &[Vec<u8>],
+    listed: &BTreeSet<Vec<u8>>,
     side: Side,
     count: usize,
 ) -> Result<bool, AllocError>
@@ -268,7 +282,7 @@ fn sent(
 pub fn tell(
     alloc: Global,
     slot: &mut Slot,
-    listed: &[Vec<u8>],
+    listed: &BTreeSet<Vec<u8>>,
     event: &FilterEvent<'_>,
 ) -> Result<bool, AllocError>
     requires { FitsPair (happening event.now) (pair_of slot.old) }

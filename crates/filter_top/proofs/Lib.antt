@@ -1,3 +1,4 @@
 pub mod MoveLemmas
 pub mod CallLemmas
 pub mod TopLemmas
+pub mod ListLemmas

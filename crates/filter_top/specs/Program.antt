@@ -1,5 +1,6 @@
 -- What the program does (ours). Read from the end.
 use Rattle.std.specs.Prelude.{◌≡◌, ◌⊎◌, ◌≤◌, ℕ, List, [], ◌∷◌, Option, Some, None, Result, Ok, Err, Vec, length, map}
+use Rattle.std.specs.BTreeSet.{BTreeSet}
 use Rattle.std.specs.String.{string_bytes}
 use Rattle.std.specs.declared.string.String.{String}
 use Rattle.std.specs.declared.alloc.Global.{Global}
@@ -100,8 +101,8 @@ IsListEnd status.Memory = Unit {0}
 IsListEnd status.FileFault = Unit {0}
 
 -- by what a text was read as
-abbrev pub IsReadAs : List ℕ → Result (Vec (Vec ℕ Global) Global) FilterStatus → Type 0
-IsReadAs text (Ok blobs) = blobs_in text ≡ Ok (blobs_of blobs.items)
+abbrev pub IsReadAs : List ℕ → Result (BTreeSet (Vec ℕ Global)) FilterStatus → Type 0
+IsReadAs text (Ok blobs) = blobs_in text ≡ Ok (blobs_of blobs)
 IsReadAs text (Err (status.BadList line fault)) = blobs_in text ≡ Err (line, fault)
 IsReadAs text (Err status.Memory) = Unit {0}
 IsReadAs text (Err other) = ⊥

@@ -1,12 +1,13 @@
 // The list of keys.
-ghost use Rattle.std.specs.Prelude.{◌≡◌, ◌==◌, ◌∷◌, ◌++◌, [], List, ℕ, Ok, MatchOption, MatchResult, position, suc};
+ghost use Rattle.std.specs.Prelude.{◌≡◌, ◌==◌, ◌∷◌, [], List, ℕ, Ok, MatchOption, MatchResult, position, suc};
 ghost use Rattle.key_file.specs.PublicLines.{parts};
 ghost use Rattle.filter_core.specs.Slots.{blobs_of};
-ghost use Rattle.filter_top.specs.Lists.{IsRefusal, Puts, blobs_in, blobs_onto};
+ghost use Rattle.filter_top.specs.Lists.{IsRefusal, Puts, blobs_in, blobs_onto, with_blob};
 ghost use Rattle.filter_top.specs.declared.list.ListFault.TheVariants.{Memory};
 
 use key_file::{PubFault, read_pub_line};
 use std::alloc::Global;
+use std::collections::BTreeSet;
 use std::marker::Model;
 
 /// Why a list is refused.
@@ -75,22 +76,22 @@ impl<'a> Lines<'a> {
     }
 }
 
-// Appends the blob that the line of this number stands for: none where it is empty.
+// Puts the blob that the line of this number stands for: none where it is empty.
 fn put_line(
     alloc: Global,
-    blobs: &mut Vec<Vec<u8>>,
+    blobs: &mut BTreeSet<Vec<u8>>,
     number: u64,
     line: &[u8],
 ) -> Result<(), ListFault>
     ensures { (lines : List (List ℕ)) → Puts result
-        (blobs_onto (blobs_of blobs.old.items) number (line.now ∷ lines))
-        (blobs_onto (blobs_of blobs.new.items) (suc number) lines) }
+        (blobs_onto (blobs_of blobs.old) number (line.now ∷ lines))
+        (blobs_onto (blobs_of blobs.new) (suc number) lines) }
 {
     if line.is_empty() {
         return Ok(());
     }
     match read_pub_line(alloc, line) {
-        Ok(blob) => push(blobs, blob),
+        Ok(blob) => put(blobs, blob),
         Err(PubFault::Memory) => Err(ListFault::Memory),
         Err(fault) => Err(ListFault::Line {
             line: number,
@@ -99,25 +100,25 @@ fn put_line(
     }
 }
 
-// Appends a blob.
-fn push(blobs: &mut Vec<Vec<u8>>, blob: Vec<u8>) -> Result<(), ListFault>
+// Puts a blob in its place.
+fn put(blobs: &mut BTreeSet<Vec<u8>>, blob: Vec<u8>) -> Result<(), ListFault>
     ensures { MatchResult result
-        (λ _. blobs_of blobs.new.items ≡ blobs_of blobs.old.items ++ blob.items ∷ [])
+        (λ _. blobs_of blobs.new ≡ with_blob (blobs_of blobs.old) blob.items)
         (λ fault. fault ≡ Memory) }
 {
-    match blobs.push(blob) {
-        Ok(()) => Ok(()),
-        Err(_) => Err(ListFault::Memory),
-    }
+    let Ok(_) = blobs.insert(blob) else {
+        return Err(ListFault::Memory);
+    };
+    Ok(())
 }
 
-/// The blobs of the keys of a list, in the order of its lines.
-pub fn read_list(alloc: Global, text: &[u8]) -> Result<Vec<Vec<u8>>, ListFault>
+/// The blobs of the keys of a list.
+pub fn read_list(alloc: Global, text: &[u8]) -> Result<BTreeSet<Vec<u8>>, ListFault>
     ensures { MatchResult result
-        (λ blobs. blobs_in text.now ≡ Ok (blobs_of blobs.items))
+        (λ blobs. blobs_in text.now ≡ Ok (blobs_of blobs))
         (λ fault. IsRefusal fault (blobs_in text.now)) }
 {
-    let mut blobs = Vec::new(alloc);
+    let mut blobs = BTreeSet::new(alloc);
     let mut number = 1;
     let mut lines = Lines::of(text);
     'lines: while let Some(line) = lines.next_line() {

@@ -7,6 +7,7 @@ ghost use Rattle.filter_top.specs.declared.status.FilterStatus.TheVariants as st
 use crate::list::{ListFault, read_list};
 use crate::status::FilterStatus;
 use std::alloc::Global;
+use std::collections::BTreeSet;
 use world_ports::{FileFault, Files};
 
 /// The most bytes of a list.
@@ -17,10 +18,10 @@ pub fn read_blobs<F: Files>(
     alloc: Global,
     files: &mut F,
     path: &str,
-) -> Result<Vec<Vec<u8>>, FilterStatus>
+) -> Result<BTreeSet<Vec<u8>>, FilterStatus>
     ensures read { (held : List ℕ → Option (List ℕ)) → (F.seen files.old).held ≡ Some held
         → MatchResult result
-        (λ blobs. IsListOf (held path.now) (blobs_of blobs.items))
+        (λ blobs. IsListOf (held path.now) (blobs_of blobs))
         (λ status. IsRefusedBy status (held path.now)) }
     ensures own { IfErr result (λ status. IsListEnd status) }
     ensures file { result ≡ Err status.FileFault → IsUnread path.now (F.seen files.old) (F.seen files.new) }
@@ -34,7 +35,7 @@ pub fn read_blobs<F: Files>(
 }
 
 // The blobs of the keys of a text, or how the program ends without them.
-fn blobs_in(alloc: Global, text: &[u8]) -> Result<Vec<Vec<u8>>, FilterStatus>
+fn blobs_in(alloc: Global, text: &[u8]) -> Result<BTreeSet<Vec<u8>>, FilterStatus>
     ensures read { IsReadAs text.now result }
     ensures own { IfErr result (λ status. IsListEnd status) }
 {

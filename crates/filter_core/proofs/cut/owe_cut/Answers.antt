@@ -1,4 +1,4 @@
-use Rattle.std.proofs.Common.{◌≡◌, Result, Ok, subst, sym}
+use Rattle.std.proofs.Common.{◌≡◌, Result, subst, sym}
 use Rattle.std.specs.Prelude.{IfOk, OnOk, is_some}
 use Rattle.agent_msg.specs.ReplyReading.{AgentReply, agent_reply}
 use Rattle.agent_msg.specs.declared.agent_reply.ReplyFault.{ReplyFault}

@@ -14,7 +14,7 @@ returns-in-Ok-clause-runs g c = λ held asked words told.
     let read = asked_of c.in-Some.asked in
     let same = asked_once read asked (asked_in (texts_of c.args.words.now)) c.in-Some.ensures words in
     subst (λ (a : Asked). Runs held a c.serve.result (g.P.Pairs.journal c.args.pairs.now) (g.P.Pairs.journal c.serve.new.pairs)) same
-    (ends_with held read (blobs_of c.in-Ok.blobs.items) c.serve.result (g.P.Pairs.journal c.args.pairs.now) (g.P.Pairs.journal c.serve.new.pairs)
+    (ends_with held read (blobs_of c.in-Ok.blobs) c.serve.result (g.P.Pairs.journal c.args.pairs.now) (g.P.Pairs.journal c.serve.new.pairs)
     (c.in-Ok.ensures.read held told)
     (subst (λ (s : State). Serves c.serve.result (at s [] (Binding read.path read.upstream)) (g.P.Pairs.journal c.args.pairs.now) (g.P.Pairs.journal c.serve.new.pairs)) c.new-filter.ensures c.serve.ensures.serves))
 
@@ -40,7 +40,7 @@ returns-in-Ok-clause-passes g c = λ held asked listed words told is.
     let same = asked_once read asked (asked_in (texts_of c.args.words.now)) c.in-Some.ensures words in
     subst (λ (a : Asked). PassesExactly listed a (g.P.Pairs.journal c.args.pairs.now) (g.P.Pairs.journal c.serve.new.pairs)) same
     (passes_by listed read (g.P.Pairs.journal c.args.pairs.now) (g.P.Pairs.journal c.serve.new.pairs)
-    (calls_of (held read.list) listed (blobs_of c.in-Ok.blobs.items) read c.serve.result (g.P.Pairs.journal c.args.pairs.now) (g.P.Pairs.journal c.serve.new.pairs)
+    (calls_of (held read.list) listed (blobs_of c.in-Ok.blobs) read c.serve.result (g.P.Pairs.journal c.args.pairs.now) (g.P.Pairs.journal c.serve.new.pairs)
     (subst (λ (a : Asked). IsListOf (held a.list) listed) (sym same) is) (c.in-Ok.ensures.read held told)
     (subst (λ (s : State). Serves c.serve.result (at s [] (Binding read.path read.upstream)) (g.P.Pairs.journal c.args.pairs.now) (g.P.Pairs.journal c.serve.new.pairs)) c.new-filter.ensures c.serve.ensures.serves)))
 
@@ -50,7 +50,7 @@ returns-in-Ok-clause-fair g c = λ held asked listed words told is.
     let same = asked_once read asked (asked_in (texts_of c.args.words.now)) c.in-Some.ensures words in
     subst (λ (a : Asked). ServesFairly listed a (g.P.Pairs.journal c.args.pairs.now) (g.P.Pairs.journal c.serve.new.pairs)) same
     (fair_by listed read (g.P.Pairs.journal c.args.pairs.now) (g.P.Pairs.journal c.serve.new.pairs)
-    (calls_of (held read.list) listed (blobs_of c.in-Ok.blobs.items) read c.serve.result (g.P.Pairs.journal c.args.pairs.now) (g.P.Pairs.journal c.serve.new.pairs)
+    (calls_of (held read.list) listed (blobs_of c.in-Ok.blobs) read c.serve.result (g.P.Pairs.journal c.args.pairs.now) (g.P.Pairs.journal c.serve.new.pairs)
     (subst (λ (a : Asked). IsListOf (held a.list) listed) (sym same) is) (c.in-Ok.ensures.read held told)
     (subst (λ (s : State). Serves c.serve.result (at s [] (Binding read.path read.upstream)) (g.P.Pairs.journal c.args.pairs.now) (g.P.Pairs.journal c.serve.new.pairs)) c.new-filter.ensures c.serve.ensures.serves)))
 

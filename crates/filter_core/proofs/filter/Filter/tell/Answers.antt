@@ -1,9 +1,9 @@
-use Rattle.std.proofs.Common.{◌∙◌, ◌++◌, ◌∷◌, [], List, ℕ, Vec, Global, ap, set, subst, sym}
+use Rattle.std.proofs.Common.{◌∙◌, List, ℕ, ap, set, subst, sym}
 use Rattle.std.specs.List.{remove}
-use Rattle.filter_model.specs.Filters.{Numbered, told}
+use Rattle.filter_model.specs.Filters.{Numbered}
 use Rattle.filter_core.specs.Happenings.{happening}
 use Rattle.filter_core.specs.declared.slot.Slot.{Slot}
-use Rattle.filter_core.specs.Slots.{IsKept, Leaves, blobs_of, pair_of, pairs_of}
+use Rattle.filter_core.specs.Slots.{IsKept, blobs_of, pair_of, pairs_of}
 use Rattle.filter_core.proofs.SlotLemmas.{after_ok, found_slot, kept-put, kept-remove, kept_rising, put_slot, remove_put, state_of, tells_closed, tells_open, there_put}
 use Rattle.filter_core.proofs.filter.Filter.tell.Goals as goal
 
@@ -37,21 +37,19 @@ invariant_of-self-in-false c =
 pub returns-in-true : goal.returns-in-true
 returns-in-true c =
     let is = rw c.deref.ensures.value at c.in-Some.ensures in
-    rw (← c.self.view_is) (tells_open (blobs_of c.self.inside.listed.items) c.self.inside.slots.items c.self.inside.last c.self.inside.closed.items c.args.pair c.in-Some.place
+    rw (← c.self.view_is) (tells_open (blobs_of c.self.inside.listed) c.self.inside.slots.items c.self.inside.last c.self.inside.closed.items c.args.pair c.in-Some.place
     (happening c.args.event.now) c.index_mut-slot.result.now c.tell.new.slot c.in_ok-tell-in-Some.field-0 is c.index_mut-slot.ensures.value c.tell.ensures.number
-    (subst (λ (l : List (Vec ℕ Global)). Leaves c.in_ok-tell-in-Some.field-0 (pair_of c.tell.new.slot) (told (happening c.args.event.now) (blobs_of l) (pair_of c.index_mut-slot.result.now)))
-    c.deref-in-Some.ensures.value c.in_ok-tell-in-Some.ensures.looked) c.in-true.is (rw (← c.self.view_is) at c.requires.closes))
+    c.in_ok-tell-in-Some.ensures.looked c.in-true.is (rw (← c.self.view_is) at c.requires.closes))
 
 pub returns-in-false : goal.returns-in-false
 returns-in-false c =
     let is = rw c.deref.ensures.value at c.in-Some.ensures in
-    let listed = blobs_of c.self.inside.listed.items in
+    let listed = blobs_of c.self.inside.listed in
     let slots = c.self.inside.slots.items in
     let last = c.self.inside.last in
     rw (← c.self.view_is) (after_ok c.close.result (λ closed.
     ap (λ (l : List Slot). state_of listed l last c.close.new.closed.items) c.close.ensures.slots
     ∙ ap (λ (l : List ℕ). state_of listed (remove (set slots c.in-Some.place c.tell.new.slot) c.in-Some.place) last l) closed
     ∙ tells_closed listed slots last c.self.inside.closed.items c.args.pair c.in-Some.place (happening c.args.event.now) c.index_mut-slot.result.now c.tell.new.slot c.in_ok-tell-in-Some.field-0
-    is c.index_mut-slot.ensures.value c.tell.ensures.number (subst (λ (l : List (Vec ℕ Global)). Leaves c.in_ok-tell-in-Some.field-0 (pair_of c.tell.new.slot) (told (happening c.args.event.now) (blobs_of l) (pair_of c.index_mut-slot.result.now)))
-    c.deref-in-Some.ensures.value c.in_ok-tell-in-Some.ensures.looked) c.in-false.is (rw (← c.self.view_is) at c.requires.closes))
+    is c.index_mut-slot.ensures.value c.tell.ensures.number c.in_ok-tell-in-Some.ensures.looked c.in-false.is (rw (← c.self.view_is) at c.requires.closes))
     (c.close.ensures.closed c.tell.new.slot (there_put _ _ _ _ is c.index_mut-slot.ensures.value c.tell.new.slot)))
