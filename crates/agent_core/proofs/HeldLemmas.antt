@@ -10,7 +10,7 @@ use Rattle.agent_msg.specs.Reading.{request_of}
 use Rattle.agent_model.specs.Binds.{and_host_key}
 use Rattle.wire_text.specs.Bounds.{longest_body}
 use Rattle.agent_model.proofs.BoundLemmas.{private-within, text-within}
-use Rattle.agent_core.specs.Served.{IsShortRequest, IsStatus, IsUsableRequest, asker_of, hides, served_body, served_by}
+use Rattle.agent_core.specs.Served.{IsShortRequest, IsStatus, IsUsableRequest, asker_of, hides, served_body, served_by, sign_work}
 use Rattle.agent_core.specs.declared.asker.Asker.{Asker as CoreAsker}
 use Rattle.std.proofs.lemmas.List.{length-append}
 use Rattle.wire_text.specs.Wire.{string, uint32}
@@ -25,7 +25,10 @@ use Rattle.std.specs.Option.{option_map}
 use Rattle.agent_model.specs.Errands.{Signs, put_unless, raise_unless}
 use Rattle.agent_model.specs.Verdicts.{Cause}
 use Rattle.under_way.specs.Parts.{TellsOf}
-use Rattle.agent_model.specs.Dispatch.{Asker, add_by, add_seen, remove_by, remove_seen, sees, serve, serve_by, with_identities}
+use Rattle.agent_model.specs.Dispatch.{Asker, add_by, add_seen, remove_by, remove_seen, sees, serve, serve_by, sign_by, sign_unless, sign_with, with_identities}
+use Rattle.dest_rule.specs.Rules.{denial_under}
+use Rattle.dest_rule.specs.declared.denial.Denial.{Denial}
+use Rattle.std.specs.Option.{is_none}
 use Rattle.agent_model.specs.State.{UnderWay}
 use Rattle.agent_msg.specs.Replies.{entries_length, identities_length}
 use Rattle.agent_model.specs.KeyStates.{KeyState, after_use, shown}
@@ -145,6 +148,29 @@ served-sign asker signing held under_way = by_lock held.lock
     by_lock : (lock : Option (List ℕ)) → (serve_by lock (Sign signing) (asker_of asker held) held under_way).held ≡ after_use (serve_by lock (Sign signing) (asker_of asker held) held under_way).work.used held
     by_lock None = refl
     by_lock (Some passphrase) = refl
+
+-- what isn't denied is permitted
+pub undenied : (denial : Option Denial) → true ≡ is_none denial → denial ≡ None
+undenied None permits = refl
+undenied (Some denial) permits = absurd (cc)
+
+-- what comes of it where the agent isn't locked, the key is held and its constraints permit it
+pub served-signed : (asker : CoreAsker) (key : HeldKey) (signing : Signing) (held : KeyState) (under_way : UnderWay) → held.lock ≡ None
+    → find_identity signing.blob held.table.identities ≡ Some key
+    → denial_under key.rules signing.blob asker.chain.now.bindings signing.message asker.wall ≡ None
+    → sign_work key.confirm asker.port key signing.message signing.flags under_way
+    ≡ (served_by asker (Sign signing) held under_way).work
+served-signed asker key signing held under_way unlocked found permitted =
+    let client : Asker = asker_of asker held in
+    by_confirm key.confirm
+    ∙ ap (λ blob. sign_with key.confirm client key (record signing { blob = blob }) under_way) (found_has signing.blob held.table.identities key found)
+    ∙ sym (ap (λ denial. sign_unless denial client key signing under_way) permitted)
+    ∙ sym (ap (λ f. sign_by f client signing under_way) found)
+    ∙ sym (ap (λ lock. (serve_by lock (Sign signing) client held under_way).work) unlocked)
+  where
+    by_confirm : (confirm : Bool) → sign_work confirm asker.port key signing.message signing.flags under_way ≡ sign_with confirm (asker_of asker held) key (record signing { blob = key.blob }) under_way
+    by_confirm true = refl
+    by_confirm false = refl
 
 -- where the uses of constraints are limited, there is one at least
 usable_items : (items : List Item) (terms : Terms) → AllByRecursion IsItem items → IfSome terms.uses (λ u. 1 ≤ u) → IfSome (with_items terms items).uses (λ u. 1 ≤ u)

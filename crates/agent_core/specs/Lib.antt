@@ -1,6 +1,5 @@
 pub mod Happenings
 pub mod Owing
-pub mod Awaiting
 pub mod Slots
 pub mod Places
 pub mod Roles

@@ -1,12 +1,9 @@
 //! The agent.
 
 ghost use Rattle.std.specs.Prelude.{◌≡◌, ◌↔◌, IsOk, IsSome, IsTrue, OnErr, OnOk, length};
-ghost use Rattle.std.specs.Option.{option_copied, option_map};
+ghost use Rattle.std.specs.Option.{option_copied};
+ghost use Rattle.helper_link.specs.HelperLink.{newest};
 ghost use Rattle.identity_table.specs.Identities.{IsSound};
-ghost use Rattle.confirm_desk.specs.Confirmations.{find_job, find_linked};
-ghost use Rattle.confirm_desk.specs.Sound as desk;
-ghost use Rattle.agent_core.specs.Awaiting.{awaited_of, held_blob};
-ghost use Rattle.agent_core.specs.Slots.{heard_in};
 ghost use Rattle.agent_model.specs.Actions.{stepped};
 ghost use Rattle.agent_model.specs.Sound.{IsSteady};
 ghost use Rattle.agent_model.specs.State.{Fits, client_count, find_port, next_due, next_owed, owed_of, starts, wants};
@@ -21,8 +18,8 @@ ghost use Rattle.under_way.specs.Times.{limits_of};
 use crate::keys::Keys;
 use crate::parts::Parts;
 use crate::ports::Ports;
-use crate::{Awaited, Event, Settings};
-use confirm_desk::Pending;
+use crate::{Event, Settings};
+use helper_link::Ask;
 use std::alloc::{AllocError, Global};
 use std::marker::Model;
 use under_way::{TimeLimits, UnderWay};
@@ -219,36 +216,11 @@ impl Agent {
         self.parts.under_way.asks()
     }
 
-    /// What was heard at a port and not taken: nothing where it isn't open, nor of a child process that named itself.
-    pub fn unread(&self, port: u64) -> &[u8]
-        ensures { result.now ≡ heard_in (find_port port self.now.state.ports) }
+    /// The ask that was put last of those that are unanswered.
+    pub fn newest_ask(&self) -> Option<&Ask>
+        ensures { option_copied result ≡ newest self.now.state.under_way.link.asks }
     {
-        self.parts.ports.heard(port)
-    }
-
-    /// The signature that waits for the user's consent by this job.
-    pub fn awaited_by(&self, job: u64) -> Option<Awaited>
-        ensures value { result ≡ option_map awaited_of (find_job job self.now.state.under_way.confirmations) }
-        ensures desk { desk.IsSound self.now.state.under_way.confirmations }
-    {
-        self.parts.under_way.find_confirmation(job).map(awaited)
-    }
-
-    /// The signature that waits for the user's consent by the child process at this port.
-    pub fn awaited_at(&self, port: u64) -> Option<Awaited>
-        ensures value { result ≡ option_map awaited_of (find_linked port self.now.state.under_way.confirmations) }
-        ensures desk { desk.IsSound self.now.state.under_way.confirmations }
-    {
-        self.parts.under_way.find_confirmer(port).map(awaited)
-    }
-
-    /// The blob of the key of an addition, where it is held.
-    pub fn blob_of(&self, addition: u64) -> Option<&[u8]>
-        ensures value { option_copied result ≡ held_blob addition self.now.state.held.table.identities }
-        ensures sound { IsSound self.now.state.held.table.identities self.now.state.held.table.last }
-    {
-        let key = self.parts.keys.by_number(addition)?;
-        Some(key.blob())
+        self.parts.under_way.newest_ask()
     }
 
     /// The number of the last port that joined, 0 where none did.
@@ -257,16 +229,6 @@ impl Agent {
         ensures steady { IsSteady self.now.state }
     {
         self.parts.ports.last()
-    }
-}
-
-// Whom a confirmation is for, and the addition of its key.
-fn awaited(one: &Pending) -> Awaited
-    ensures { result ≡ awaited_of one.now }
-{
-    Awaited {
-        port: one.asker(),
-        addition: one.addition(),
     }
 }
 

@@ -132,14 +132,6 @@ impl Keys {
 }
 
 impl Keys {
-    /// The key of an addition, where it is held.
-    pub fn by_number(&self, addition: u64) -> Option<&Identity>
-        ensures value { option_copied result ≡ find_number addition self.now.table.identities }
-        ensures sound { IsSound self.now.table.identities self.now.table.last }
-    {
-        self.table.by_number(addition)
-    }
-
     /// The key of an addition, where it is held yet, the agent isn't locked and the key may sign the message now.
     pub fn find_granted(
         &self,

@@ -6,7 +6,6 @@
 
 mod agent;
 mod asker;
-mod awaited;
 mod children;
 mod confirmer;
 mod counting;
@@ -29,5 +28,4 @@ mod time;
 mod waits;
 
 pub use agent::Agent;
-pub use awaited::Awaited;
 pub use event::{Event, Settings};

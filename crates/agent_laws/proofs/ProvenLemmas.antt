@@ -26,7 +26,7 @@ use Rattle.agent_model.specs.Answers.{Answering, answer_all, answer_asker, answe
 use Rattle.agent_model.specs.Children.{changed}
 use Rattle.agent_model.specs.Consents.{grant_concluded, signing_of, without_confirmation}
 use Rattle.agent_model.specs.Dispatch.{Served}
-use Rattle.agent_model.specs.Errands.{Errand, Signs, Verifies, asking_of, binding_of, kind_of, noted_verification, purpose_of}
+use Rattle.agent_model.specs.Errands.{Errand, Signs, Verifies, asking_of, binding_of, blob_of, kind_of, noted_verification, purpose_of}
 use Rattle.agent_model.specs.Events.{Happening, Tick, Timed}
 use Rattle.agent_model.specs.Fates.{actions_of}
 use Rattle.agent_model.specs.Grants.{IsAmong}
@@ -104,7 +104,7 @@ module _ (errand : Errand) (asker last : ℕ) where
 
   module _ (past : List Action) (second : ℕ) (asks : List Ask) (verifications : List Verification) (rise : RiseTo 0 asks last) (given : AreGiven verifications last) (were : WereAsked past verifications asks) where
     abbrev new : Ask
-    new = ask_of (last + 1) asker (kind_of errand) second
+    new = ask_of (last + 1) asker (kind_of errand) (blob_of errand) second
 
     abbrev noted : List Verification
     noted = noted_verification errand (last + 1)
@@ -157,7 +157,7 @@ record HoldsSo (past : List Action) (last : ℕ) (answering : Answering) (asks :
   right : AnswerTheirAsks past answering.actions
   were : WereAsked (past ++ answering.actions) answering.verifications asks
 
-module _ (past : List Action) (last : ℕ) (one : Settled) (before : Answering) (asks : List Ask) (kind : AskKind) (put_at : ℕ) (found : find_ask one.ask asks ≡ Some (ask_of one.ask one.asker kind put_at)) (holds : HoldsSo past last before asks) where
+module _ (past : List Action) (last : ℕ) (one : Settled) (before : Answering) (asks : List Ask) (kind : AskKind) (blob : List ℕ) (put_at : ℕ) (found : find_ask one.ask asks ≡ Some (ask_of one.ask one.asker kind blob put_at)) (holds : HoldsSo past last before asks) where
   -- the others were asked for
   others : (more : List Action)
       → WereAsked (past ++ (before.actions ++ more)) (remove_verification one.ask before.verifications) (remove_ask one.ask asks)
@@ -180,7 +180,7 @@ module _ (past : List Action) (last : ℕ) (one : Settled) (before : Answering) 
         → AnswerTheirAsks (past ++ before.actions) (Answered one ∷ proved_where_open opened verification)
     proves-right None is = (tt, tt)
     proves-right (Some port) is =
-        let was = holds.were one.ask (ask_of one.ask one.asker kind put_at) verification noted found in
+        let was = holds.were one.ask (ask_of one.ask one.asker kind blob put_at) verification noted found in
         let numbered : port.number ≡ one.asker = found_number one.asker before.ports port is in (
           tt,
           (
@@ -224,7 +224,7 @@ holds-answers past last [] before asks left leads holds =
     subst (HoldsSo past last before) (sym leads) holds
 holds-answers past last (one ∷ later) before asks left leads holds =
     holds-answers past last later (answer_by one.answer one before) (remove_ask one.ask asks) left leads.1
-    (holds-answer past last one before asks (kind_answered one.answer) leads.0.put_at leads.0.found holds one.answer refl)
+    (holds-answer past last one before asks (kind_answered one.answer) leads.0.blob leads.0.put_at leads.0.found holds one.answer refl)
 
 -- ---- events
 

@@ -11,7 +11,7 @@ use Rattle.helper_link.specs.declared.ask.AskKind.TheVariants as kinds
 use Rattle.helper_link.proofs.OrderLemmas.{find-push}
 use Rattle.agent_model.specs.Answers.{find_verification}
 use Rattle.agent_model.specs.Dispatch.{Asker}
-use Rattle.agent_model.specs.Errands.{Errand, Signs, Verifies, binding_of, kind_of, noted_verification}
+use Rattle.agent_model.specs.Errands.{Errand, Signs, Verifies, binding_of, blob_of, kind_of, noted_verification}
 use Rattle.agent_model.specs.Sound.{AreJudged, AreNoted, IsRight}
 use Rattle.agent_model.specs.State.{Port, Verification, find_port}
 use Rattle.agent_model.proofs.BindLemmas.{AreGiven}
@@ -50,7 +50,7 @@ module _ (asker : Asker) (errand : Errand) (last : ℕ) where
   module _ (second : ℕ) (asks : List Ask) (verifications : List Verification) (rise : RiseTo 0 asks last) where
     -- the new ask
     abbrev new : Ask
-    new = ask_of (last + 1) asker.port (kind_of errand) second
+    new = ask_of (last + 1) asker.port (kind_of errand) (blob_of errand) second
 
     abbrev noted : List Verification
     noted = noted_verification errand (last + 1)
@@ -105,7 +105,7 @@ module _ (asker : Asker) (errand : Errand) (last : ℕ) where
     -- each ask to verify has its binding
     pub noted-asked : AreNoted verifications asks
         → AreNoted (verifications ++ noted) (asks ++ new ∷ [])
-    noted-asked noted_before ask who put_at there = by_test (last + 1 == ask) refl (sym (pushed ask) ∙ there)
+    noted-asked noted_before ask who blob put_at there = by_test (last + 1 == ask) refl (sym (pushed ask) ∙ there)
       where
         some_of : (first later : Option Verification) → IsSome first
             → IsSome (option_or first later)
@@ -118,17 +118,17 @@ module _ (asker : Asker) (errand : Errand) (last : ℕ) where
         some_behind (Some one) later some = refl
 
         by_test : (same : Bool) → (last + 1 == ask) ≡ same
-            → cond same (Some new) (find_ask ask asks) ≡ Some (ask_of ask who kinds.Verifying put_at)
+            → cond same (Some new) (find_ask ask asks) ≡ Some (ask_of ask who kinds.Verifying blob put_at)
             → IsSome (find_verification ask (verifications ++ noted))
         by_test true test is =
             let numbered : last + 1 ≡ ask = grind (arith, nat_tests) in
-            let this : new ≡ ask_of ask who kinds.Verifying put_at = cc in
+            let this : new ≡ ask_of ask who kinds.Verifying blob put_at = cc in
             let kind : kind_of errand ≡ kinds.Verifying = ap (λ (a : Ask). a.kind) this in
             subst IsSome (sym (find_verification-append ask verifications noted))
             (some_behind (find_verification ask verifications) (find_verification ask noted) (subst (λ n. IsSome (find_verification n noted)) numbered (noted_new errand kind)))
         by_test false test is =
             subst IsSome (sym (find_verification-append ask verifications noted))
-            (some_of (find_verification ask verifications) (find_verification ask noted) (noted_before ask who put_at is))
+            (some_of (find_verification ask verifications) (find_verification ask noted) (noted_before ask who blob put_at is))
 
     -- and is of an ask that was put
     pub given-asked : MayPut asker errand → AreGiven verifications last

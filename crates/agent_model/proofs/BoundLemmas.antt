@@ -1,5 +1,5 @@
 -- What comes in one body is short, and lists of identities stay short.
-use Rattle.std.proofs.Common.{◌≡◌, ℕ, ◌≤◌, List, ◌++◌, length, ap, arith, inl, inr}
+use Rattle.std.proofs.Common.{ℕ, ◌≤◌, List, ◌++◌, length, ap, arith, inl, inr}
 use Rattle.std.proofs.lemmas.List.{length-append}
 use Rattle.wire_text.specs.Wire.{string}
 use Rattle.wire_text.proofs.WireLemmas.{length-string}

@@ -14,7 +14,7 @@ use Rattle.confirm_desk.specs.Prompt.{prompt_for}
 use Rattle.agent_model.specs.Actions.{Action, Asked, Outcome, Requested}
 use Rattle.agent_model.specs.Children.{changed}
 use Rattle.agent_model.specs.Dispatch.{Served}
-use Rattle.agent_model.specs.Errands.{Errand, addition_of, begun_by, held_for, kind_of, message_of, purpose_of, with_ask, with_confirmation}
+use Rattle.agent_model.specs.Errands.{Errand, addition_of, begun_by, held_for, blob_of, kind_of, message_of, purpose_of, with_ask, with_confirmation}
 use Rattle.agent_model.specs.Events.{Happening, Ended}
 use Rattle.agent_model.specs.Fates.{IsTold, Unanswered, fate_of, fate_verdict}
 use Rattle.agent_model.specs.KeyStates.{KeyState, after_use}
@@ -119,11 +119,11 @@ module _ (event : Happening) (body : List ℕ) (take : Port → Port) (mild : Is
       let verdict : Verdict = Awaits (OnAsk (link.last + 1)) in
       let new : UnderWay = with_ask errand port.number state.under_way in
       record {
-        tied = assemble state (left held new verdict) (follows-left held new verdict) tied (push_rises 0 link.asks link.last port.number (kind_of errand) state.under_way.second tied.order)
+        tied = assemble state (left held new verdict) (follows-left held new verdict) tied (push_rises 0 link.asks link.last port.number (kind_of errand) (blob_of errand) state.under_way.second tied.order)
             (subst (λ ports. AreTied ports new.link.asks) (twice verdict)
-            (tied-asked state.ports link.asks tied.tied port.number 0 link.last (kind_of errand) state.under_way.second port (change verdict) tied.order found (waits_not OnAsk (λ n is. absurd (cc)) port found) owed door mild.number mild.door (λ p. refl) (λ p none. ap (λ bytes. bytes ++ []) (mild.owed p none))))
-            (λ ask one is. new_asker (link.last + 1 == ask) (find_ask ask link.asks) (ask_of (link.last + 1) port.number (kind_of errand) state.under_way.second) one state.last_port (found_within port.number 0 state.last_port state.ports port tied.rising found) (tied.askers ask)
-            (sym (find-push ask 0 (ask_of (link.last + 1) port.number (kind_of errand) state.under_way.second) link.asks link.last tied.order (omega arith)) ∙ is))
+            (tied-asked state.ports link.asks tied.tied port.number 0 link.last (kind_of errand) (blob_of errand) state.under_way.second port (change verdict) tied.order found (waits_not OnAsk (λ n is. absurd (cc)) port found) owed door mild.number mild.door (λ p. refl) (λ p none. ap (λ bytes. bytes ++ []) (mild.owed p none))))
+            (λ ask one is. new_asker (link.last + 1 == ask) (find_ask ask link.asks) (ask_of (link.last + 1) port.number (kind_of errand) (blob_of errand) state.under_way.second) one state.last_port (found_within port.number 0 state.last_port state.ports port tied.rising found) (tied.askers ask)
+            (sym (find-push ask 0 (ask_of (link.last + 1) port.number (kind_of errand) (blob_of errand) state.under_way.second) link.asks link.last tied.order (omega arith)) ∙ is))
             (λ n is. linked-begun link.state (state.under_way.last_job + 1) n is)
             (subst (λ ports. AreRaised state.under_way.confirmations new.last_job ports state.last_port) (twice verdict)
             (raised-later state.under_way.last_job new.last_job state.last_port state.last_port (jobs-for link.state state.under_way.last_job) (omega arith) (quiet verdict (λ job is. absurd (cc)))));

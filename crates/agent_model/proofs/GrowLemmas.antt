@@ -9,7 +9,7 @@ use Rattle.helper_link.specs.declared.state.LinkState.{LinkState}
 use Rattle.helper_link.specs.declared.state.LinkState.TheVariants as states
 use Rattle.agent_model.specs.Asking.{JobsRise}
 use Rattle.agent_model.specs.Dispatch.{Asker, Served}
-use Rattle.agent_model.specs.Errands.{Errand, begun_by, held_for, kind_of, last_job_for, put_unless}
+use Rattle.agent_model.specs.Errands.{Errand, begun_by, held_for, blob_of, kind_of, last_job_for, put_unless}
 use Rattle.agent_model.specs.KeyStates.{KeyState}
 use Rattle.agent_model.specs.State.{UnderWay, is_linked_to}
 use Rattle.agent_model.specs.Verdicts.{Cause}
@@ -54,7 +54,7 @@ more-put None errand asker under_way = record {
   order = jobs-higher 0 under_way.confirmations under_way.last_job _ (jobs-for under_way.link.state under_way.last_job);
   jobs = jobs-for under_way.link.state under_way.last_job;
   asks = omega arith;
-  few = omega (arith, length-append under_way.link.asks (ask_of (under_way.link.last + 1) asker (kind_of errand) under_way.second ∷ []));
+  few = omega (arith, length-append under_way.link.asks (ask_of (under_way.link.last + 1) asker (kind_of errand) (blob_of errand) under_way.second ∷ []));
 }
 
 -- a confirmation whose child process hasn't come is nobody's

@@ -22,7 +22,7 @@ use Rattle.agent_model.proofs.GrantLemmas.{IsGranted, allowed, disallowed, grant
 use Rattle.agent_model.specs.Actions.{Action, Answered, Granted, Lost, Outcome, Requested, Work, acted, and_then, behind}
 use Rattle.agent_model.specs.Answers.{Answering, answer_all, answer_by, lose_if, with_answers}
 use Rattle.agent_model.specs.Dispatch.{Asker, Served}
-use Rattle.agent_model.specs.Errands.{Errand, Signs, kind_of, with_ask}
+use Rattle.agent_model.specs.Errands.{Errand, Signs, blob_of, kind_of, with_ask}
 use Rattle.agent_model.specs.Events.{Happening, Timed}
 use Rattle.agent_model.specs.Fates.{Fails, Fate, Gets, Unanswered, actions_of, answers_by, asks_by, fate_of, or_later, times_answered, times_asked}
 use Rattle.agent_model.specs.KeyStates.{KeyState}
@@ -200,7 +200,7 @@ module _ (ask : ℕ) where
   spent_served first_action answers asks rise (refused cause) =
       record { answered = omega (arith, answers); asked = omega (arith, asks) }
   spent_served {asker = asker} {under_way = under_way} first_action answers asks rise (asked errand free right) =
-      let put = spent_put under_way.link (with_ask errand asker.port under_way).link (ask_of (under_way.link.last + 1) asker.port (kind_of errand) under_way.second) rise refl refl refl in
+      let put = spent_put under_way.link (with_ask errand asker.port under_way).link (ask_of (under_way.link.last + 1) asker.port (kind_of errand) (blob_of errand) under_way.second) rise refl refl refl in
       record { answered = omega (arith, answers, put.0); asked = omega (arith, asks, put.1) }
   spent_served first_action answers asks rise (raised key signing free) =
       record { answered = omega (arith, answers); asked = omega (arith, asks) }
@@ -216,7 +216,7 @@ module _ (ask : ℕ) where
       record { answered = omega (arith, answers); asked = omega (arith, asks) }
   spent_granted {confirmation = confirmation} {under_way = under_way} first_action answers asks rise (allowed key may free) =
       let errand : Errand = Signs key (signing_of key confirmation) in
-      let put = spent_put under_way.link (with_ask errand confirmation.asker under_way).link (ask_of (under_way.link.last + 1) confirmation.asker (kind_of errand) under_way.second) rise refl refl refl in
+      let put = spent_put under_way.link (with_ask errand confirmation.asker under_way).link (ask_of (under_way.link.last + 1) confirmation.asker (kind_of errand) (blob_of errand) under_way.second) rise refl refl refl in
       record { answered = omega (arith, answers, put.0); asked = omega (arith, asks, put.1) }
 
   spent_makes : {event : Happening} {old : State} {outcome : Outcome} → Makes event old outcome

@@ -1,6 +1,6 @@
 -- A piece of a client's bytes whose first part holds a whole request, or a bad length.
-use Rattle.std.proofs.Common.{◌≡◌, ℕ, ◌+◌, ◌-◌, ◌≤◌, List, [], ◌∷◌, ◌++◌, length, take, drop, refl, ap, arith, sym, ◌∙◌, Option, Some, None, is_some, if◌then◌else◌}
-use Rattle.std.proofs.lemmas.List.{append-nil, append_assoc, drop-append-le, length-drop, take-append-le}
+use Rattle.std.proofs.Common.{◌≡◌, ℕ, List, [], ◌∷◌, ◌++◌, refl, ap, sym, ◌∙◌, Option, Some, None, is_some, if◌then◌else◌}
+use Rattle.std.proofs.lemmas.List.{append-nil, append_assoc}
 use Rattle.std.specs.Option.{IfSome, option_map}
 use Rattle.wire_text.specs.Frames.{Front, front, front_body, after_front, Whole, Bad, More}
 use Rattle.wire_text.proofs.FrontLemmas.{front-append_bad, front-append_whole}

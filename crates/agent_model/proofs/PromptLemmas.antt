@@ -23,7 +23,7 @@ use Rattle.agent_model.specs.Actions.{Outcome, Work}
 use Rattle.agent_model.specs.Answers.{answers_in, lose_if, with_answers}
 use Rattle.agent_model.specs.Consents.{signing_of, without_confirmation}
 use Rattle.agent_model.specs.Dispatch.{Asker, Served}
-use Rattle.agent_model.specs.Errands.{Errand, Signs, held_for, kind_of, with_ask}
+use Rattle.agent_model.specs.Errands.{Errand, Signs, held_for, blob_of, kind_of, with_ask}
 use Rattle.agent_model.specs.Events.{Happening}
 use Rattle.agent_model.specs.KeyStates.{KeyState}
 use Rattle.agent_model.specs.State.{State, TimeLimits, UnderWay}
@@ -110,7 +110,7 @@ module _ (limits : TimeLimits) (second : ℕ) (time : GiveTime limits) where
   prompt-asked errand asker under_way prompt = record {
     limits = prompt.limits;
     second = prompt.second;
-    helper = asks-push limits.ask second under_way.link.asks (ask_of (under_way.link.last + 1) asker (kind_of errand) under_way.second) prompt.helper
+    helper = asks-push limits.ask second under_way.link.asks (ask_of (under_way.link.last + 1) asker (kind_of errand) (blob_of errand) under_way.second) prompt.helper
         (not_at_once limits.ask under_way.second second time.ask prompt.second);
     user = prompt.user;
   }

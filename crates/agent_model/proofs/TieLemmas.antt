@@ -121,9 +121,10 @@ module _ (ports : List Port) (asks : List Ask) (tied : AreTied ports asks) where
           absurd (silent old a (ap (λ (p : Port). p.waits) (sym is) ∙ waits))
       by_port number a port (apart other was) waits =
           let waiting = tied.waits number a port was waits in
-          let differs : ask ≢ a = λ same. other (sym (one_asker ask a (ask_of ask asker kind there.put_at) (ask_of a number waiting.kind waiting.put_at) same there.found waiting.unanswered)) in
+          let differs : ask ≢ a = λ same. other (sym (one_asker ask a (ask_of ask asker kind there.blob there.put_at) (ask_of a number waiting.kind waiting.blob waiting.put_at) same there.found waiting.unanswered)) in
           record {
             kind = waiting.kind;
+            blob = waiting.blob;
             put_at = waiting.put_at;
             unanswered = find-remove a ask low asks last rise ∙ ap (λ b. cond b None (find_ask a asks)) (differ ask a differs) ∙ waiting.unanswered;
             owed = waiting.owed;
@@ -142,7 +143,7 @@ module _ (ports : List Port) (asks : List Ask) (tied : AreTied ports asks) where
         where
           by_other : ask ≢ a → find_ask a asks ≡ Some one → IsOf one.asker asker f ports port
               → port.waits ≡ OnAsk a
-          by_other differs was (here old same found is) = absurd (differs (sym (one_ask a ask one (ask_of ask asker kind there.put_at) old was there.found same found)))
+          by_other differs was (here old same found is) = absurd (differs (sym (one_ask a ask one (ask_of ask asker kind there.blob there.put_at) old was there.found same found)))
           by_other differs was (apart other found) = tied.asks a one port was found
 
   -- a client that doesn't wait for an ask is told something, and waits for none
@@ -168,19 +169,20 @@ module _ (ports : List Port) (asks : List Ask) (tied : AreTied ports asks) where
       by_ask a one p was (apart other found) = tied.asks a one p was found
 
   -- a client that doesn't wait for an ask and is owed nothing puts one
-  pub tied-asked : (number low last : ℕ) (kind : AskKind) (now : ℕ) (port : Port) (f : Port → Port)
+  pub tied-asked : (number low last : ℕ) (kind : AskKind) (blob : List ℕ) (now : ℕ)
+      (port : Port) (f : Port → Port)
       → RiseTo low asks last → find_port number ports ≡ Some port → ((a : ℕ) → port.waits ≢ OnAsk a)
       → port.owed ≡ [] → port.door ≡ Clients → ((p : Port) → (f p).number ≡ p.number)
       → ((p : Port) → (f p).door ≡ p.door) → ((p : Port) → (f p).waits ≡ OnAsk (last + 1))
       → ((p : Port) → p.owed ≡ [] → (f p).owed ≡ [])
-      → AreTied (change_port number f ports) (asks ++ ask_of (last + 1) number kind now ∷ [])
-  tied-asked number low last kind now port f rise there nothing owed door keeps doors waits owes = record {
+      → AreTied (change_port number f ports) (asks ++ ask_of (last + 1) number kind blob now ∷ [])
+  tied-asked number low last kind blob now port f rise there nothing owed door keeps doors waits owes = record {
     waits = λ n a p found is. by_port n a p (found_after n number f ports p keeps found) is;
     asks = λ a one p found at. by_ask a one p (sym (pushed a) ∙ found) (found_after one.asker number f ports p keeps at);
   }
     where
       new : Ask
-      new = ask_of (last + 1) number kind now
+      new = ask_of (last + 1) number kind blob now
 
       pushed : (a : ℕ)
           → find_ask a (asks ++ new ∷ []) ≡ cond (last + 1 == a) (Some new) (find_ask a asks)
@@ -199,8 +201,9 @@ module _ (ports : List Port) (asks : List Ask) (tied : AreTied ports asks) where
           let old_is : old ≡ port = is_port n old same was in
           record {
             kind = kind;
+            blob = blob;
             put_at = now;
-            unanswered = pushed a ∙ ap (λ b. cond b (Some new) (find_ask a asks)) test ∙ ap (λ m. Some (ask_of m number kind now)) equal ∙ ap (λ m. Some (ask_of a m kind now)) (sym same);
+            unanswered = pushed a ∙ ap (λ b. cond b (Some new) (find_ask a asks)) test ∙ ap (λ m. Some (ask_of m number kind blob now)) equal ∙ ap (λ m. Some (ask_of a m kind blob now)) (sym same);
             owed =
                 ap (λ (q : Port). q.owed) is ∙ owes old (ap (λ (q : Port). q.owed) old_is ∙ owed);
             door =
@@ -211,6 +214,7 @@ module _ (ports : List Port) (asks : List Ask) (tied : AreTied ports asks) where
           let within = ask_within a low last asks _ rise w.unanswered in
           record {
             kind = w.kind;
+            blob = w.blob;
             put_at = w.put_at;
             unanswered = pushed a ∙ ap (λ b. cond b (Some new) (find_ask a asks)) (differ (last + 1) a (λ same. omega (arith, same, within.1))) ∙ w.unanswered;
             owed = w.owed;

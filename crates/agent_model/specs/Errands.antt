@@ -75,6 +75,11 @@ abbrev pub kind_of : Errand → AskKind
 kind_of (Signs key signing) = asks.Signing
 kind_of (Verifies bind is_new) = asks.Verifying
 
+-- the blob of the key that is to sign, or whose signature is to be verified
+abbrev pub blob_of : Errand → List ℕ
+blob_of (Signs key signing) = signing.blob
+blob_of (Verifies bind is_new) = bind.host_key
+
 -- its message, for an ask's number
 abbrev pub message_of : Errand → ℕ → ToChildMessage
 message_of (Signs key signing) = sign_request key.private key.blob signing.message signing.flags
@@ -111,7 +116,7 @@ ask_fault under_way =
 -- what is under way once an ask is put
 abbrev pub with_ask : Errand → ℕ → UnderWay → UnderWay
 with_ask errand asker under_way = record under_way {
-  link = submitted (kind_of errand) asker (message_of errand) under_way.second
+  link = submitted (kind_of errand) asker (blob_of errand) (message_of errand) under_way.second
       (link_begun (under_way.last_job + 1) under_way.link);
   to_start = under_way.to_start ++ helper_jobs under_way.link.state (under_way.last_job + 1);
   verifications = under_way.verifications ++ noted_verification errand (under_way.link.last + 1);

@@ -56,7 +56,7 @@ AreJudged ports verifications asks = (ask : ℕ) (what : Ask) (one : Verificatio
 -- each ask to verify has its binding
 abbrev pub AreNoted : List Verification → List Ask → Type 0
 AreNoted verifications asks =
-    (ask asker put_at : ℕ) → find_ask ask asks ≡ Some (ask_of ask asker kinds.Verifying put_at)
+    (ask asker : ℕ) (blob : List ℕ) (put_at : ℕ) → find_ask ask asks ≡ Some (ask_of ask asker kinds.Verifying blob put_at)
     → IsSome (find_verification ask verifications)
 
 -- each binding's session is its own
@@ -82,8 +82,9 @@ pub record IsJudged (state : State) : Type 0 where
 -- the client of this port put this ask, which is unanswered, and is owed nothing
 pub record IsWaiting (number ask : ℕ) (port : Port) (asks : List Ask) : Type 0 where
   pub kind : AskKind
+  pub blob : List ℕ
   pub put_at : ℕ
-  pub unanswered : find_ask ask asks ≡ Some (ask_of ask number kind put_at)
+  pub unanswered : find_ask ask asks ≡ Some (ask_of ask number kind blob put_at)
   pub owed : port.owed ≡ []
   pub door : port.door ≡ Clients
 

@@ -1,11 +1,7 @@
 pub mod AdvanceLemmas
-pub mod SeenLemmas
-pub mod SinceLemmas
-pub mod ForesightLemmas
+pub mod NewestLemmas
 pub mod MismatchLemmas
 pub mod CompareLemmas
-pub mod ClaimLemmas
-pub mod NotedLemmas
 pub mod HistoryLemmas
 pub mod WritingLemmas
 pub mod ReportLemmas

@@ -6,7 +6,7 @@ pub mod Passes
 pub mod Writing
 pub mod Words
 pub mod Program
--- of private functions: what an event may put
-pub mod Claims
+-- what an event puts, as the agent tells it
+pub mod Newest
 -- of the laws
 pub mod Rows

@@ -3,14 +3,15 @@ ghost use Rattle.std.specs.Prelude.{◌≡◌, ◌++◌, OnOk, []};
 ghost use Rattle.agent_core.specs.Happenings.{happening};
 ghost use Rattle.agent_model.specs.State.{Fits};
 ghost use Rattle.agent_model.specs.Step.{step};
-ghost use Rattle.audit_core.specs.Claims.{put_since, put_under};
+ghost use Rattle.audit_core.specs.Newest.{put_as, put_since};
 ghost use Rattle.audit_core.specs.Puts.{puts_by, puts_in};
 ghost use Rattle.audit_core.specs.declared.put.Put.{Put};
 ghost use Rattle.replay_run.specs.Settling.{after_event, closed_at};
 
 use crate::Put;
-use crate::claim::{Claim, foresee};
 use agent_core::{Agent, Event};
+use helper_link::{Ask, AskKind};
+use plain_lists::Bytes;
 use replay_run::Watch;
 use schedule_text::LineFault;
 use std::alloc::{AllocError, Global};
@@ -32,42 +33,48 @@ impl Noting {
     }
 }
 
-// Notes a signing request that was put under this number.
-fn note(puts: &mut Vec<Put>, line: u64, ask: u64, claim: Option<Claim>) -> Result<(), AllocError>
-    ensures { OnOk result (puts.new.items ≡ puts.old.items ++ put_under line ask claim) }
+// Notes an ask for a signature.
+fn note(alloc: Global, puts: &mut Vec<Put>, line: u64, ask: &Ask) -> Result<(), AllocError>
+    ensures { OnOk result (puts.new.items ≡ puts.old.items ++ put_as line ask.now ask.now.kind) }
 {
-    let Some(claim) = claim else {
-        return Ok(());
-    };
-    let Claim { port, blob } = claim;
-    puts.push(Put {
-        line,
-        ask,
-        port,
-        blob,
-    })?;
-    Ok(())
+    match ask.kind {
+        AskKind::Signing => {
+            let blob = Bytes::from_vec(Vec::from_slice(alloc, ask.blob.as_slice())?);
+            puts.push(Put {
+                line,
+                ask: ask.number,
+                port: ask.asker,
+                blob,
+            })?;
+            Ok(())
+        }
+        AskKind::Verifying => Ok(()),
+    }
 }
 
-// Notes what was foreseen, where the number of asks isn't what it was.
+// Notes the newest ask, where the last one before had another number.
 fn note_since(
+    alloc: Global,
     puts: &mut Vec<Put>,
     line: u64,
     before: u64,
-    after: u64,
-    claim: Option<Claim>,
+    agent: &Agent,
 ) -> Result<(), AllocError>
-    ensures { OnOk result (puts.new.items ≡ puts.old.items ++ put_since line claim before after) }
+    ensures { OnOk result (puts.new.items
+        ≡ puts.old.items ++ put_since line before agent.now.state.under_way.link) }
 {
-    if before == after {
+    if agent.asks() == before {
         return Ok(());
     }
-    note(puts, line, after, claim)
+    match agent.newest_ask() {
+        Some(ask) => note(alloc, puts, line, ask),
+        None => Ok(()),
+    }
 }
 
 // Takes one step of the agent, and notes what it puts at this line: an event puts one ask at most, and where the number
-// of asks rose it is the one that was foreseen, or none for a signature.
-#[tactic(auto, using(crate::proofs::NotedLemmas::noted))]
+// of asks rose it is the newest.
+#[tactic(auto, using(crate::proofs::NewestLemmas::noted))]
 fn note_step(
     alloc: Global,
     agent: &mut Agent,
@@ -84,11 +91,9 @@ fn note_step(
     ensures puts { OnOk result (puts.new.items ≡ puts.old.items
         ++ puts_by line (step agent.old.state moment (happening event.now)).actions) }
 {
-    let foreseen = foresee(alloc, agent, event)?;
     let before = agent.asks();
     agent.step(moment, event)?;
-    let after = agent.asks();
-    note_since(puts, line, before, after, foreseen)
+    note_since(alloc, puts, line, before, agent)
 }
 
 impl Watch for Noting {

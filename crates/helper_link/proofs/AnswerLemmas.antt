@@ -47,11 +47,12 @@ found_leads kind number answer (Some ask) asks is at = by_test (same_kind kind a
         (Stops (WrongKind number))) asks
     by_test true same = (
       record {
+        blob = ask.blob;
         put_at = ask.put_at;
         found =
-            at ∙ ap (λ (n : ℕ). Some (ask_of n ask.asker ask.kind ask.put_at))
+            at ∙ ap (λ (n : ℕ). Some (ask_of n ask.asker ask.kind ask.blob ask.put_at))
             (found_key number_of number asks ask at)
-            ∙ ap (λ (k : AskKind). Some (ask_of number ask.asker k ask.put_at))
+            ∙ ap (λ (k : AskKind). Some (ask_of number ask.asker k ask.blob ask.put_at))
             (kinds_are kind ask.kind same ∙ is);
       },
       refl,

@@ -9,8 +9,8 @@ pub numbers_rise : (calls : List Call) (link : HelperLink) →
 numbers_rise [] link = tt
 numbers_rise (Begin job ∷ calls) link = numbers_rise calls (after_call (Begin job) link)
 numbers_rise (Come port ∷ calls) link = numbers_rise calls (after_call (Come port) link)
-numbers_rise (Submit kind asker request now ∷ calls) link =
-    (omega arith, numbers_rise calls (after_call (Submit kind asker request now) link))
+numbers_rise (Submit kind asker blob request now ∷ calls) link =
+    (omega arith, numbers_rise calls (after_call (Submit kind asker blob request now) link))
 numbers_rise (Send count ∷ calls) link = numbers_rise calls (after_call (Send count) link)
 numbers_rise (Tell piece ∷ calls) link = numbers_rise calls (after_call (Tell piece) link)
 numbers_rise (Lose ∷ calls) link = numbers_rise calls (after_call (Lose) link)

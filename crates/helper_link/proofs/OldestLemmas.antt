@@ -1,6 +1,5 @@
 -- The oldest of asks: which it is, and that it stands first where none was put before the one that stands before it.
 use Rattle.std.proofs.Common.{◌≡◌, ℕ, ◌≤◌, min, Bool, true, false, cond, eqb, List, [], ◌∷◌, Option, Some, None, IsSome, All, slice_get, refl, sym, ap, ◌∙◌, arith}
-use Rattle.std.specs.Option.{option_map}
 use Rattle.std.proofs.lemmas.Bool.Decides.{nat_tests}
 use Rattle.std.proofs.lemmas.List.Elements.{All-cons}
 use Rattle.std.proofs.Math.Nat.{min-eq_left}

@@ -11,11 +11,11 @@ use Rattle.helper_link.specs.declared.ask.Ask.{Ask}
 use Rattle.helper_link.specs.declared.ask.AskKind.{AskKind}
 
 -- the next number is above them all
-pub push_rises : (below : ℕ) (asks : List Ask) (last : ℕ) (asker : ℕ) (kind : AskKind) (now : ℕ) →
+pub push_rises : (below : ℕ) (asks : List Ask) (last : ℕ) (asker : ℕ) (kind : AskKind) (blob : List ℕ) (now : ℕ) →
     RiseTo below asks last →
-    RiseTo below (asks ++ (ask_of (last + 1) asker kind now ∷ [])) (last + 1)
-push_rises below asks last asker kind now rise =
-    rise-push number_of below last asks (ask_of (last + 1) asker kind now) (omega arith) rise
+    RiseTo below (asks ++ (ask_of (last + 1) asker kind blob now ∷ [])) (last + 1)
+push_rises below asks last asker kind blob now rise =
+    rise-push number_of below last asks (ask_of (last + 1) asker kind blob now) (omega arith) rise
 
 -- one ask less
 pub remove_rises : (number below : ℕ) (asks : List Ask) (last : ℕ) → RiseTo below asks last →

@@ -18,16 +18,16 @@ pub put_by_later : (now later : ℕ) (asks : List Ask) → now ≤ later → Are
 put_by_later now later asks before put = up_to-higher second_of now later asks before put
 
 -- one ask more, put by then
-pub put_by_push : (now second number asker : ℕ) (kind : AskKind) (asks : List Ask) → second ≤ now →
-    ArePutBy now asks → ArePutBy now (asks ++ (ask_of number asker kind second ∷ []))
-put_by_push now second number asker kind asks before put =
-    up_to-push second_of now asks (ask_of number asker kind second) before put
+pub put_by_push : (now second number asker : ℕ) (kind : AskKind) (blob : List ℕ) (asks : List Ask) → second ≤ now →
+    ArePutBy now asks → ArePutBy now (asks ++ (ask_of number asker kind blob second ∷ []))
+put_by_push now second number asker kind blob asks before put =
+    up_to-push second_of now asks (ask_of number asker kind blob second) before put
 
-pub put_by_submitted : (kind : AskKind) (asker : ℕ) (request : ℕ → ToChildMessage) (now : ℕ)
+pub put_by_submitted : (kind : AskKind) (asker : ℕ) (blob : List ℕ) (request : ℕ → ToChildMessage) (now : ℕ)
     (link : HelperLink) → ArePutBy now link.asks →
-    ArePutBy now (submitted kind asker request now link).asks
-put_by_submitted kind asker request now link put =
-    put_by_push now now (link.last + 1) asker kind link.asks (omega arith) put
+    ArePutBy now (submitted kind asker blob request now link).asks
+put_by_submitted kind asker blob request now link put =
+    put_by_push now now (link.last + 1) asker kind blob link.asks (omega arith) put
 
 -- one ask less
 pub put_by_remove : (now number : ℕ) (asks : List Ask) → ArePutBy now asks →

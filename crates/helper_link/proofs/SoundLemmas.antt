@@ -38,31 +38,31 @@ quiet_asked (states.Starting job) old new some same quiet = same ∙ quiet
 quiet_asked (states.Linked port) old new some same quiet = tt
 
 -- one ask more, where there is room, whatever is to be sent
-pub IsSound-push : (kind : AskKind) (asker now : ℕ) (owed : List ℕ) (link : HelperLink) →
+pub IsSound-push : (kind : AskKind) (asker : ℕ) (blob : List ℕ) (now : ℕ) (owed : List ℕ) (link : HelperLink) →
     link.state ≢ states.None →
     length link.asks < most_asks → ArePutBy now link.asks → IsSound link →
     IsSound (record link {
-      asks = link.asks ++ (ask_of (link.last + 1) asker kind now ∷ []);
+      asks = link.asks ++ (ask_of (link.last + 1) asker kind blob now ∷ []);
       last = link.last + 1;
       owed = owed;
     })
-IsSound-push kind asker now owed link some room later sound = record {
+IsSound-push kind asker blob now owed link some room later sound = record {
   quiet = quiet_asked link.state link _ some refl sound.quiet;
-  few = omega (arith, length-append link.asks (ask_of (link.last + 1) asker kind now ∷ []), room);
-  order = push_rises 0 link.asks link.last asker kind now sound.order;
+  few = omega (arith, length-append link.asks (ask_of (link.last + 1) asker kind blob now ∷ []), room);
+  order = push_rises 0 link.asks link.last asker kind blob now sound.order;
   seconds =
-      never_fall-push second_of 0 link.asks (ask_of (link.last + 1) asker kind now) (omega arith) later
+      never_fall-push second_of 0 link.asks (ask_of (link.last + 1) asker kind blob now) (omega arith) later
       sound.seconds;
   part = sound.part;
 }
 
 -- the same, by the fault
-pub IsSound-submitted : (kind : AskKind) (asker : ℕ) (request : ℕ → ToChildMessage) (now : ℕ)
+pub IsSound-submitted : (kind : AskKind) (asker : ℕ) (blob : List ℕ) (request : ℕ → ToChildMessage) (now : ℕ)
     (link : HelperLink) → link.state ≢ states.None →
     ask_fault link ≡ None → ArePutBy now link.asks → IsSound link →
-    IsSound (submitted kind asker request now link)
-IsSound-submitted kind asker request now link some fault later sound =
-    IsSound-push kind asker now (submitted kind asker request now link).owed link some
+    IsSound (submitted kind asker blob request now link)
+IsSound-submitted kind asker blob request now link some fault later sound =
+    IsSound-push kind asker blob now (submitted kind asker blob request now link).owed link some
     (few_if (nat_lt (most_asks - 1) (length link.asks)) (link.last == 2 ^ 64 - 1)
     (length link.asks) refl fault) later sound
 

@@ -10,7 +10,7 @@ use Rattle.helper_link.specs.declared.ask.AskKind.{AskKind}
 pub data Call : Type 0 where
   Begin : (job : ℕ) → Call
   Come : (port : ℕ) → Call
-  Submit : (kind : AskKind) (asker : ℕ) (request : ℕ → ToChildMessage) (now : ℕ) → Call
+  Submit : (kind : AskKind) (asker : ℕ) (blob : List ℕ) (request : ℕ → ToChildMessage) (now : ℕ) → Call
   Send : (count : ℕ) → Call
   Tell : (piece : List ℕ) → Call
   Lose : Call
@@ -19,7 +19,7 @@ pub data Call : Type 0 where
 abbrev pub after_call : Call → HelperLink → HelperLink
 after_call (Begin job) link = begun job link
 after_call (Come port) link = linked_to port link
-after_call (Submit kind asker request now) link = submitted kind asker request now link
+after_call (Submit kind asker blob request now) link = submitted kind asker blob request now link
 after_call (Send count) link = sent count link
 after_call (Tell piece) link = (telling piece link).link
 after_call Lose link = lost link
@@ -28,7 +28,7 @@ after_call Lose link = lost link
 abbrev pub numbered : Call → HelperLink → List ℕ → List ℕ
 numbered (Begin job) link later = later
 numbered (Come port) link later = later
-numbered (Submit kind asker request now) link later = (link.last + 1) ∷ later
+numbered (Submit kind asker blob request now) link later = (link.last + 1) ∷ later
 numbered (Send count) link later = later
 numbered (Tell piece) link later = later
 numbered Lose link later = later

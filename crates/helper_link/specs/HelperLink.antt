@@ -1,5 +1,5 @@
 -- The link to the helper process, as plain values (ours).
-use Rattle.std.specs.Prelude.{◌≡◌, ℕ, ◌+◌, ◌-◌, ◌^◌, ◌==◌, nat_lt, Bool, true, false, List, [], ◌∷◌, ◌++◌, Option, Some, None, drop, length, map, min}
+use Rattle.std.specs.Prelude.{◌≡◌, ℕ, ◌+◌, ◌-◌, ◌^◌, ◌==◌, nat_lt, Bool, true, false, List, [], ◌∷◌, ◌++◌, Option, Some, None, drop, length, map, min, slice_get}
 use Rattle.lists.specs.Keyed.{AreUpToBy}
 use Rattle.wire_text.specs.Wire.{string}
 use Rattle.child_msg.specs.ChildFrames.{to_child_body}
@@ -93,10 +93,10 @@ IsRefusedWith why Full = why ≡ Some Full
 IsRefusedWith why NumbersSpent = why ≡ Some NumbersSpent
 IsRefusedWith why Memory = why ≡ None
 
--- an ask of this number, put at this second
-abbrev pub ask_of : ℕ → ℕ → AskKind → ℕ → Ask
-ask_of number asker kind now =
-    record { number = number; asker = asker; kind = kind; put_at = now }
+-- an ask of this number, for the key of this blob, put at this second
+abbrev pub ask_of : ℕ → ℕ → AskKind → List ℕ → ℕ → Ask
+ask_of number asker kind blob now =
+    record { number = number; asker = asker; kind = kind; blob = blob; put_at = now }
 
 -- the earlier of two seconds, where there is a second one
 abbrev pub earlier : ℕ → Option ℕ → ℕ
@@ -116,10 +116,15 @@ second_of ask = ask.put_at
 abbrev pub ArePutBy : ℕ → List Ask → Type 0
 ArePutBy now asks = AreUpToBy second_of now asks
 
--- an ask is put at this second: it has the next number, and the frame of its request is to be sent
-abbrev pub submitted : AskKind → ℕ → (ℕ → ToChildMessage) → ℕ → HelperLink → HelperLink
-submitted kind asker request now link = record link {
-  asks = link.asks ++ (ask_of (link.last + 1) asker kind now ∷ []);
+-- the ask of these that was put last
+abbrev pub newest : List Ask → Option Ask
+newest asks = slice_get asks (length asks - 1)
+
+-- an ask for the key of this blob is put at this second: it has the next number, and the frame of its request is to be
+-- sent
+abbrev pub submitted : AskKind → ℕ → List ℕ → (ℕ → ToChildMessage) → ℕ → HelperLink → HelperLink
+submitted kind asker blob request now link = record link {
+  asks = link.asks ++ (ask_of (link.last + 1) asker kind blob now ∷ []);
   last = link.last + 1;
   owed = link.owed ++ string (to_child_body (request (link.last + 1)));
 }

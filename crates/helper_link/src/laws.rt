@@ -29,9 +29,9 @@ pub fn links_stay_sound()
     ensures begun { (job : ℕ) (link : HelperLink) → IsSound link → IsSound (begun job link) }
     ensures linked { (port : ℕ) (link : HelperLink)
         → IsStarting link.state → IsSound link → IsSound (linked_to port link) }
-    ensures submitted { (kind : AKind) (asker : ℕ) (request : ℕ → ToChildMessage) (now : ℕ)
+    ensures submitted { (kind : AKind) (asker : ℕ) (blob : List ℕ) (request : ℕ → ToChildMessage) (now : ℕ)
         (link : HelperLink) → link.state ≢ states.None → ask_fault link ≡ None
-        → ArePutBy now link.asks → IsSound link → IsSound (submitted kind asker request now link) }
+        → ArePutBy now link.asks → IsSound link → IsSound (submitted kind asker blob request now link) }
     ensures sent { (count : ℕ) (link : HelperLink) → IsSound link → IsSound (sent count link) }
     ensures told { (piece : List ℕ) (link : HelperLink)
         → IsLinked link.state → IsSound link → IsSound (telling piece link).link }
@@ -48,10 +48,10 @@ pub fn ask_numbers_never_begin_again()
 pub fn an_ask_has_a_number_of_its_own()
     ensures above { (number : ℕ) (link : HelperLink) → IsSound link → link.last < number
         → find_ask number link.asks ≡ None }
-    ensures submitted { (number : ℕ) (kind : AKind) (asker : ℕ) (request : ℕ → ToChildMessage)
-        (now : ℕ) (link : HelperLink) → IsSound link
-        → find_ask number (submitted kind asker request now link).asks
-        ≡ (if link.last + 1 == number then Some (ask_of (link.last + 1) asker kind now)
+    ensures submitted { (number : ℕ) (kind : AKind) (asker : ℕ) (blob : List ℕ)
+        (request : ℕ → ToChildMessage) (now : ℕ) (link : HelperLink) → IsSound link
+        → find_ask number (submitted kind asker blob request now link).asks
+        ≡ (if link.last + 1 == number then Some (ask_of (link.last + 1) asker kind blob now)
         else find_ask number link.asks) }
 {}
 
@@ -81,9 +81,9 @@ pub fn no_ask_was_put_after_the_last_second()
     ensures first { (now : ℕ) → ArePutBy now no_link.asks }
     ensures later { (now later : ℕ) (asks : List AnAsk) → now ≤ later
         → ArePutBy now asks → ArePutBy later asks }
-    ensures submitted { (kind : AKind) (asker : ℕ) (request : ℕ → ToChildMessage) (now : ℕ)
+    ensures submitted { (kind : AKind) (asker : ℕ) (blob : List ℕ) (request : ℕ → ToChildMessage) (now : ℕ)
         (link : HelperLink) → ArePutBy now link.asks
-        → ArePutBy now (submitted kind asker request now link).asks }
+        → ArePutBy now (submitted kind asker blob request now link).asks }
     ensures told { (now : ℕ) (piece : List ℕ) (link : HelperLink)
         → ArePutBy now link.asks → ArePutBy now (telling piece link).link.asks }
     ensures lost { (now : ℕ) (link : HelperLink) → ArePutBy now (lost link).asks }

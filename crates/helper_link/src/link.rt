@@ -1,8 +1,9 @@
 ghost use Rattle.std.specs.Prelude.{◌≡◌, ◌≢◌, ◌↔◌, ◌+◌, ◌-◌, ◌^◌, ◌<◌, ◌≤◌, IsTrue, IfOk, MatchResult, None, Some, OnOk, OnErr, length};
+ghost use Rattle.std.specs.Option.{option_copied};
 ghost use Rattle.wire_text.specs.Bounds.{longest_to_child};
 ghost use Rattle.child_msg.specs.ChildFrames.{to_child_length};
 ghost use Rattle.child_msg.specs.Messages.{to_child_message};
-ghost use Rattle.helper_link.specs.HelperLink.{ArePutBy, ask_fault, begun, linked_to, lost, no_link, oldest, sendable, sent, sign_request, submitted, verify_request, IsLinked, IsRefusedWith, IsStarting};
+ghost use Rattle.helper_link.specs.HelperLink.{ArePutBy, ask_fault, begun, linked_to, lost, newest, no_link, oldest, sendable, sent, sign_request, submitted, verify_request, IsLinked, IsRefusedWith, IsStarting};
 ghost use Rattle.helper_link.specs.Sound.{IsSound};
 ghost use Rattle.helper_link.specs.Telling.{telling};
 
@@ -12,7 +13,7 @@ use crate::fault::AskFault;
 use crate::settle::settle_stream;
 use crate::state::LinkState;
 use child_msg::{ToChild, write_to_child};
-use plain_lists::PlainList;
+use plain_lists::{Bytes, PlainList};
 use secret_buf::{ScrubBuf, SecretBytes};
 use std::alloc::{AllocError, Global};
 use std::marker::Model;
@@ -105,7 +106,7 @@ impl Link {
         requires later { ArePutBy now self.old.asks }
         requires body { to_child_length (sign_request private.now blob.now message.now flags 0)
             ≤ longest_to_child }
-        ensures ok { OnOk result (self.new ≡ submitted AskKind.Signing asker
+        ensures ok { OnOk result (self.new ≡ submitted AskKind.Signing asker blob.now
             (sign_request private.now blob.now message.now flags) now self.old) }
         ensures value { IfOk result (λ number. number ≡ self.old.last + 1) }
         ensures fault { MatchResult result (λ _. ask_fault self.old ≡ None)
@@ -122,7 +123,7 @@ impl Link {
             message,
             flags,
         };
-        self.submit(asker, AskKind::Signing, now, &request)?;
+        self.submit(asker, AskKind::Signing, blob, now, &request)?;
         Ok(number)
     }
 
@@ -140,7 +141,7 @@ impl Link {
         requires later { ArePutBy now self.old.asks }
         requires body { to_child_length (verify_request host_key.now signature.now session.now 0)
             ≤ longest_to_child }
-        ensures ok { OnOk result (self.new ≡ submitted AskKind.Verifying asker
+        ensures ok { OnOk result (self.new ≡ submitted AskKind.Verifying asker host_key.now
             (verify_request host_key.now signature.now session.now) now self.old) }
         ensures value { IfOk result (λ number. number ≡ self.old.last + 1) }
         ensures fault { MatchResult result (λ _. ask_fault self.old ≡ None)
@@ -154,7 +155,7 @@ impl Link {
             signature,
             session,
         };
-        self.submit(asker, AskKind::Verifying, now, &request)?;
+        self.submit(asker, AskKind::Verifying, host_key, now, &request)?;
         Ok(number)
     }
 
@@ -225,6 +226,13 @@ impl Link {
         mem::replace(&mut self.asks, none)
     }
 
+    /// The ask that was put last, where it is unanswered: `None` where none is.
+    pub fn newest(&self) -> Option<&Ask>
+        ensures { option_copied result ≡ newest self.now.asks }
+    {
+        self.asks.last()
+    }
+
     /// How often the link was lost: it stays at 2^64 - 1.
     pub fn faults(&self) -> u64
         ensures { result ≡ self.now.faults }
@@ -266,6 +274,7 @@ impl Link {
         &mut self,
         asker: u64,
         kind: AskKind,
+        blob: &[u8],
         now: u64,
         request: &ToChild<'_>,
     ) -> Result<(), AllocError>
@@ -275,16 +284,18 @@ impl Link {
         requires last { self.old.last < 2 ^ 64 - 1 }
         requires body { to_child_length (to_child_message request.now) ≤ longest_to_child }
         ensures ok { OnOk result (self.new
-            ≡ submitted kind asker (λ _. to_child_message request.now) now self.old) }
+            ≡ submitted kind asker blob.now (λ _. to_child_message request.now) now self.old) }
         ensures unchanged { OnErr result (self.new ≡ self.old) }
     {
         self.asks.reserve(1)?;
+        let blob = Bytes::from_vec(Vec::from_slice(*self.asks.allocator(), blob)?);
         write_to_child(&mut self.owed, request)?;
         self.last += 1;
         self.asks.push(Ask {
             number: self.last,
             asker,
             kind,
+            blob,
             put_at: now,
         })?;
         Ok(())

@@ -8,11 +8,11 @@ ghost use Rattle.helper_link.specs.declared.ask.AskKind.TheVariants.{Signing, Ve
 /// The oldest ask is the one that was put first of those that are unanswered.
 pub fn the_oldest_unanswered_ask_counts()
     ensures none { oldest [] ≡ None }
-    ensures first { oldest (ask_of 1 70 Signing 5 ∷ ask_of 2 80 Verifying 9 ∷ []) ≡ Some 5 }
-    ensures answered { oldest (remove_ask 1 (ask_of 1 70 Signing 5 ∷ ask_of 2 80 Verifying 9 ∷ []))
+    ensures first { oldest (ask_of 1 70 Signing [] 5 ∷ ask_of 2 80 Verifying [] 9 ∷ []) ≡ Some 5 }
+    ensures answered { oldest (remove_ask 1 (ask_of 1 70 Signing [] 5 ∷ ask_of 2 80 Verifying [] 9 ∷ []))
         ≡ Some 9 }
-    ensures younger_answered { oldest (remove_ask 2 (ask_of 1 70 Signing 5 ∷ ask_of 2 80 Verifying 9 ∷ []))
+    ensures younger_answered { oldest (remove_ask 2 (ask_of 1 70 Signing [] 5 ∷ ask_of 2 80 Verifying [] 9 ∷ []))
         ≡ Some 5 }
-    ensures all_answered { oldest (remove_ask 2 (ask_of 2 80 Verifying 9 ∷ [])) ≡ None }
-    ensures any_order { oldest (ask_of 1 70 Signing 9 ∷ ask_of 2 80 Verifying 5 ∷ []) ≡ Some 5 }
+    ensures all_answered { oldest (remove_ask 2 (ask_of 2 80 Verifying [] 9 ∷ [])) ≡ None }
+    ensures any_order { oldest (ask_of 1 70 Signing [] 9 ∷ ask_of 2 80 Verifying [] 5 ∷ []) ≡ Some 5 }
 {}

@@ -5,7 +5,7 @@ ghost use Rattle.std.specs.Option.{option_copied};
 ghost use Rattle.confirm_desk.specs.Calls.{next_owed};
 ghost use Rattle.confirm_desk.specs.Sound.{IsSound};
 ghost use Rattle.confirm_desk.specs.Confirmations.{find_asker, find_job, find_linked, owed_to};
-ghost use Rattle.helper_link.specs.HelperLink.{sendable};
+ghost use Rattle.helper_link.specs.HelperLink.{newest, sendable};
 ghost use Rattle.agent_model.specs.State.{find_to_start, nothing_under_way};
 ghost use Rattle.under_way.specs.Parts.{IsKept};
 ghost use Rattle.under_way.specs.Times.{limits_of};
@@ -14,7 +14,7 @@ use crate::jobs::{Started, is_among};
 use crate::time::TimeLimits;
 use crate::verification::Verification;
 use confirm_desk::{Desk, Pending};
-use helper_link::{Link, LinkState};
+use helper_link::{Ask, Link, LinkState};
 use std::alloc::{AllocError, Global};
 use std::marker::Model;
 use world_ports::Job;
@@ -86,6 +86,13 @@ impl UnderWay {
         ensures { result ≡ self.now.link.last }
     {
         self.link.last()
+    }
+
+    /// The ask that was put last of those that are unanswered.
+    pub fn newest_ask(&self) -> Option<&Ask>
+        ensures { option_copied result ≡ newest self.now.link.asks }
+    {
+        self.link.newest()
     }
 
     /// The child processes that wait to be started.

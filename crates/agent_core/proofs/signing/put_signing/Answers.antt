@@ -1,8 +1,16 @@
-use Rattle.std.proofs.Common.{sym}
+use Rattle.std.proofs.Common.{◌∙◌, List, Option, ap, false, is_some, sym}
+use Rattle.constraint_rec.specs.declared.constraint.Constraint.{Constraint}
+use Rattle.dest_rule.specs.declared.denial.Denial.{Denial}
+use Rattle.std.specs.Option.{is_none}
+use Rattle.dest_rule.specs.Rules.{denial_under}
+use Rattle.agent_msg.specs.Requests.{Signing as Request}
+use Rattle.agent_model.specs.Actions.{Work}
+use Rattle.agent_model.specs.KeyStates.{KeyState}
+use Rattle.agent_core.specs.Served.{keys_of}
 use Rattle.std.specs.Prelude.{◌≡◌, IfSome, IsSome}
 use Rattle.identity_table.specs.Identities.{find_number}
 use Rattle.agent_core.specs.declared.signing.Signing.{Signing}
-use Rattle.agent_core.proofs.HeldLemmas.{asked_short, used_held, value_ok}
+use Rattle.agent_core.proofs.HeldLemmas.{after_ok, asked_short, none_of, served-signed, undenied, used_held, value_ok}
 use Rattle.agent_core.proofs.signing.put_signing.Goals as goal
 
 pub sign_with-requires-clause-short : goal.sign_with-requires-clause-short
@@ -16,3 +24,15 @@ returns-in-Some-clause-held c =
     value_ok (λ (s : Signing). IfSome s.used (λ n. n ≡ key.number)) (λ (s : Signing). IfSome s.used (λ n. IsSome (find_number n table.identities))) c.sign_with.result
     (λ s own. used_held s.used c.args.blob.now table.last table.identities key own c.in-Some.ensures.sound.numbers (sym c.in-Some.ensures.value))
     c.sign_with.ensures.own
+
+pub returns-in-Some-clause-under_way : goal.returns-in-Some-clause-under_way
+returns-in-Some-clause-under_way c =
+    let key = c.in-Some.key.now in
+    let keys : KeyState = keys_of c.args.table.now c.args.lock.now in
+    let signing : Request = record { blob = c.args.blob.now; message = c.args.message.now; flags = c.args.flags } in
+    let unlocked : is_some c.args.lock.now ≡ false = cc (c.is_locked.ensures.value, c.if-is_locked.false) in
+    let denial : List Constraint → Option Denial = λ rules. denial_under rules c.args.blob.now c.args.asker.now.chain.now.bindings c.args.message.now c.args.asker.now.wall in
+    let permitted = undenied (denial key.rules) (c.if-permits.ensures ∙ ap (λ rules. is_none (denial rules)) c.rules.ensures) in
+    after_ok c.sign_with.result
+    (λ is. is ∙ ap (λ (w : Work). w.under_way) (served-signed c.args.asker.now key signing keys c.args.under_way.now (none_of c.args.lock.now unlocked) (sym c.in-Some.ensures.value) permitted))
+    c.sign_with.ensures.under_way

@@ -1,5 +1,5 @@
 -- Rows that are long to compute: without what a moment would end where there is no limit.
-use Rattle.std.proofs.Common.{◌≡◌, ◌∙◌, ap, refl, [], rules}
+use Rattle.std.proofs.Common.{◌≡◌, ◌∙◌, ap, rules}
 use Rattle.agent_model.specs.ConsentRows.{granted}
 use Rattle.agent_model.specs.Events.{Heard}
 use Rattle.agent_model.specs.Rows.{failed, moment_at}

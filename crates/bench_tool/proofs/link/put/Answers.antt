@@ -12,4 +12,4 @@ left (Err fault) old new next put kept was is = subst (λ (l : HelperLink). AreP
 
 pub returns-clause-later : goal.returns-clause-later
 returns-clause-later c =
-    left c.ask_verify.result c.args.link.now c.ask_verify.new.self (submitted AskKind.Verifying 1 (verify_request (1 ∷ []) (2 ∷ []) (3 ∷ [])) 0 c.args.link.now) c.ask_verify.ensures.ok c.ask_verify.ensures.unchanged c.requires.later (put_by_submitted AskKind.Verifying 1 (verify_request (1 ∷ []) (2 ∷ []) (3 ∷ [])) 0 c.args.link.now c.requires.later)
+    left c.ask_verify.result c.args.link.now c.ask_verify.new.self (submitted AskKind.Verifying 1 (1 ∷ []) (verify_request (1 ∷ []) (2 ∷ []) (3 ∷ [])) 0 c.args.link.now) c.ask_verify.ensures.ok c.ask_verify.ensures.unchanged c.requires.later (put_by_submitted AskKind.Verifying 1 (1 ∷ []) (verify_request (1 ∷ []) (2 ∷ []) (3 ∷ [])) 0 c.args.link.now c.requires.later)

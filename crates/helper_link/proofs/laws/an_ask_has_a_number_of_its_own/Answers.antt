@@ -8,6 +8,6 @@ returns-clause-above c =
     λ number link sound above. above_none number 0 link.asks link.last sound.order above
 
 pub returns-clause-submitted : goal.returns-clause-submitted
-returns-clause-submitted c = λ number kind asker request now link sound.
-    find-push number 0 (ask_of (link.last + 1) asker kind now) link.asks link.last sound.order
+returns-clause-submitted c = λ number kind asker blob request now link sound.
+    find-push number 0 (ask_of (link.last + 1) asker kind blob now) link.asks link.last sound.order
     (omega arith)

@@ -8,5 +8,5 @@ use Rattle.part_tests.proofs.link.sign.Goals as goal
 pub returns-clause-later : goal.returns-clause-later
 returns-clause-later c =
     let request = sign_request c.args.private.now (3 ∷ []) (4 ∷ 5 ∷ 6 ∷ []) 2 in
-    left (λ (l : HelperLink). ArePutBy 0 l.asks) c.ask_sign.result c.args.link.now c.ask_sign.new.self (submitted AskKind.Signing c.args.asker request 0 c.args.link.now) c.ask_sign.ensures.ok c.ask_sign.ensures.unchanged c.requires.later
-    (put_by_submitted AskKind.Signing c.args.asker request 0 c.args.link.now c.requires.later)
+    left (λ (l : HelperLink). ArePutBy 0 l.asks) c.ask_sign.result c.args.link.now c.ask_sign.new.self (submitted AskKind.Signing c.args.asker (3 ∷ []) request 0 c.args.link.now) c.ask_sign.ensures.ok c.ask_sign.ensures.unchanged c.requires.later
+    (put_by_submitted AskKind.Signing c.args.asker (3 ∷ []) request 0 c.args.link.now c.requires.later)

@@ -18,5 +18,5 @@ invariant_of-self-2 c =
     let later = subst (λ (link : HelperLink). ArePutBy c.args.now link.asks)
     (sym same) c.requires.later in
     rw (c.in_ok-push.ensures.items, c.in_ok-reserve.ensures.items)
-    (IsSound-push c.args.kind c.args.asker c.args.now c.write_to_child.new.out.live old some room
+    (IsSound-push c.args.kind c.args.asker c.from_vec-blob.result c.args.now c.write_to_child.new.out.live old some room
     later c.self.invariant)
