@@ -3,9 +3,6 @@
 //! the same name (agent_model's specs/Errands.antt, Answers.antt and Children.antt). Stands on helper_link.
 #![tactic(auto)]
 
-mod children;
-mod consents;
-mod helper;
 mod jobs;
 mod state;
 mod time;

@@ -10,6 +10,11 @@ ghost use Rattle.agent_model.specs.State.{find_to_start, nothing_under_way};
 ghost use Rattle.under_way.specs.Parts.{IsKept};
 ghost use Rattle.under_way.specs.Times.{limits_of};
 
+mod children;
+mod consents;
+mod deadlines;
+mod helper;
+
 use crate::jobs::{Started, is_among};
 use crate::time::TimeLimits;
 use crate::verification::Verification;
@@ -23,14 +28,14 @@ use world_ports::Job;
 /// process has named.
 #[derive(Drop)]
 pub struct UnderWay {
-    pub(crate) link: Link,
-    pub(crate) to_start: Vec<Job>,
-    pub(crate) started: Vec<Started>,
-    pub(crate) verifications: Vec<Verification>,
-    pub(crate) desk: Desk,
-    pub(crate) last_job: u64,
-    pub(crate) limits: TimeLimits,
-    pub(crate) second: u64,
+    link: Link,
+    to_start: Vec<Job>,
+    started: Vec<Started>,
+    verifications: Vec<Verification>,
+    desk: Desk,
+    last_job: u64,
+    limits: TimeLimits,
+    second: u64,
 }
 
 impl Model for UnderWay {
