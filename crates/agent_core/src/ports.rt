@@ -7,6 +7,9 @@ ghost use Rattle.agent_core.specs.Owing.{is_client_at};
 ghost use Rattle.agent_core.specs.Roles.{door_by};
 ghost use Rattle.agent_core.specs.Slots.{chain_of, first_above, heard_in, owing_of, port_of};
 
+mod joining;
+mod serving;
+
 use crate::counting;
 use crate::places::{next_owing, place_near};
 use crate::slot::{self, Slot};
@@ -18,12 +21,12 @@ use world_ports::Door;
 
 /// The open ports in the order of their numbers.
 pub struct Ports {
-    pub(crate) slots: Vec<Slot>,
+    slots: Vec<Slot>,
     // Where the port stands that sent or took last, which is looked at first.
-    pub(crate) near: usize,
+    near: usize,
     // Those that were closed since the event began, rising.
-    pub(crate) closed: Vec<u64>,
-    pub(crate) last: u64,
+    closed: Vec<u64>,
+    last: u64,
 }
 
 impl Model for Ports {
