@@ -6,6 +6,7 @@
 
 mod agent;
 mod asker;
+mod binding;
 mod children;
 mod confirmer;
 mod counting;
@@ -13,6 +14,8 @@ mod event;
 mod granted;
 mod helper;
 mod keys;
+mod listing;
+mod locking;
 mod owed;
 mod parts;
 mod places;

@@ -1,28 +1,28 @@
 //! What requests do to the identities and the lock, and what they are answered.
 
-ghost use Rattle.std.specs.Prelude.{◌≡◌, ◌+◌, ℕ, List, [], true, None, Option, IsSome, IfSome, OnOk, IfOk, ◌≤◌, length};
+ghost use Rattle.std.specs.Prelude.{◌≡◌, ℕ, List, [], true, None, Option, IfSome, OnOk, IfOk, ◌≤◌, length};
 ghost use Rattle.wire_text.specs.Bounds.{longest_body};
 ghost use Rattle.agent_msg.specs.Requests.{client_request};
-ghost use Rattle.identity_table.specs.Identities.{TableState, find_identity};
+ghost use Rattle.identity_table.specs.Identities.{find_identity};
 ghost use Rattle.agent_model.specs.Dispatch.{add_by, add_seen, remove_by};
 ghost use Rattle.agent_model.specs.State.{UnderWay as AnUnderWay};
 ghost use Rattle.agent_model.specs.Verdicts.{Verdict, verdict_text, verdict_waits};
-ghost use Rattle.under_way.specs.Parts.{TellsOf};
 ghost use Rattle.confirm_desk.specs.Confirmations.{find_asker};
-ghost use Rattle.agent_core.specs.Served.{TellsWait, IsPlainRequest, IsShortRequest, IsStatus, IsUsableRequest, asker_of, binds, hides, keys_of, served_body, served_by};
+ghost use Rattle.agent_core.specs.Served.{TellsWait, IsPlainRequest, IsShortRequest, IsStatus, IsUsableRequest, asker_of, hides, keys_of, served_body, served_by};
 ghost use Rattle.agent_core.specs.Slots.{waits_of};
-ghost use Rattle.agent_core.specs.declared.asker.Asker.{Asker as AnAsker};
 
 use crate::asker::Asker;
+use crate::binding::bind;
+use crate::listing::list;
+use crate::locking::take_locked;
 use crate::owed::Owed;
-use crate::seen::{list, sees};
+use crate::seen::sees;
 use crate::signing::{on_ask, sign};
 use crate::waits::Waits;
 use agent_msg::{MsgFault, Request, read_request};
 use constraint_rec::Terms;
-use dest_rule::Next;
 use identity_table::{AddFault, Lock, Table};
-use key_blob::{AddedKey, read_public};
+use key_blob::AddedKey;
 use secret_buf::SecretBytes;
 use std::alloc::{AllocError, Global};
 use under_way::UnderWay;
@@ -106,38 +106,6 @@ fn wait(asked: Option<Waits>, owed: &mut Owed) -> Waits
     }
 }
 
-// Puts the verification of a binding to the helper, where the chain doesn't refuse it, and gives the ask's number.
-fn bind(
-    asker: &Asker<'_>,
-    lock: &Lock,
-    under_way: &mut UnderWay,
-    host_key: &[u8],
-    session: &[u8],
-    signature: &[u8],
-    forwarding: bool,
-) -> Result<Option<u64>, AllocError>
-    requires short { length host_key.now + length session.now + length signature.now ≤ longest_body }
-
-    ensures keys { (table : TableState) → (served_by asker.now (binds host_key.now session.now signature.now forwarding)
-        (keys_of table lock.now) under_way.old).held ≡ keys_of table lock.now }
-    ensures under_way { (table : TableState) → OnOk result (under_way.new ≡ (served_by asker.now
-        (binds host_key.now session.now signature.now forwarding)
-        (keys_of table lock.now) under_way.old).work.under_way) }
-    ensures told { (table : TableState) → IfOk result (TellsOf (served_by asker.now
-        (binds host_key.now session.now signature.now forwarding)
-        (keys_of table lock.now) under_way.old).work.verdict) }
-{
-    if lock.is_locked() || read_public(host_key).is_err() {
-        return Ok(None);
-    }
-    let is_new = match asker.chain.judge(host_key, session) {
-        Next::Refuse(_) => return Ok(None),
-        Next::Same => false,
-        Next::New => true,
-    };
-    Ok(under_way.put_verify(asker.port, host_key, session, signature, forwarding, is_new)?)
-}
-
 // Whether an identity of this blob is held that the asker doesn't see.
 fn is_hidden(asker: &Asker<'_>, table: &Table, blob: &[u8]) -> bool
     ensures { (lock : Option (List ℕ)) → result ≡ hides (find_identity blob.now table.now.identities)
@@ -190,22 +158,6 @@ fn take(
         }
         // `answer` takes these.
         Request::List | Request::Sign { .. } | Request::Bind { .. } => unreachable!(),
-    }
-}
-
-// The same of an agent that is locked: only its passphrase succeeds.
-fn take_locked(lock: &mut Lock, request: Request<'_>) -> bool
-    requires locked { IsSome lock.old }
-    requires other { IsPlainRequest (client_request request) }
-
-    ensures keys { (asker : AnAsker) (table : TableState) (under_way : AnUnderWay) → keys_of table lock.new
-        ≡ (served_by asker (client_request request.entry) (keys_of table lock.old) under_way).held }
-    ensures work { (asker : AnAsker) (table : TableState) (under_way : AnUnderWay) → IsStatus result
-        (served_by asker (client_request request.entry) (keys_of table lock.old) under_way).work under_way }
-{
-    match request {
-        Request::Unlock { passphrase } => lock.unlock(passphrase),
-        _ => false,
     }
 }
 

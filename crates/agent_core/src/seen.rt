@@ -1,18 +1,12 @@
 //! Which identities a client sees, and how long a list of them is.
 
-ghost use Rattle.std.specs.Prelude.{◌≡◌, ◌+◌, ◌≤◌, [], length, OnOk};
-ghost use Rattle.agent_msg.specs.Requests.{ListIdentities};
+ghost use Rattle.std.specs.Prelude.{◌≡◌, ◌+◌, ◌≤◌, length};
 ghost use Rattle.identity_table.specs.Identities.{answer_len, max_answer};
-ghost use Rattle.agent_model.specs.State.{UnderWay as AnUnderWay};
-ghost use Rattle.agent_model.specs.Verdicts.{verdict_text};
 ghost use Rattle.agent_core.specs.Seen.{count_if, is_seen, len_if, seen};
-ghost use Rattle.agent_core.specs.Served.{keys_of, served_by};
 
 use crate::asker::Asker;
-use crate::owed::Owed;
 use dest_rule::visible;
-use identity_table::{Identity, Lock, Table};
-use std::alloc::AllocError;
+use identity_table::{Identity, Table};
 
 /// Whether the asker sees this identity. One without destination constraints is seen by all.
 pub fn sees(asker: &Asker<'_>, identity: &Identity) -> bool
@@ -56,24 +50,4 @@ fn with_entry(size: ListSize, asker: &Asker<'_>, identity: &Identity) -> ListSiz
     } else {
         size
     }
-}
-
-/// Owes the list of the identities that the asker sees, which is empty while the agent is locked.
-#[tactic(auto, unfolding(identity_table::specs::Identities::entries_len))]
-pub fn list(
-    asker: &Asker<'_>,
-    table: &Table,
-    lock: &Lock,
-    owed: &mut Owed,
-) -> Result<(), AllocError>
-    requires { owed.old ≡ [] }
-    ensures { (under_way : AnUnderWay) → OnOk result (owed.new ≡ verdict_text
-        (served_by asker.now ListIdentities (keys_of table.now lock.now) under_way).work.verdict) }
-{
-    if lock.is_locked() {
-        owed.put_empty_list()?;
-    } else {
-        owed.put_list(asker, table)?;
-    }
-    Ok(())
 }
