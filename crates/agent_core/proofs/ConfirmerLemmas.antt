@@ -71,22 +71,36 @@ pub used_parts : (wall : ℕ) (used : Option ℕ) (keys : KeyState) (going : Und
 used_parts wall None keys going ports = refl
 used_parts wall (Some addition) keys going ports = refl
 
--- the parts after a grant
-pub grant_parts : (wall : ℕ) (keys new_keys : KeyState) (going left : UnderWay) (old new : OpenPorts) (work : Work) (one : Confirmation) (number asker : ℕ) →
-    new_keys ≡ after_use work.used keys → left ≡ work.under_way → new ≡ record old {
-      ports = change_port asker (tell work.verdict) (close_confirmer (Some number) old.ports);
-      closed = put_all old.closed (confirmer_closes (Some number) old.ports);
-    } → one.asker ≡ asker → one.port ≡ Some number →
-    parts_of wall new_keys left new ≡ after old.closed (grant_concluded work one (state_of wall keys going old))
-grant_parts wall keys new_keys going left old new work one number asker keys_is left_is new_is asker_is port_is =
-    let after_ports : Option ℕ → ℕ → OpenPorts = λ confirmer a. record old {
-      ports = change_port a (tell work.verdict) (close_confirmer confirmer old.ports);
-      closed = put_all old.closed (confirmer_closes confirmer old.ports);
+-- the parts once an ask was put, or none
+pub put_parts : (wall : ℕ) (keys new_keys : KeyState) (going left : UnderWay) (ports : OpenPorts) (work : Work) →
+    new_keys ≡ after_use work.used keys → left ≡ work.under_way → parts_of wall new_keys left ports ≡ record (parts_of wall keys going ports) {
+      state = record (state_of wall keys going ports) { held = after_use work.used keys; under_way = work.under_way };
+    }
+put_parts wall keys new_keys going left ports work keys_is left_is =
+    ap (λ k. parts_of wall k left ports) keys_is
+    ∙ ap (λ u. parts_of wall (after_use work.used keys) u ports) left_is
+    ∙ used_parts wall work.used keys work.under_way ports
+
+-- and once the confirmation is over
+pub grant_parts : (old : Stepped) (wall : ℕ) (keys : KeyState) (going : UnderWay) (ports new : OpenPorts) (work : Work)
+    (one : Confirmation) (number asker : ℕ) → parts_of wall keys going ports ≡ record old {
+      state = record old.state { held = after_use work.used old.state.held; under_way = work.under_way };
+    } → new ≡ record ports {
+      ports = change_port asker (tell work.verdict) (close_confirmer (Some number) ports.ports);
+      closed = put_all ports.closed (confirmer_closes (Some number) ports.ports);
+    } → one.asker ≡ asker → one.port ≡ Some number
+    → parts_of wall keys going new ≡ after old.closes (grant_concluded work one old.state)
+grant_parts old wall keys going ports new work one number asker is new_is asker_is port_is =
+    let after_ports : Option ℕ → ℕ → OpenPorts = λ confirmer a. record ports {
+      ports = change_port a (tell work.verdict) (close_confirmer confirmer ports.ports);
+      closed = put_all ports.closed (confirmer_closes confirmer ports.ports);
     } in
-    ap (λ k. parts_of wall k left new) keys_is
-    ∙ ap (λ u. parts_of wall (after_use work.used keys) u new) left_is
-    ∙ ap (λ v. parts_of wall (after_use work.used keys) work.under_way v) (new_is ∙ ap (after_ports (Some number)) (sym asker_is) ∙ ap (λ p. after_ports p one.asker) (sym port_is))
-    ∙ used_parts wall work.used keys work.under_way (after_ports one.port one.asker)
+    let concluded : Stepped → Stepped = λ s. record s {
+      state = record s.state { ports = change_port one.asker (tell work.verdict) (close_confirmer one.port s.state.ports) };
+      closes = put_all s.closes (confirmer_closes one.port s.state.ports);
+    } in
+    ap (λ v. parts_of wall keys going v) (new_is ∙ ap (after_ports (Some number)) (sym asker_is) ∙ ap (λ p. after_ports p one.asker) (sym port_is))
+    ∙ ap concluded is
 
 -- ---- what a decision is
 

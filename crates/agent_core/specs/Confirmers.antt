@@ -5,10 +5,10 @@ use Rattle.dest_rule.specs.declared.denial.Denial.{Denial}
 use Rattle.dest_rule.specs.declared.binding.Binding.{Binding}
 use Rattle.confirm_desk.specs.Confirmations.{Confirmation, find_job}
 use Rattle.identity_table.specs.Identities.{HeldKey, find_number}
-use Rattle.agent_model.specs.Actions.{Work}
+use Rattle.agent_model.specs.Actions.{Stepped, Work}
 use Rattle.agent_model.specs.Consents.{grant_by}
-use Rattle.agent_model.specs.KeyStates.{KeyState}
-use Rattle.agent_model.specs.State.{Port, UnderWay, find_port}
+use Rattle.agent_model.specs.KeyStates.{KeyState, after_use}
+use Rattle.agent_model.specs.State.{Port, State, UnderWay, find_port}
 use Rattle.under_way.specs.Parts.{TellsOf}
 
 -- ---- the second test
@@ -43,9 +43,20 @@ IsShortKey key = length key.private + length key.blob ≤ 524288
 abbrev pub grant_of : List Binding → Confirmation → ℕ → KeyState → UnderWay → Work
 grant_of chain confirmation wall held under_way = grant_by held.lock held chain confirmation wall under_way
 
+-- the same in a state where the confirmation isn't under way any more
+abbrev pub grant_in : List Binding → Confirmation → State → Work
+grant_in chain confirmation state = grant_of chain confirmation state.moment.wall state.held state.under_way
+
 -- it changes what is under way so, and so much is told of it
 pub record IsGrant (asked : Option ℕ) (new : UnderWay) (work : Work) : Type 0 where
   pub under_way : new ≡ work.under_way
+  pub told : TellsOf work.verdict asked
+
+-- it changes the agent's parts so, and so much is told of it
+pub record IsGrantedTo (asked : Option ℕ) (new : Stepped) (work : Work) (old : Stepped) : Type 0 where
+  pub parts : new ≡ record old {
+    state = record old.state { held = after_use work.used old.state.held; under_way = work.under_way };
+  }
   pub told : TellsOf work.verdict asked
 
 -- ---- who waits

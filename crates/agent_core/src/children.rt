@@ -7,16 +7,14 @@ ghost use Rattle.wire_text.specs.Bounds.{longest_body};
 ghost use Rattle.wire_text.specs.Frames.{Whole, after_front, front, front_body};
 ghost use Rattle.agent_model.specs.Children.{first_message, unnamed_heard};
 ghost use Rattle.agent_model.specs.State.{Port, find_port};
-ghost use Rattle.agent_model.specs.Asking.{JobsRise};
 ghost use Rattle.confirm_desk.specs.Confirmations.{find_linked};
 ghost use Rattle.agent_core.specs.Bound.{AreHeldFor, IsBound};
-ghost use Rattle.agent_core.specs.Parts.{after, parts_of, state_of};
+ghost use Rattle.agent_core.specs.Parts.{after};
 ghost use Rattle.agent_core.specs.Settlings.{IsNamed, named_job};
 ghost use Rattle.agent_core.specs.Slots.{heard_in};
 
-use crate::confirmer::hear_confirmer;
 use crate::helper::hear_helper;
-use crate::keys::Keys;
+use crate::parts::Parts;
 use crate::ports::Ports;
 use crate::slot::first_body;
 use child_msg::{FromChild, read_from_child};
@@ -25,33 +23,57 @@ use std::alloc::AllocError;
 use under_way::UnderWay;
 use world_ports::{Job, JobKind};
 
-/// A child process that hasn't named itself sent more: its first frame is to name it, or it is closed.
-pub fn hear_unnamed(
-    ports: &mut Ports,
-    under_way: &mut UnderWay,
-    keys: &mut Keys,
-    wall: u64,
-    number: u64,
-    piece: &[u8],
-) -> Result<(), AllocError>
-    requires is_open { IsSome (find_port number ports.old.ports) }
-    requires bound { IsBound ports.old.ports under_way.old }
-    requires held { AreHeldFor under_way.old.confirmations ports.old.ports }
-    requires free { find_linked number under_way.old.confirmations ≡ None }
-    requires jobs { JobsRise 0 under_way.old.confirmations under_way.old.last_job }
+impl Parts {
+    /// A child process that hasn't named itself sent more: its first frame is to name it, or it is closed.
+    pub fn hear_unnamed(&mut self, number: u64, piece: &[u8]) -> Result<(), AllocError>
+        requires is_open { IsSome (find_port number self.old.state.ports) }
+        requires free { find_linked number self.old.state.under_way.confirmations ≡ None }
+        requires bound { IsBound self.old.state.ports self.old.state.under_way }
+        requires held { AreHeldFor self.old.state.under_way.confirmations self.old.state.ports }
 
-    ensures { (port : Port) → find_port number ports.old.ports ≡ Some port → OnOk result
-        (parts_of wall keys.new under_way.new ports.new ≡ after ports.old.closed
-        (unnamed_heard port.heard piece.now number (state_of wall keys.old under_way.old ports.old))) }
-{
-    ports.push(number, piece)?;
-    match first_frame(ports, number) {
-        Look::Whole { body } => take_first(ports, under_way, keys, wall, number, body),
-        Look::Bad { .. } => {
-            ports.close_open(number);
-            Ok(())
+        ensures { (port : Port) → find_port number self.old.state.ports ≡ Some port → OnOk result
+            (self.new ≡ after self.old.closes (unnamed_heard port.heard piece.now number self.old.state)) }
+    {
+        self.ports.push(number, piece)?;
+        match first_frame(&self.ports, number) {
+            Look::Whole { body } => self.take_first(number, body),
+            Look::Bad { .. } => {
+                self.ports.close_open(number);
+                Ok(())
+            }
+            Look::More => Ok(()),
         }
-        Look::More => Ok(()),
+    }
+
+    // Takes the first frame, and what follows it where it names the child process.
+    fn take_first(&mut self, number: u64, body_len: u32) -> Result<(), AllocError>
+        requires is_open { IsSome (find_port number self.old.state.ports) }
+        requires whole { (port : Port) → find_port number self.old.state.ports ≡ Some port
+            → front longest_body port.heard ≡ Whole body_len }
+        requires free { find_linked number self.old.state.under_way.confirmations ≡ None }
+        requires bound { IsBound self.old.state.ports self.old.state.under_way }
+        requires held { AreHeldFor self.old.state.under_way.confirmations self.old.state.ports }
+
+        ensures { (port : Port) → find_port number self.old.state.ports ≡ Some port → OnOk result
+            (self.new ≡ after self.old.closes (first_message (from_child_of (front_body body_len port.heard)) number
+            (after_front body_len port.heard) self.old.state)) }
+    {
+        let Some(job) = job_named(&self.under_way, first_body(self.ports.heard(number), body_len)) else {
+            self.ports.close_open(number);
+            return Ok(());
+        };
+        let heard = self.ports.take_heard(number);
+        let rest = after_front(heard.live(), body_len);
+        match job.kind {
+            JobKind::Helper => {
+                self.under_way.helper_named(job.number, number);
+                hear_helper(&mut self.ports, &mut self.under_way, rest)
+            }
+            JobKind::Confirm => {
+                self.under_way.confirmer_named(job.number, number);
+                self.hear_confirmer(number, rest)
+            }
+        }
     }
 }
 
@@ -60,46 +82,6 @@ fn first_frame(ports: &Ports, number: u64) -> Look
     ensures { front_of result ≡ front longest_body (heard_in (find_port number ports.now.ports)) }
 {
     look(ports.heard(number), LONGEST_BODY)
-}
-
-// Takes the first frame, and what follows it where it names the child process.
-fn take_first(
-    ports: &mut Ports,
-    under_way: &mut UnderWay,
-    keys: &mut Keys,
-    wall: u64,
-    number: u64,
-    body_len: u32,
-) -> Result<(), AllocError>
-    requires is_open { IsSome (find_port number ports.old.ports) }
-    requires whole { (port : Port) → find_port number ports.old.ports ≡ Some port
-        → front longest_body port.heard ≡ Whole body_len }
-    requires bound { IsBound ports.old.ports under_way.old }
-    requires held { AreHeldFor under_way.old.confirmations ports.old.ports }
-    requires free { find_linked number under_way.old.confirmations ≡ None }
-    requires jobs { JobsRise 0 under_way.old.confirmations under_way.old.last_job }
-
-    ensures { (port : Port) → find_port number ports.old.ports ≡ Some port → OnOk result
-        (parts_of wall keys.new under_way.new ports.new ≡ after ports.old.closed
-        (first_message (from_child_of (front_body body_len port.heard)) number (after_front body_len port.heard)
-        (state_of wall keys.old under_way.old ports.old))) }
-{
-    let Some(job) = job_named(under_way, first_body(ports.heard(number), body_len)) else {
-        ports.close_open(number);
-        return Ok(());
-    };
-    let heard = ports.take_heard(number);
-    let rest = after_front(heard.live(), body_len);
-    match job.kind {
-        JobKind::Helper => {
-            under_way.helper_named(job.number, number);
-            hear_helper(ports, under_way, rest)
-        }
-        JobKind::Confirm => {
-            under_way.confirmer_named(job.number, number);
-            hear_confirmer(ports, under_way, keys, wall, number, rest)
-        }
-    }
 }
 
 // The started job that this body names by its ticket.

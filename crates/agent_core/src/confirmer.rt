@@ -9,65 +9,51 @@ ghost use Rattle.agent_model.specs.Children.{shut_then};
 ghost use Rattle.agent_model.specs.Consents.{confirmer_heard, grant_concluded, over, over_if};
 ghost use Rattle.agent_model.specs.KeyStates.{KeyState};
 ghost use Rattle.wire_text.specs.Bounds.{longest_body};
-ghost use Rattle.agent_model.specs.State.{Port, UnderWay as AnUnderWay, find_port};
-ghost use Rattle.agent_core.specs.Confirmers.{AreQuiet, IsHeldFor, grant_of};
+ghost use Rattle.agent_model.specs.State.{Port, find_port};
+ghost use Rattle.agent_core.specs.Confirmers.{AreQuiet, IsHeldFor, grant_in};
 ghost use Rattle.agent_core.specs.Parts.{after, parts_of, state_of};
 
-use crate::granted::{conclude, put_granted};
-use crate::keys::Keys;
+use crate::granted::conclude;
+use crate::parts::Parts;
 use crate::ports::Ports;
 use confirm_desk::{Held, Verdict};
 use std::alloc::AllocError;
 use under_way::UnderWay;
 
-/// The child process at this port, which asks the user, sent more: nothing yet, or the user's decision.
-pub fn hear_confirmer(
-    ports: &mut Ports,
-    under_way: &mut UnderWay,
-    keys: &mut Keys,
-    wall: u64,
-    number: u64,
-    piece: &[u8],
-) -> Result<(), AllocError>
-    requires asker { IsSomeAnd (find_linked number under_way.old.confirmations)
-        (λ one. IsHeldFor one ports.old.ports) }
+impl Parts {
+    /// The child process at this port, which asks the user, sent more: nothing yet, or the user's decision.
+    pub fn hear_confirmer(&mut self, number: u64, piece: &[u8]) -> Result<(), AllocError>
+        requires asker { IsSomeAnd (find_linked number self.old.state.under_way.confirmations)
+            (λ one. IsHeldFor one self.old.state.ports) }
 
-    ensures { (one : Confirmation) → find_linked number under_way.old.confirmations ≡ Some one
-        → OnOk result (parts_of wall keys.new under_way.new ports.new ≡ after ports.old.closed
-        (confirmer_heard one piece.now (state_of wall keys.old under_way.old ports.old))) }
-{
-    match under_way.confirmer_told(number, piece)? {
-        Verdict::NotYet => Ok(()),
-        Verdict::Granted(held) => grant(ports, under_way, keys, wall, number, &held),
-        Verdict::Denied(held) => {
-            conclude(ports, Some(number), held.asker, None);
-            Ok(())
+        ensures { (one : Confirmation) → find_linked number self.old.state.under_way.confirmations ≡ Some one
+            → OnOk result (self.new ≡ after self.old.closes (confirmer_heard one piece.now self.old.state)) }
+    {
+        match self.under_way.confirmer_told(number, piece)? {
+            Verdict::NotYet => Ok(()),
+            Verdict::Granted(held) => self.grant(number, &held),
+            Verdict::Denied(held) => {
+                conclude(&mut self.ports, Some(number), held.asker, None);
+                Ok(())
+            }
         }
     }
-}
 
-// The user consents, by the child process at this port, to what was held: that is put to the helper, where it may be.
-fn grant(
-    ports: &mut Ports,
-    under_way: &mut UnderWay,
-    keys: &mut Keys,
-    wall: u64,
-    number: u64,
-    held: &Held,
-) -> Result<(), AllocError>
-    requires is_open { IsSome (find_port held.now.asker ports.old.ports) }
-    requires silent { (port : Port) → find_port held.now.asker ports.old.ports ≡ Some port → port.owed ≡ [] }
-    requires short { length held.now.message ≤ longest_body }
+    // The user consents, by the child process at this port, to what was held: that is put to the helper, where it may
+    // be. Its confirmation is no longer under way.
+    fn grant(&mut self, number: u64, held: &Held) -> Result<(), AllocError>
+        requires is_open { IsSome (find_port held.now.asker self.old.state.ports) }
+        requires silent { (port : Port) → find_port held.now.asker self.old.state.ports ≡ Some port → port.owed ≡ [] }
+        requires short { length held.now.message ≤ longest_body }
 
-    ensures { (going : AnUnderWay) (port : Port) (one : Confirmation)
-        → find_port held.now.asker ports.old.ports ≡ Some port → given_back one ≡ held.now → one.port ≡ Some number
-        → OnOk result (parts_of wall keys.new under_way.new ports.new ≡ after ports.old.closed
-        (grant_concluded (grant_of port.chain one wall keys.old under_way.old) one
-        (state_of wall keys.old going ports.old))) }
-{
-    let asked = put_granted(ports, under_way, keys, wall, held)?;
-    conclude(ports, Some(number), held.asker, asked);
-    Ok(())
+        ensures { (port : Port) (one : Confirmation) → find_port held.now.asker self.old.state.ports ≡ Some port
+            → given_back one ≡ held.now → one.port ≡ Some number → OnOk result (self.new ≡ after self.old.closes
+            (grant_concluded (grant_in port.chain one self.old.state) one self.old.state)) }
+    {
+        let asked = self.put_granted(held)?;
+        conclude(&mut self.ports, Some(number), held.asker, asked);
+        Ok(())
+    }
 }
 
 /// The confirmation of this job is over without consent: its child process's port is closed where it came, and its

@@ -7,15 +7,15 @@ ghost use Rattle.identity_table.specs.Identities.{find_number};
 ghost use Rattle.confirm_desk.specs.Calls.{given_back};
 ghost use Rattle.confirm_desk.specs.Confirmations.{Confirmation};
 ghost use Rattle.agent_model.specs.Consents.{close_confirmer, confirmer_closes};
-ghost use Rattle.agent_model.specs.KeyStates.{after_use};
 ghost use Rattle.agent_model.specs.NumberLists.{put_all};
 ghost use Rattle.wire_text.specs.Bounds.{longest_body};
 ghost use Rattle.agent_model.specs.State.{Port, change_port, find_port};
 ghost use Rattle.agent_model.specs.Verdicts.{Verdict, tell};
 ghost use Rattle.under_way.specs.Parts.{TellsOf};
-ghost use Rattle.agent_core.specs.Confirmers.{IsGrant, IsShortKey, grant_of, granted_by};
+ghost use Rattle.agent_core.specs.Confirmers.{IsGrant, IsGrantedTo, IsShortKey, grant_in, grant_of, granted_by};
 
 use crate::keys::Keys;
+use crate::parts::Parts;
 use crate::ports::Ports;
 use confirm_desk::Held;
 use constraint_rec::Constraint;
@@ -55,32 +55,26 @@ pub fn permits(rules: &[Constraint], blob: &[u8], chain: &Chain, message: &[u8],
     rules.is_empty() || may_sign(rules, blob, chain, message, wall).is_ok()
 }
 
-/// Puts what was held to the helper, where it may be signed yet, and then counts a use of its key. Gives the ask's
-/// number.
-pub fn put_granted(
-    ports: &Ports,
-    under_way: &mut UnderWay,
-    keys: &mut Keys,
-    wall: u64,
-    held: &Held,
-) -> Result<Option<u64>, AllocError>
-    requires is_open { IsSome (find_port held.now.asker ports.now.ports) }
-    requires short { length held.now.message ≤ longest_body }
+impl Parts {
+    /// Puts what was held to the helper, where it may be signed yet, and then counts a use of its key. Gives the ask's
+    /// number.
+    pub fn put_granted(&mut self, held: &Held) -> Result<Option<u64>, AllocError>
+        requires is_open { IsSome (find_port held.now.asker self.old.state.ports) }
+        requires short { length held.now.message ≤ longest_body }
 
-    ensures put { (port : Port) (one : Confirmation) → find_port held.now.asker ports.now.ports ≡ Some port
-        → given_back one ≡ held.now → IfOk result (λ asked. IsGrant asked under_way.new
-        (grant_of port.chain one wall keys.old under_way.old)) }
-    ensures keys { (port : Port) (one : Confirmation) → find_port held.now.asker ports.now.ports ≡ Some port
-        → given_back one ≡ held.now → OnOk result (keys.new
-        ≡ after_use (grant_of port.chain one wall keys.old under_way.old).used keys.old) }
-{
-    let asked = ask_granted(ports, under_way, keys, wall, held)?;
-    match asked {
-        Some(ask) => {
-            keys.spend(held.addition);
-            Ok(Some(ask))
+        ensures ports { OnOk result (self.new.state.ports ≡ self.old.state.ports) }
+        ensures put { (port : Port) (one : Confirmation) → find_port held.now.asker self.old.state.ports ≡ Some port
+            → given_back one ≡ held.now
+            → IfOk result (λ asked. IsGrantedTo asked self.new (grant_in port.chain one self.old.state) self.old) }
+    {
+        let asked = ask_granted(&self.ports, &mut self.under_way, &self.keys, self.wall, held)?;
+        match asked {
+            Some(ask) => {
+                self.keys.spend(held.addition);
+                Ok(Some(ask))
+            }
+            None => Ok(None),
         }
-        None => Ok(None),
     }
 }
 

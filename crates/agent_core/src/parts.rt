@@ -18,8 +18,7 @@ ghost use Rattle.agent_core.specs.Owing.{next_child_owed};
 ghost use Rattle.agent_core.specs.Parts.{after};
 
 use crate::Event;
-use crate::children::hear_unnamed;
-use crate::confirmer::{end_if, hear_confirmer, lose_client, lose_confirmer};
+use crate::confirmer::{end_if, lose_client, lose_confirmer};
 use crate::helper::{hear_helper, lose_helper};
 use crate::keys::Keys;
 use crate::ports::Ports;
@@ -183,22 +182,8 @@ impl Parts {
     {
         match role_at(&self.ports, &self.under_way, port) {
             Some(Role::Client) => self.hear_client(port, piece),
-            Some(Role::Unnamed) => hear_unnamed(
-                &mut self.ports,
-                &mut self.under_way,
-                &mut self.keys,
-                self.wall,
-                port,
-                piece,
-            ),
-            Some(Role::Confirmer) => hear_confirmer(
-                &mut self.ports,
-                &mut self.under_way,
-                &mut self.keys,
-                self.wall,
-                port,
-                piece,
-            ),
+            Some(Role::Unnamed) => self.hear_unnamed(port, piece),
+            Some(Role::Confirmer) => self.hear_confirmer(port, piece),
             Some(Role::Helper) => hear_helper(&mut self.ports, &mut self.under_way, piece),
             None => Ok(()),
         }

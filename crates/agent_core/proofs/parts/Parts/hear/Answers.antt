@@ -25,12 +25,13 @@ returns-in-Some-Client c =
 pub returns-in-Some-Unnamed : goal.returns-in-Some-Unnamed
 returns-in-Some-Unnamed c =
     let is = unnamed-kind _ (sym c.role_at.ensures ∙ c.in-Some-Unnamed.is ∙ ap Some c.in-Some-Unnamed.field-0-is) in
-    let there = port_of_role (find_port c.args.port c.self.inside.ports.ports) c.self.inside.under_way Unnamed is in
-    let parts = c.self.inside in
-    let state : State = state_of parts.wall parts.keys parts.under_way parts.ports in
-    rw (← c.self.view_is) (after_ok c.hear_unnamed.result (λ told.
-    told ∙ ap (after parts.ports.closed) (agent_unnamed c.args.port c.args.piece.now there.0 state there.1 there.2))
-    (c.hear_unnamed.ensures there.0 there.1))
+    let P : Stepped → Type 0 = λ s. role_by (find_port c.args.port s.state.ports) s.state.under_way ≡ Some Unnamed in
+    let at = subst P c.self.view_is is in
+    let state = c.args.self.now.state in
+    let there = port_of_role (find_port c.args.port state.ports) state.under_way Unnamed at in
+    after_ok c.hear_unnamed.result (λ told.
+    told ∙ ap (after c.args.self.now.closes) (agent_unnamed c.args.port c.args.piece.now there.0 state there.1 there.2))
+    (c.hear_unnamed.ensures there.0 there.1)
 
 pub returns-in-Some-Helper : goal.returns-in-Some-Helper
 returns-in-Some-Helper c =
@@ -45,13 +46,13 @@ returns-in-Some-Helper c =
 pub returns-in-Some-Confirmer : goal.returns-in-Some-Confirmer
 returns-in-Some-Confirmer c =
     let is = confirmer-kind _ (sym c.role_at.ensures ∙ c.in-Some-Confirmer.is ∙ ap Some c.in-Some-Confirmer.field-0-is) in
-    let there = port_of_role (find_port c.args.port c.self.inside.ports.ports) c.self.inside.under_way (Confirmer is.0) is.1 in
-    let at = agent_asks c.args.port c.self.inside.ports.ports c.self.inside.under_way is.0 is.1 in
-    let parts = c.self.inside in
-    let state : State = state_of parts.wall parts.keys parts.under_way parts.ports in
-    rw (← c.self.view_is) (after_ok c.hear_confirmer.result (λ told.
-    told ∙ ap (after parts.ports.closed) (sym (heard-as c.args.port c.args.piece.now there.0 (Confirmer is.0) state there.1 there.2)))
-    (c.hear_confirmer.ensures is.0 at))
+    let P : Stepped → Type 0 = λ s. role_by (find_port c.args.port s.state.ports) s.state.under_way ≡ Some (Confirmer is.0) in
+    let at = subst P c.self.view_is is.1 in
+    let state = c.args.self.now.state in
+    let there = port_of_role (find_port c.args.port state.ports) state.under_way (Confirmer is.0) at in
+    after_ok c.hear_confirmer.result (λ told.
+    told ∙ ap (after c.args.self.now.closes) (sym (heard-as c.args.port c.args.piece.now there.0 (Confirmer is.0) state there.1 there.2)))
+    (c.hear_confirmer.ensures is.0 (agent_asks c.args.port state.ports state.under_way is.0 at))
 
 pub hear_helper-requires-clause-linked : goal.hear_helper-requires-clause-linked
 hear_helper-requires-clause-linked c =
@@ -67,7 +68,8 @@ hear_client-requires-clause-is_open c =
 pub hear_unnamed-requires-clause-is_open : goal.hear_unnamed-requires-clause-is_open
 hear_unnamed-requires-clause-is_open c =
     let is = unnamed-kind _ (sym c.role_at.ensures ∙ c.in-Some-Unnamed.is ∙ ap Some c.in-Some-Unnamed.field-0-is) in
-    some_of_role c.args.port c.self.inside.ports.ports c.self.inside.under_way Unnamed is
+    let P : Stepped → Type 0 = λ s. role_by (find_port c.args.port s.state.ports) s.state.under_way ≡ Some Unnamed in
+    some_of_role c.args.port c.args.self.now.state.ports c.args.self.now.state.under_way Unnamed (subst P c.self.view_is is)
 
 pub returns-in-None : goal.returns-in-None
 returns-in-None c =
@@ -81,31 +83,23 @@ hear_helper-requires-clause-bound c =
     bound_of state (rw (← c.self.view_is) at c.requires.rest)
 
 pub hear_unnamed-requires-clause-bound : goal.hear_unnamed-requires-clause-bound
-hear_unnamed-requires-clause-bound c =
-    let state : State = state_of c.self.inside.wall c.self.inside.keys c.self.inside.under_way c.self.inside.ports in
-    bound_of state (rw (← c.self.view_is) at c.requires.rest)
+hear_unnamed-requires-clause-bound c = bound_of c.args.self.now.state c.requires.rest
 
 pub hear_unnamed-requires-clause-held : goal.hear_unnamed-requires-clause-held
-hear_unnamed-requires-clause-held c =
-    let state : State = state_of c.self.inside.wall c.self.inside.keys c.self.inside.under_way c.self.inside.ports in
-    held_of_all state (rw (← c.self.view_is) at c.requires.rest)
+hear_unnamed-requires-clause-held c = held_of_all c.args.self.now.state c.requires.rest
 
 pub hear_unnamed-requires-clause-free : goal.hear_unnamed-requires-clause-free
 hear_unnamed-requires-clause-free c =
     let is = unnamed-kind _ (sym c.role_at.ensures ∙ c.in-Some-Unnamed.is ∙ ap Some c.in-Some-Unnamed.field-0-is) in
-    agent_free c.args.port c.self.inside.ports.ports c.self.inside.under_way is
-
-pub hear_unnamed-requires-clause-jobs : goal.hear_unnamed-requires-clause-jobs
-hear_unnamed-requires-clause-jobs c =
-    let rest = rw (← c.self.view_is) at c.requires.rest in
-    rest.tied.raised.order
+    let P : Stepped → Type 0 = λ s. role_by (find_port c.args.port s.state.ports) s.state.under_way ≡ Some Unnamed in
+    agent_free c.args.port c.args.self.now.state.ports c.args.self.now.state.under_way (subst P c.self.view_is is)
 
 pub hear_confirmer-requires : goal.hear_confirmer-requires
 hear_confirmer-requires c =
     let is = confirmer-kind _ (sym c.role_at.ensures ∙ c.in-Some-Confirmer.is ∙ ap Some c.in-Some-Confirmer.field-0-is) in
-    let state : State = state_of c.self.inside.wall c.self.inside.keys c.self.inside.under_way c.self.inside.ports in
-    let rest = rw (← c.self.view_is) at c.requires.rest in
-    let at = agent_asks c.args.port c.self.inside.ports.ports c.self.inside.under_way is.0 is.1 in
-    let found = found_linked c.args.port c.self.inside.under_way.last_job c.self.inside.under_way.confirmations is.0 rest.tied.raised.order at in
-    let P : Option Confirmation → Type 0 = λ o. IsSomeAnd o (λ one. IsHeldFor one c.self.inside.ports.ports) in
-    record { asker = subst P (sym at) (held_of_all state rest is.0.job is.0 found) }
+    let Q : Stepped → Type 0 = λ s. role_by (find_port c.args.port s.state.ports) s.state.under_way ≡ Some (Confirmer is.0) in
+    let state = c.args.self.now.state in
+    let at = agent_asks c.args.port state.ports state.under_way is.0 (subst Q c.self.view_is is.1) in
+    let found = found_linked c.args.port state.under_way.last_job state.under_way.confirmations is.0 c.requires.rest.tied.raised.order at in
+    let P : Option Confirmation → Type 0 = λ o. IsSomeAnd o (λ one. IsHeldFor one state.ports) in
+    record { asker = subst P (sym at) (held_of_all state c.requires.rest is.0.job is.0 found) }
