@@ -9,9 +9,9 @@ mod trouble;
 use crate::named::Named;
 use crate::trouble::Trouble;
 use add_core::{AddFault, AddStatus, add_main};
-use real_edge::{RealFiles, connect};
+use real_edge::{RealFiles, connect, is_memory};
 use std::env;
-use std::io::{ErrorKind, Result as IoResult};
+use std::io::Result as IoResult;
 use std::process::ExitCode;
 use world_ports::{Files, Reading, Writing};
 
@@ -50,7 +50,7 @@ fn main(rt: HostRuntime) -> ExitCode {
     let mut files = Named::new(RealFiles::new(&rt));
     let status = match run(&rt, &mut files) {
         Ok(status) => status,
-        Err(error) if error.kind() == ErrorKind::OutOfMemory => AddStatus::Memory,
+        Err(error) if is_memory(&error) => AddStatus::Memory,
         // Words that can't be read are none of the tool's, and `add_main` had no say.
         Err(_) => AddStatus::Failed(AddFault::Usage),
     };

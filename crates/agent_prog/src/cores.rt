@@ -1,4 +1,5 @@
-// Core files, which hold what the memory held.
+//! Core files, which hold what the memory held.
+
 use libc::getrlimit;
 use libc::types::rlimit;
 

@@ -1,4 +1,5 @@
-// The descriptors that whoever started the agent had open.
+//! The descriptors that whoever started the agent had open.
+
 use libc::close;
 use std::alloc::Global;
 use std::fs;

@@ -7,32 +7,28 @@
 mod cores;
 mod descriptors;
 mod outside;
-mod trouble;
 
 use crate::cores::may_dump;
 use crate::descriptors::close_inherited;
 use crate::outside::world_of;
-use crate::trouble::Trouble;
 use agent_top::{Status, agent_main};
 use serve_words::{ServeFault, ServeWords, read_serve};
 use std::alloc::{AllocGlobal, Global};
 use std::env;
 use std::env::Env;
 use std::fs::{File, Files};
-use std::io::{Error, ErrorKind};
+use std::io::Error;
 use std::net::Net;
 use std::process::{ExitCode, Processes};
 use std::random::RandomSource;
 use std::sync::Wait;
 use std::time::Clock;
+use unix_world::is_memory;
 use world_ports::{Reading, ScriptWorld, Sink, Source, Writing};
 
 // The status where a call of the system failed.
 fn status_of(error: &Error, otherwise: Status) -> Status {
-    match error.kind() {
-        ErrorKind::OutOfMemory => Status::Memory,
-        _ => otherwise,
-    }
+    if is_memory(error) { Status::Memory } else { otherwise }
 }
 
 // The words behind the program's name. Such as can't be read are no form of the program's.
@@ -109,8 +105,8 @@ fn main(rt: HostRuntime) -> ExitCode {
         Ok(status) => status,
         Err(status) => status,
     };
-    if let Some(trouble) = Trouble::of(status) {
-        let _ = eprintln!(rt; "mortarleek: {trouble}");
+    if status != Status::Done {
+        let _ = eprintln!(rt; "mortarleek: {status}");
     }
     ExitCode::from(status.code())
 }

@@ -1,4 +1,5 @@
-// The sockets and programs of an agent that serves.
+//! The sockets and programs of an agent that serves.
+
 ghost use Rattle.std.specs.Prelude.{◌≡◌, IfOk};
 
 use serve_words::ServeWords;

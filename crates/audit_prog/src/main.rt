@@ -7,9 +7,9 @@ mod trouble;
 
 use crate::trouble::Trouble;
 use audit_core::{AuditStatus, audit_main};
-use real_edge::RealFiles;
+use real_edge::{RealFiles, is_memory};
 use std::env;
-use std::io::{ErrorKind, Result as IoResult};
+use std::io::Result as IoResult;
 use std::process::ExitCode;
 use world_ports::{Files, Writing};
 
@@ -24,7 +24,7 @@ fn main(rt: HostRuntime) -> ExitCode {
     let mut files = RealFiles::new(&rt);
     let status = match run(&rt, &mut files) {
         Ok(status) => status,
-        Err(error) if error.kind() == ErrorKind::OutOfMemory => AuditStatus::Memory,
+        Err(error) if is_memory(&error) => AuditStatus::Memory,
         // Words that can't be read are no form of the program's.
         Err(_) => AuditStatus::Usage,
     };

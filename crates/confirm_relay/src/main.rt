@@ -7,10 +7,10 @@
 #![tactic(auto)]
 
 use child_peer::NoPeer;
-use real_edge::{RealSpawner, connect_child, put_ticket};
+use real_edge::{RealSpawner, connect_child, is_memory, put_ticket};
 use relay_core::{RelayStatus, relay_main};
 use std::env;
-use std::io::{ErrorKind, Result as IoResult};
+use std::io::Result as IoResult;
 use std::process::ExitCode;
 
 fn run(rt: &HostRuntime) -> IoResult<RelayStatus> {
@@ -43,7 +43,7 @@ fn trouble(status: RelayStatus) -> Option<&'static str> {
 fn main(rt: HostRuntime) -> ExitCode {
     let status = match run(&rt) {
         Ok(status) => status,
-        Err(error) if error.kind() == ErrorKind::OutOfMemory => RelayStatus::Memory,
+        Err(error) if is_memory(&error) => RelayStatus::Memory,
         // Words that can't be read are none of a relay's.
         Err(_) => RelayStatus::Usage,
     };

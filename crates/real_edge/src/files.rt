@@ -1,7 +1,7 @@
 // Files of the system.
 ghost use Rattle.std.specs.Prelude.{◌≡◌, ◌<◌, ◌≤◌, IfOk, IfSome, None, length};
 
-use crate::errors::is_own_want;
+use crate::errors::is_memory;
 use crate::room::Room;
 use std::alloc::Global;
 use std::fs;
@@ -43,7 +43,7 @@ impl<R: SystemFiles> Files for RealFiles<'_, R> {
         match read_file(self.rt, alloc, path, max) {
             Ok(Some(bytes)) => Ok(bytes),
             Ok(None) => Err(FileFault::TooLong),
-            Err(error) if is_own_want(&error) => Err(FileFault::Memory),
+            Err(error) if is_memory(&error) => Err(FileFault::Memory),
             Err(error) => {
                 self.faults = self.faults.saturating_add(1);
                 self.reason = Some(error.kind());

@@ -13,6 +13,7 @@ mod tests;
 mod ticket;
 mod watched;
 
+pub use errors::is_memory;
 pub use files::RealFiles;
 pub use peer::{Peer, connect, connect_child};
 pub use spawner::RealSpawner;

@@ -2,7 +2,7 @@
 ghost use Rattle.std.specs.Prelude.{◌≡◌, None};
 
 use crate::dialog::give_dialog;
-use crate::errors::is_own_want;
+use crate::errors::is_memory;
 use crate::ticket::TICKET;
 use crate::watched::run_to_end;
 use plain_lists::Bytes;
@@ -62,7 +62,7 @@ impl<R: Files + Processes + Env + AllocGlobal> Spawner for RealSpawner<'_, R> {
         };
         match run_program(self.rt, alloc, program, word, watched) {
             Ok(ran) => Ok(ran),
-            Err(error) if is_own_want(&error) => Err(SpawnFault::Memory),
+            Err(error) if is_memory(&error) => Err(SpawnFault::Memory),
             Err(_) => {
                 self.faults = self.faults.saturating_add(1);
                 Err(SpawnFault::Failed)

@@ -5,10 +5,10 @@
 #![tactic(auto)]
 
 use child_peer::NoPeer;
-use real_edge::{RealFiles, connect_child, put_ticket};
+use real_edge::{RealFiles, connect_child, is_memory, put_ticket};
 use standin_core::{HelperStatus, helper_main};
 use std::env;
-use std::io::{ErrorKind, Result as IoResult};
+use std::io::Result as IoResult;
 use std::process::ExitCode;
 use std::sync::Wait;
 
@@ -44,7 +44,7 @@ fn trouble(status: HelperStatus) -> Option<&'static str> {
 fn main(rt: HostRuntime) -> ExitCode {
     let status = match run(&rt, &rt) {
         Ok(status) => status,
-        Err(error) if error.kind() == ErrorKind::OutOfMemory => HelperStatus::Memory,
+        Err(error) if is_memory(&error) => HelperStatus::Memory,
         // Words that can't be read are none of a helper's.
         Err(_) => HelperStatus::Usage,
     };
