@@ -1,4 +1,5 @@
-// An agent that counts what it is asked.
+//! An agent that counts what it is asked.
+
 ghost use Rattle.std.specs.Prelude.{◌≡◌};
 ghost use Rattle.agent_model.specs.State.{first_state, no_settings};
 

@@ -1,4 +1,5 @@
-// Many clients at once, most of them quiet.
+//! Many clients at once, most of them quiet.
+
 use crate::counted::Counted;
 use crate::scripts::{EMPTY, LIST, connect, ends, play, play_with, send, takes};
 use ready_loop::ServeEnd;

@@ -1,4 +1,5 @@
-// Calls on the world that fail: five told one by one, and each of a run with a consent and a signature.
+//! Calls on the world that fail: five told one by one, and each of a run with a consent and a signature.
+
 use crate::scripts::{EMPTY, LIST, connect, ends, play, send, takes};
 use ready_loop::ServeEnd;
 use std::alloc::{AllocError, Global};

@@ -1,4 +1,5 @@
-// A signature through the whole loop: the helper's process is started, connects and answers, or hangs.
+//! A signature through the whole loop: the helper's process is started, connects and answers, or hangs.
+
 use crate::scripts::{addition, connect, ends, play, play_timed, send, takes};
 use ready_loop::ServeEnd;
 use std::alloc::{AllocError, Global};

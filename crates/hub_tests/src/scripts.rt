@@ -1,4 +1,5 @@
-// Scripts of worlds, and what was done there.
+//! Scripts of worlds, and what was done there.
+
 ghost use Rattle.std.specs.Prelude.{◌≡◌};
 ghost use Rattle.agent_model.specs.State.{first_state, no_settings};
 

@@ -1,3 +1,5 @@
+//! Connections, requests and replies through the loop, in the order in which they are served.
+
 use crate::scripts::{EMPTY, LIST, addition, connect, ends, play, polls, read_order, send, takes};
 use ready_loop::ServeEnd;
 use std::alloc::{AllocError, Global};
