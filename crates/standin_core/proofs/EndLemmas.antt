@@ -25,7 +25,8 @@ use Rattle.world_ports.specs.Streams.{OnlyReads, OnlyWrites, StreamView, WritesP
 -- ---- ends
 
 -- whatever follows, this is the end
-ends_now : (hosts : List Host) (whole : List ℕ → Transcript) (start now : StreamView) (heard : List ℕ) (status : HelperStatus) → IsUnderWay hosts whole start now heard
+ends_now : (hosts : List Host) (whole : List ℕ → Transcript) (start now : StreamView) (heard : List ℕ) (status : HelperStatus)
+    → IsUnderWay hosts whole start now heard
     → ((more : List ℕ) → served hosts (heard ++ more) ≡ ended status) → EndsAs status whole start now
 ends_now hosts whole start now heard status under is = record {
   bytes = under.bytes;
@@ -38,13 +39,15 @@ ends_now hosts whole start now heard status under is = record {
   writes = under.writes;
 }
 
-pub ends_bad_length : (hosts : List Host) (whole : List ℕ → Transcript) (start now : StreamView) (heard : List ℕ) (announced : ℕ) → IsUnderWay hosts whole start now heard
+pub ends_bad_length : (hosts : List Host) (whole : List ℕ → Transcript) (start now : StreamView) (heard : List ℕ) (announced : ℕ)
+    → IsUnderWay hosts whole start now heard
     → front longest_to_child heard ≡ Bad announced → Ends BadFrame whole start now
 unfolding Ends
 ends_bad_length hosts whole start now heard announced under found =
     ends_now hosts whole start now heard BadFrame under (λ more. served-bad hosts heard more announced found)
 
-pub ends_bad_body : (hosts : List Host) (whole : List ℕ → Transcript) (start now : StreamView) (heard : List ℕ) (body_len : ℕ) → IsUnderWay hosts whole start now heard
+pub ends_bad_body : (hosts : List Host) (whole : List ℕ → Transcript) (start now : StreamView) (heard : List ℕ) (body_len : ℕ)
+    → IsUnderWay hosts whole start now heard
     → front longest_to_child heard ≡ Whole body_len → answer_of hosts (front_body body_len heard) ≡ None → Ends BadFrame whole start now
 unfolding Ends
 ends_bad_body hosts whole start now heard body_len under found none =
@@ -57,7 +60,8 @@ goes_nil hosts whole start now heard under =
     ap whole (sym (append-nil under.bytes)) ∙ under.goes [] ∙ ap (λ (h : List ℕ). after under.sent (served hosts h)) (append-nil heard)
 
 -- nothing follows
-ends_at_end : (hosts : List Host) (whole : List ℕ → Transcript) (start now new : StreamView) (heard after_heard : List ℕ) → IsUnderWay hosts whole start now heard
+ends_at_end : (hosts : List Host) (whole : List ℕ → Transcript) (start now new : StreamView) (heard after_heard : List ℕ)
+    → IsUnderWay hosts whole start now heard
     → front longest_to_child heard ≡ More → HearsNothing heard after_heard now new → IsAtEnd new.left → new.read_faults ≡ now.read_faults → OnlyReads now new
     → EndsAs (torn_or_done heard) whole start new
 ends_at_end hosts whole start now new heard after_heard under found nothing end same only = record {
@@ -72,7 +76,8 @@ ends_at_end hosts whole start now new heard after_heard under found nothing end 
 }
 
 -- between two frames
-pub ends_done : (hosts : List Host) (whole : List ℕ → Transcript) (start now new : StreamView) (heard after_heard : List ℕ) → IsUnderWay hosts whole start now heard
+pub ends_done : (hosts : List Host) (whole : List ℕ → Transcript) (start now new : StreamView) (heard after_heard : List ℕ)
+    → IsUnderWay hosts whole start now heard
     → front longest_to_child heard ≡ More → HearsNothing heard after_heard now new → IsAtEnd new.left → new.read_faults ≡ now.read_faults → OnlyReads now new
     → after_heard ≡ [] → Ends Done whole start new
 unfolding Ends
@@ -85,7 +90,8 @@ torn [] some = absurd (some refl)
 torn (byte ∷ bytes) some = refl
 
 -- within a frame
-pub ends_torn : (hosts : List Host) (whole : List ℕ → Transcript) (start now new : StreamView) (heard after_heard : List ℕ) → IsUnderWay hosts whole start now heard
+pub ends_torn : (hosts : List Host) (whole : List ℕ → Transcript) (start now new : StreamView) (heard after_heard : List ℕ)
+    → IsUnderWay hosts whole start now heard
     → front longest_to_child heard ≡ More → HearsNothing heard after_heard now new → IsAtEnd new.left → new.read_faults ≡ now.read_faults → OnlyReads now new
     → (after_heard ≡ [] → ⊥) → Ends TornEnd whole start new
 unfolding Ends
@@ -102,7 +108,8 @@ front_sent hosts whole start now heard under more = record {
 }
 
 -- memory ran out, and nothing was done since
-pub ends_early : (hosts : List Host) (whole : List ℕ → Transcript) (start now : StreamView) (heard : List ℕ) → IsUnderWay hosts whole start now heard → Ends Memory whole start now
+pub ends_early : (hosts : List Host) (whole : List ℕ → Transcript) (start now : StreamView) (heard : List ℕ)
+    → IsUnderWay hosts whole start now heard → Ends Memory whole start now
 unfolding Ends
 ends_early hosts whole start now heard under = record {
   bytes = under.bytes;
@@ -113,7 +120,8 @@ ends_early hosts whole start now heard under = record {
 }
 
 -- a talk that is under way stays so where nothing was read
-pub under_way-kept : (hosts : List Host) (whole : List ℕ → Transcript) (start now new : StreamView) (heard after_heard : List ℕ) → IsUnderWay hosts whole start now heard
+pub under_way-kept : (hosts : List Host) (whole : List ℕ → Transcript) (start now new : StreamView) (heard after_heard : List ℕ)
+    → IsUnderWay hosts whole start now heard
     → HearsNothing heard after_heard now new → new.read_faults ≡ now.read_faults → OnlyReads now new → IsUnderWay hosts whole start new after_heard
 under_way-kept hosts whole start now new heard after_heard under nothing same only = record {
   bytes = under.bytes;
@@ -126,7 +134,8 @@ under_way-kept hosts whole start now new heard after_heard under nothing same on
 }
 
 -- a read failed
-pub ends_unread : (hosts : List Host) (whole : List ℕ → Transcript) (start now new : StreamView) (heard after_heard : List ℕ) → IsUnderWay hosts whole start now heard
+pub ends_unread : (hosts : List Host) (whole : List ℕ → Transcript) (start now new : StreamView) (heard after_heard : List ℕ)
+    → IsUnderWay hosts whole start now heard
     → front longest_to_child heard ≡ More → HearsNothing heard after_heard now new → Rose now.read_faults new.read_faults → OnlyReads now new → Ends ReadFault whole start new
 unfolding Ends
 ends_unread hosts whole start now new heard after_heard under found nothing rose only =
@@ -145,7 +154,8 @@ ends_unread hosts whole start now new heard after_heard under found nothing rose
 -- ---- steps
 
 -- a piece was read
-pub under_way-piece : (hosts : List Host) (whole : List ℕ → Transcript) (start now new : StreamView) (heard after_heard : List ℕ) → IsUnderWay hosts whole start now heard
+pub under_way-piece : (hosts : List Host) (whole : List ℕ → Transcript) (start now new : StreamView) (heard after_heard : List ℕ)
+    → IsUnderWay hosts whole start now heard
     → HearsPiece heard after_heard now new → OnlyReads now new → IsUnderWay hosts whole start new after_heard
 under_way-piece hosts whole start now new heard after_heard under piece only = record {
   bytes = under.bytes ++ piece.piece;

@@ -11,12 +11,14 @@ use Rattle.wire_text.specs.Wire.{string, uint32}
 -- ---- fronts
 
 -- what a test of the front says
-tested : (bytes front : List ℕ) → pointwise eqb (take (length front) bytes) front ≡ true → bytes ≡ front ++ drop (length front) bytes
+tested : (bytes front : List ℕ) → pointwise eqb (take (length front) bytes) front ≡ true
+    → bytes ≡ front ++ drop (length front) bytes
 tested bytes front same =
     let is = (slice_eq-Decides Decides-eqb (take (length front) bytes) front (pointwise eqb (take (length front) bytes) front) refl).0 same in
     sym (take-append-drop (length front) bytes) ∙ ap (λ (f : List ℕ). f ++ drop (length front) bytes) is
 
-missing : (bytes front : List ℕ) → pointwise eqb (take (length front) bytes) front ≡ false → HasNoFront front bytes
+missing : (bytes front : List ℕ) → pointwise eqb (take (length front) bytes) front ≡ false
+    → HasNoFront front bytes
 missing bytes front differ rest whole =
     let is : take (length front) bytes ≡ front = ap (take (length front)) whole ∙ take_at front rest (length front) refl in
     let same = (slice_eq-Decides Decides-eqb (take (length front) bytes) front (pointwise eqb (take (length front) bytes) front) refl).1 is in
@@ -26,7 +28,8 @@ pub behind_by : (result : Option (Bor (List ℕ))) (front bytes : List ℕ)
     → MatchOption result (pointwise eqb (take (length front) bytes) front ≡ false) (λ x. (pointwise eqb (take (length front) bytes) front ≡ true) × (x.now ≡ drop (length front) bytes) × (length x.now + length front ≡ length bytes))
     → MatchOption result (HasNoFront front bytes) (λ rest. bytes ≡ front ++ rest.now)
 behind_by None front bytes differ = missing bytes front differ
-behind_by (Some x) front bytes same = tested bytes front same.0 ∙ ap (λ (r : List ℕ). front ++ r) (sym same.1)
+behind_by (Some x) front bytes same =
+    tested bytes front same.0 ∙ ap (λ (r : List ℕ). front ++ r) (sym same.1)
 
 -- the rest behind a front is one
 pub same_rest : (front a b : List ℕ) → front ++ a ≡ front ++ b → a ≡ b
@@ -54,7 +57,8 @@ length_32-is = refl
 -- a string of 32 bytes
 pub string-of_32 : (text : List ℕ) → length text ≡ 32 → string text ≡ length_32 ++ text
 unfolding string
-string-of_32 text sized = ap (λ (n : ℕ). uint32 n ++ text) sized ∙ ap (λ (n : List ℕ). n ++ text) length_32-is
+string-of_32 text sized =
+    ap (λ (n : ℕ). uint32 n ++ text) sized ∙ ap (λ (n : List ℕ). n ++ text) length_32-is
 
 -- a blob, and a signature, begin with the head
 pub headed : (text : List ℕ) → length text ≡ 32 → string type_name ++ string text ≡ head ++ text
@@ -66,7 +70,8 @@ headed text sized =
 -- ---- tests
 
 -- what a choice gave
-chosen : {A : Type 0} (test : Bool) (x y : A) → (if test then Some x else None) ≡ Some y → (test ≡ true) × (x ≡ y)
+chosen : {A : Type 0} (test : Bool) (x y : A) → (if test then Some x else None) ≡ Some y
+    → (test ≡ true) × (x ≡ y)
 chosen true x y is = (refl, cc is)
 chosen false x y is = cc is
 
@@ -108,19 +113,23 @@ tag_of-none blob none = none_of (tag_of blob) (λ tag found.
     none tag (is.whole ∙ headed tag is.sized))
 
 -- a tag of another length
-pub tag_of-other : (blob rest : List ℕ) → blob ≡ head ++ rest → (length rest ≡ 32 → ⊥) → tag_of blob ≡ None
+pub tag_of-other : (blob rest : List ℕ) → blob ≡ head ++ rest → (length rest ≡ 32 → ⊥)
+    → tag_of blob ≡ None
 tag_of-other blob rest whole other = none_of (tag_of blob) (λ tag found.
     let is = tag_of-only blob tag found in
     let same = same_rest head rest tag (sym whole ∙ is.whole ∙ headed tag is.sized) in
     other (ap length same ∙ is.sized))
 
 -- a tag of 32 bytes
-pub tag_of-some : (blob tag : List ℕ) → blob ≡ head ++ tag → length tag ≡ 32 → tag_of blob ≡ Some tag
-tag_of-some blob tag whole sized = tag_of-found blob tag (record { whole = whole ∙ sym (headed tag sized); sized = sized })
+pub tag_of-some : (blob tag : List ℕ) → blob ≡ head ++ tag → length tag ≡ 32
+    → tag_of blob ≡ Some tag
+tag_of-some blob tag whole sized =
+    tag_of-found blob tag (record { whole = whole ∙ sym (headed tag sized); sized = sized })
 
 -- ---- private strings
 
-pub secret_of-found : (private blob secret : List ℕ) → IsPrivate private blob secret → secret_of private blob ≡ Some secret
+pub secret_of-found : (private blob secret : List ℕ) → IsPrivate private blob secret
+    → secret_of private blob ≡ Some secret
 unfolding secret_of
 secret_of-found private blob secret is =
     let public = tag_of-found blob is.tag is.blob_is in
@@ -136,11 +145,13 @@ secret_of-found private blob secret is =
     grind (arith, nat_tests, public, long, same, tail)
 
 -- the tag that is there
-some_tag : (blob : List ℕ) (o : Option (List ℕ)) → tag_of blob ≡ o → is_some o ≡ true → (tag : List ℕ) × (tag_of blob ≡ Some tag)
+some_tag : (blob : List ℕ) (o : Option (List ℕ)) → tag_of blob ≡ o → is_some o ≡ true
+    → (tag : List ℕ) × (tag_of blob ≡ Some tag)
 some_tag blob None is some = cc some
 some_tag blob (Some tag) is some = (tag, is)
 
-pub secret_of-only : (private blob secret : List ℕ) → secret_of private blob ≡ Some secret → IsPrivate private blob secret
+pub secret_of-only : (private blob secret : List ℕ) → secret_of private blob ≡ Some secret
+    → IsPrivate private blob secret
 unfolding secret_of
 secret_of-only private blob secret found =
     let tests = chosen _ _ _ found in
@@ -160,7 +171,8 @@ secret_of-only private blob secret found =
     }
 
 -- what a private string with this blob is
-private_with : (private blob secret : List ℕ) → IsPrivate private blob secret → private ≡ blob ++ (length_32 ++ secret)
+private_with : (private blob secret : List ℕ) → IsPrivate private blob secret
+    → private ≡ blob ++ (length_32 ++ secret)
 private_with private blob secret is =
     is.whole ∙ ap (λ (b : List ℕ). b ++ string secret) (sym is.blob_is.whole) ∙ ap (λ (s : List ℕ). blob ++ s) (string-of_32 secret is.sized)
 
@@ -172,24 +184,29 @@ secret_of-no_tag private blob none = none_of (secret_of private blob) (λ secret
     cc (some, none))
 
 -- the blob doesn't stand in front
-pub secret_of-no_blob : (private blob : List ℕ) → HasNoFront blob private → secret_of private blob ≡ None
+pub secret_of-no_blob : (private blob : List ℕ) → HasNoFront blob private
+    → secret_of private blob ≡ None
 secret_of-no_blob private blob none = none_of (secret_of private blob) (λ secret found.
     none (length_32 ++ secret) (private_with private blob secret (secret_of-only private blob secret found)))
 
 -- no length stands behind it
-pub secret_of-no_length : (private blob rest : List ℕ) → private ≡ blob ++ rest → HasNoFront length_32 rest → secret_of private blob ≡ None
+pub secret_of-no_length : (private blob rest : List ℕ) → private ≡ blob ++ rest
+    → HasNoFront length_32 rest → secret_of private blob ≡ None
 secret_of-no_length private blob rest whole none = none_of (secret_of private blob) (λ secret found.
     none secret (same_rest blob rest (length_32 ++ secret) (sym whole ∙ private_with private blob secret (secret_of-only private blob secret found))))
 
 -- a secret of another length
-pub secret_of-other : (private blob rest tail : List ℕ) → private ≡ blob ++ rest → rest ≡ length_32 ++ tail → (length tail ≡ 32 → ⊥) → secret_of private blob ≡ None
+pub secret_of-other : (private blob rest tail : List ℕ) → private ≡ blob ++ rest
+    → rest ≡ length_32 ++ tail → (length tail ≡ 32 → ⊥) → secret_of private blob ≡ None
 secret_of-other private blob rest tail whole behind other = none_of (secret_of private blob) (λ secret found.
     let is = secret_of-only private blob secret found in
     let same = same_rest blob rest (length_32 ++ secret) (sym whole ∙ private_with private blob secret is) in
     other (ap length (same_rest length_32 tail secret (sym behind ∙ same)) ∙ is.sized))
 
 -- a secret of 32 bytes
-pub secret_of-some : (private blob tag rest secret : List ℕ) → tag_of blob ≡ Some tag → private ≡ blob ++ rest → rest ≡ length_32 ++ secret → length secret ≡ 32 → secret_of private blob ≡ Some secret
+pub secret_of-some : (private blob tag rest secret : List ℕ) → tag_of blob ≡ Some tag
+    → private ≡ blob ++ rest → rest ≡ length_32 ++ secret → length secret ≡ 32
+    → secret_of private blob ≡ Some secret
 secret_of-some private blob tag rest secret public whole behind sized =
     let is = tag_of-only blob tag public in
     secret_of-found private blob secret (record {

@@ -16,7 +16,8 @@ use Rattle.standin_core.proofs.KeyLemmas.{secret_of-found, secret_of-only, tag_o
 
 -- ---- the order
 
-answers-head : (hosts : List Host) (body : List ℕ) (bodies : List (List ℕ)) (given : Option FromChildMessage) → answer_of hosts body ≡ given
+answers-head : (hosts : List Host) (body : List ℕ) (bodies : List (List ℕ)) (given : Option FromChildMessage)
+    → answer_of hosts body ≡ given
     → map (answer_of hosts) (take (length (answers_to hosts bodies)) bodies) ≡ map (λ answer. Some answer) (answers_to hosts bodies)
     → map (answer_of hosts) (take (length (then_answers given (answers_to hosts bodies))) (body ∷ bodies)) ≡ map (λ answer. Some answer) (then_answers given (answers_to hosts bodies))
 answers-head hosts body bodies (Some answer) is later = cc
@@ -26,35 +27,42 @@ pub answers-in_order : (hosts : List Host) (bodies : List (List ℕ))
     → map (answer_of hosts) (take (length (answers_to hosts bodies)) bodies) ≡ map (λ answer. Some answer) (answers_to hosts bodies)
 unfolding answers_to
 answers-in_order hosts [] = refl
-answers-in_order hosts (body ∷ bodies) = answers-head hosts body bodies (answer_of hosts body) refl (answers-in_order hosts bodies)
+answers-in_order hosts (body ∷ bodies) =
+    answers-head hosts body bodies (answer_of hosts body) refl (answers-in_order hosts bodies)
 
 -- ---- what is asked
 
 -- a request for a signature, which was answered
-signed-asked : (ask : ℕ) (signature : List ℕ) (request : Signing) (secret : Option (List ℕ)) → signed_with secret request ≡ Signed ask signature
+signed-asked : (ask : ℕ) (signature : List ℕ) (request : Signing) (secret : Option (List ℕ))
+    → signed_with secret request ≡ Signed ask signature
     → (found : List ℕ) × (secret ≡ Some found) × (request.ask ≡ ask) × (signature ≡ signature_of found request.message)
 signed-asked ask signature request (Some found) is = (found, refl, cc is, cc is)
 signed-asked ask signature request None is = cc is
 
 -- a request for a signature, which was refused
-refused-asked : (ask : ℕ) (request : Signing) (secret : Option (List ℕ)) → signed_with secret request ≡ Refused ask → (secret ≡ None) × (request.ask ≡ ask)
+refused-asked : (ask : ℕ) (request : Signing) (secret : Option (List ℕ))
+    → signed_with secret request ≡ Refused ask → (secret ≡ None) × (request.ask ≡ ask)
 refused-asked ask request (Some found) is = cc is
 refused-asked ask request None is = (refl, cc is)
 
 -- a verification says TRUE or FALSE
-verdict-true : (ask number : ℕ) (test : Bool) → (if test then True number else False number) ≡ True ask → (test ≡ true) × (number ≡ ask)
+verdict-true : (ask number : ℕ) (test : Bool)
+    → (if test then True number else False number) ≡ True ask → (test ≡ true) × (number ≡ ask)
 verdict-true ask number true is = (refl, cc is)
 verdict-true ask number false is = cc is
 
-no_signature : (ask number : ℕ) (signature : List ℕ) (test : Bool) → (if test then True number else False number) ≡ Signed ask signature → ⊥
+no_signature : (ask number : ℕ) (signature : List ℕ) (test : Bool)
+    → (if test then True number else False number) ≡ Signed ask signature → ⊥
 no_signature ask number signature true is = cc is
 no_signature ask number signature false is = cc is
 
-no_refusal : (ask number : ℕ) (test : Bool) → (if test then True number else False number) ≡ Refused ask → ⊥
+no_refusal : (ask number : ℕ) (test : Bool)
+    → (if test then True number else False number) ≡ Refused ask → ⊥
 no_refusal ask number true is = cc is
 no_refusal ask number false is = cc is
 
-no_truth : (ask : ℕ) (request : Signing) (secret : Option (List ℕ)) → signed_with secret request ≡ True ask → ⊥
+no_truth : (ask : ℕ) (request : Signing) (secret : Option (List ℕ))
+    → signed_with secret request ≡ True ask → ⊥
 no_truth ask request (Some found) is = cc is
 no_truth ask request None is = cc is
 
@@ -64,7 +72,8 @@ same_some x y same = cc
 
 -- ---- signatures
 
-signed-message : (hosts : List Host) (body : List ℕ) (ask : ℕ) (signature : List ℕ) (read : Result ToChildMessage ChildFault) → to_child_of body ≡ read
+signed-message : (hosts : List Host) (body : List ℕ) (ask : ℕ) (signature : List ℕ) (read : Result ToChildMessage ChildFault)
+    → to_child_of body ≡ read
     → answer_to hosts (result_ok read) ≡ Some (Signed ask signature) → IsSignedFor body ask signature
 signed-message hosts body ask signature (Ok (Sign request)) read is =
     let asked = signed-asked ask signature request (secret_of request.private request.blob) (same_some _ _ is) in
@@ -75,15 +84,19 @@ signed-message hosts body ask signature (Ok (Sign request)) read is =
       private = secret_of-only request.private request.blob asked.0 asked.1;
       made = asked.3;
     }
-signed-message hosts body ask signature (Ok (Verify request)) read is = absurd (no_signature ask request.ask signature _ (same_some _ _ is))
+signed-message hosts body ask signature (Ok (Verify request)) read is =
+    absurd (no_signature ask request.ask signature _ (same_some _ _ is))
 signed-message hosts body ask signature (Ok (Confirm job prompt)) read is = cc is
 signed-message hosts body ask signature (Err fault) read is = cc is
 
-pub signed-only : (hosts : List Host) (body : List ℕ) (ask : ℕ) (signature : List ℕ) → answer_of hosts body ≡ Some (Signed ask signature) → IsSignedFor body ask signature
+pub signed-only : (hosts : List Host) (body : List ℕ) (ask : ℕ) (signature : List ℕ)
+    → answer_of hosts body ≡ Some (Signed ask signature) → IsSignedFor body ask signature
 unfolding answer_of
-signed-only hosts body ask signature is = signed-message hosts body ask signature (to_child_of body) refl is
+signed-only hosts body ask signature is =
+    signed-message hosts body ask signature (to_child_of body) refl is
 
-pub signed-found : (hosts : List Host) (body : List ℕ) (ask : ℕ) (signature : List ℕ) → IsSignedFor body ask signature → answer_of hosts body ≡ Some (Signed ask signature)
+pub signed-found : (hosts : List Host) (body : List ℕ) (ask : ℕ) (signature : List ℕ)
+    → IsSignedFor body ask signature → answer_of hosts body ≡ Some (Signed ask signature)
 signed-found hosts body ask signature signed =
     answer_of-message hosts body (Sign signed.request) signed.asks.read
     ∙ ap (λ (s : Option (List ℕ)). Some (signed_with s signed.request)) (secret_of-found signed.request.private signed.request.blob signed.secret signed.private)
@@ -92,7 +105,8 @@ signed-found hosts body ask signature signed =
 
 -- ---- refusals
 
-refused-message : (hosts : List Host) (body : List ℕ) (ask : ℕ) (read : Result ToChildMessage ChildFault) → to_child_of body ≡ read
+refused-message : (hosts : List Host) (body : List ℕ) (ask : ℕ) (read : Result ToChildMessage ChildFault)
+    → to_child_of body ≡ read
     → answer_to hosts (result_ok read) ≡ Some (Refused ask) → IsRefusedFor body ask
 refused-message hosts body ask (Ok (Sign request)) read is =
     let asked = refused-asked ask request (secret_of request.private request.blob) (same_some _ _ is) in
@@ -101,11 +115,13 @@ refused-message hosts body ask (Ok (Sign request)) read is =
       asks = record { read = read; number = asked.1 };
       none = λ secret private. let found = secret_of-found request.private request.blob secret private in cc (found, asked.0);
     }
-refused-message hosts body ask (Ok (Verify request)) read is = absurd (no_refusal ask request.ask _ (same_some _ _ is))
+refused-message hosts body ask (Ok (Verify request)) read is =
+    absurd (no_refusal ask request.ask _ (same_some _ _ is))
 refused-message hosts body ask (Ok (Confirm job prompt)) read is = cc is
 refused-message hosts body ask (Err fault) read is = cc is
 
-pub refused-only : (hosts : List Host) (body : List ℕ) (ask : ℕ) → answer_of hosts body ≡ Some (Refused ask) → IsRefusedFor body ask
+pub refused-only : (hosts : List Host) (body : List ℕ) (ask : ℕ)
+    → answer_of hosts body ≡ Some (Refused ask) → IsRefusedFor body ask
 unfolding answer_of
 refused-only hosts body ask is = refused-message hosts body ask (to_child_of body) refl is
 
@@ -114,7 +130,8 @@ none_of : {A : Type 0} (o : Option A) → ((x : A) → o ≡ Some x → ⊥) →
 none_of None none = refl
 none_of (Some x) none = absurd (none x refl)
 
-pub refused-found : (hosts : List Host) (body : List ℕ) (ask : ℕ) → IsRefusedFor body ask → answer_of hosts body ≡ Some (Refused ask)
+pub refused-found : (hosts : List Host) (body : List ℕ) (ask : ℕ) → IsRefusedFor body ask
+    → answer_of hosts body ≡ Some (Refused ask)
 refused-found hosts body ask refused =
     let none = none_of (secret_of refused.request.private refused.request.blob) (λ secret found.
     refused.none secret (secret_of-only refused.request.private refused.request.blob secret found)) in
@@ -132,7 +149,8 @@ pub record IsRight (hosts : List Host) (request : Verification) : Type 0 where
   pub host : secret_for tag hosts ≡ Some secret
   pub made : request.signature ≡ signature_of secret request.session
 
-right-secret : (hosts : List Host) (request : Verification) (tag : List ℕ) (secret : Option (List ℕ)) → IsBlob request.host_key tag → secret_for tag hosts ≡ secret
+right-secret : (hosts : List Host) (request : Verification) (tag : List ℕ) (secret : Option (List ℕ))
+    → IsBlob request.host_key tag → secret_for tag hosts ≡ secret
     → is_signed_with secret request ≡ true → IsRight hosts request
 right-secret hosts request tag (Some secret) blob host is = record {
   tag = tag;
@@ -143,14 +161,17 @@ right-secret hosts request tag (Some secret) blob host is = record {
 }
 right-secret hosts request tag None blob host is = cc is
 
-right-tag : (hosts : List Host) (request : Verification) (tag : Option (List ℕ)) → tag_of request.host_key ≡ tag → is_signed_with (host_secret hosts tag) request ≡ true
+right-tag : (hosts : List Host) (request : Verification) (tag : Option (List ℕ))
+    → tag_of request.host_key ≡ tag → is_signed_with (host_secret hosts tag) request ≡ true
     → IsRight hosts request
 right-tag hosts request (Some tag) found is = right-secret hosts request tag (secret_for tag hosts) (tag_of-only request.host_key tag found) refl is
 right-tag hosts request None found is = cc is
 
-true-message : (hosts : List Host) (body : List ℕ) (ask : ℕ) (read : Result ToChildMessage ChildFault) → to_child_of body ≡ read
+true-message : (hosts : List Host) (body : List ℕ) (ask : ℕ) (read : Result ToChildMessage ChildFault)
+    → to_child_of body ≡ read
     → answer_to hosts (result_ok read) ≡ Some (True ask) → IsTrueFor hosts body ask
-true-message hosts body ask (Ok (Sign request)) read is = absurd (no_truth ask request _ (same_some _ _ is))
+true-message hosts body ask (Ok (Sign request)) read is =
+    absurd (no_truth ask request _ (same_some _ _ is))
 true-message hosts body ask (Ok (Verify request)) read is =
     let verdict = verdict-true ask request.ask _ (same_some _ _ is) in
     let right = right-tag hosts request (tag_of request.host_key) refl verdict.0 in
@@ -167,11 +188,13 @@ true-message hosts body ask (Ok (Verify request)) read is =
 true-message hosts body ask (Ok (Confirm job prompt)) read is = cc is
 true-message hosts body ask (Err fault) read is = cc is
 
-pub true-only : (hosts : List Host) (body : List ℕ) (ask : ℕ) → answer_of hosts body ≡ Some (True ask) → IsTrueFor hosts body ask
+pub true-only : (hosts : List Host) (body : List ℕ) (ask : ℕ)
+    → answer_of hosts body ≡ Some (True ask) → IsTrueFor hosts body ask
 unfolding answer_of
 true-only hosts body ask is = true-message hosts body ask (to_child_of body) refl is
 
-pub true-found : (hosts : List Host) (body : List ℕ) (ask : ℕ) → IsTrueFor hosts body ask → answer_of hosts body ≡ Some (True ask)
+pub true-found : (hosts : List Host) (body : List ℕ) (ask : ℕ) → IsTrueFor hosts body ask
+    → answer_of hosts body ≡ Some (True ask)
 true-found hosts body ask is =
     let request = is.request in
     let same : bytes_eq request.signature (signature_of is.secret request.session) ≡ true =

@@ -16,24 +16,31 @@ use Rattle.world_ports.specs.Streams.{OnlyWrites, StreamView, WritesPart}
 
 -- ---- transcripts
 
-pub transcript-usage : (words : List (List ℕ)) (held : List ℕ → Option (List ℕ)) → words_of words ≡ None → (stream : List ℕ) → transcript_of words held stream ≡ ended Usage
+pub transcript-usage : (words : List (List ℕ)) (held : List ℕ → Option (List ℕ))
+    → words_of words ≡ None → (stream : List ℕ) → transcript_of words held stream ≡ ended Usage
 unfolding transcript_of
-transcript-usage words held none stream = ap (λ (w : Option ChildWords). transcript_with w held stream) none
+transcript-usage words held none stream =
+    ap (λ (w : Option ChildWords). transcript_with w held stream) none
 
 -- by the hosts, or why there are none
-transcript-hosts : (words : List (List ℕ)) (held : List ℕ → Option (List ℕ)) (read : ChildWords) (hosts : Result (List Host) HelperStatus) → words_of words ≡ Some read
+transcript-hosts : (words : List (List ℕ)) (held : List ℕ → Option (List ℕ)) (read : ChildWords) (hosts : Result (List Host) HelperStatus)
+    → words_of words ≡ Some read
     → hosts_at read.last held ≡ hosts → (stream : List ℕ) → transcript_of words held stream ≡ greeted read hosts stream
 unfolding transcript_of
 transcript-hosts words held read hosts of_words is stream =
     ap (λ (w : Option ChildWords). transcript_with w held stream) of_words ∙ ap (λ (h : Result (List Host) HelperStatus). greeted read h stream) is
 
-pub transcript-talk : (words : List (List ℕ)) (held : List ℕ → Option (List ℕ)) (read : ChildWords) (hosts : List Host) → words_of words ≡ Some read
+pub transcript-talk : (words : List (List ℕ)) (held : List ℕ → Option (List ℕ)) (read : ChildWords) (hosts : List Host)
+    → words_of words ≡ Some read
     → hosts_at read.last held ≡ Ok hosts → (stream : List ℕ) → transcript_of words held stream ≡ greeted read (Ok hosts) stream
-transcript-talk words held read hosts of_words is = transcript-hosts words held read (Ok hosts) of_words is
+transcript-talk words held read hosts of_words is =
+    transcript-hosts words held read (Ok hosts) of_words is
 
-pub transcript-fault : (words : List (List ℕ)) (held : List ℕ → Option (List ℕ)) (read : ChildWords) (why : HelperStatus) → words_of words ≡ Some read
+pub transcript-fault : (words : List (List ℕ)) (held : List ℕ → Option (List ℕ)) (read : ChildWords) (why : HelperStatus)
+    → words_of words ≡ Some read
     → hosts_at read.last held ≡ Err why → (stream : List ℕ) → transcript_of words held stream ≡ ended why
-transcript-fault words held read why of_words is = transcript-hosts words held read (Err why) of_words is
+transcript-fault words held read why of_words is =
+    transcript-hosts words held read (Err why) of_words is
 
 -- ---- HELLO
 
@@ -42,7 +49,8 @@ abbrev pub Greets : List Host → (List ℕ → Transcript) → List ℕ → Typ
 Greets hosts whole frame = (stream : List ℕ) → whole stream ≡ after frame (served hosts stream)
 
 -- memory ran out
-pub ends_ungreeted : (whole : List ℕ → Transcript) (start : StreamView) → Ends Memory whole start start
+pub ends_ungreeted : (whole : List ℕ → Transcript) (start : StreamView)
+    → Ends Memory whole start start
 unfolding Ends
 ends_ungreeted whole start = record {
   bytes = [];
@@ -53,7 +61,8 @@ ends_ungreeted whole start = record {
 }
 
 -- the write failed
-pub ends_half_greeted : (hosts : List Host) (whole : List ℕ → Transcript) (start new : StreamView) (frame out : List ℕ) → Greets hosts whole frame → out ≡ frame
+pub ends_half_greeted : (hosts : List Host) (whole : List ℕ → Transcript) (start new : StreamView) (frame out : List ℕ)
+    → Greets hosts whole frame → out ≡ frame
     → WritesPart out start new → Rose start.write_faults new.write_faults → OnlyWrites start new → Ends WriteFault whole start new
 unfolding Ends
 ends_half_greeted hosts whole start new frame out greets is part rose only = record {
@@ -74,7 +83,8 @@ ends_half_greeted hosts whole start new frame out greets is part rose only = rec
 }
 
 -- it is sent
-pub under_way-greeted : (hosts : List Host) (whole : List ℕ → Transcript) (start new : StreamView) (frame out : List ℕ) → Greets hosts whole frame → out ≡ frame
+pub under_way-greeted : (hosts : List Host) (whole : List ℕ → Transcript) (start new : StreamView) (frame out : List ℕ)
+    → Greets hosts whole frame → out ≡ frame
     → Appends start.written new.written out → new.write_faults ≡ start.write_faults → OnlyWrites start new → IsUnderWay hosts whole start new []
 under_way-greeted hosts whole start new frame out greets is wrote same only = record {
   bytes = [];
@@ -89,7 +99,8 @@ under_way-greeted hosts whole start new frame out greets is wrote same only = re
 -- ---- statuses
 
 -- a talk says what its status says
-pub answers_by : (status : HelperStatus) (words : List (List ℕ)) (old new : Seen) → EndsTalk status words old new → Answers status words old new
+pub answers_by : (status : HelperStatus) (words : List (List ℕ)) (old new : Seen)
+    → EndsTalk status words old new → Answers status words old new
 unfolding Ends
 answers_by Done words old new talk = talk
 answers_by BadFrame words old new talk = talk
@@ -102,11 +113,15 @@ answers_by WriteFault words old new talk = talk
 answers_by TornEnd words old new talk = talk
 
 -- a talk ends for no reason that comes before it
-pub no_usage : (status : HelperStatus) (whole : List ℕ → Transcript) (old new : StreamView) → Ends status whole old new → status ≡ Usage → ⊥
+pub no_usage : (status : HelperStatus) (whole : List ℕ → Transcript) (old new : StreamView)
+    → Ends status whole old new → status ≡ Usage → ⊥
 unfolding Ends
 no_usage status whole old new ends is = subst (λ (s : HelperStatus). Ends s whole old new) is ends
 
-pub no_file_fault : (status : HelperStatus) (whole : List ℕ → Transcript) (old new : StreamView) → Ends status whole old new → (status ≡ FileFault) ⊎ (status ≡ BadFile) → ⊥
+pub no_file_fault : (status : HelperStatus) (whole : List ℕ → Transcript) (old new : StreamView)
+    → Ends status whole old new → (status ≡ FileFault) ⊎ (status ≡ BadFile) → ⊥
 unfolding Ends
-no_file_fault status whole old new ends (inl is) = subst (λ (s : HelperStatus). Ends s whole old new) is ends
-no_file_fault status whole old new ends (inr is) = subst (λ (s : HelperStatus). Ends s whole old new) is ends
+no_file_fault status whole old new ends (inl is) =
+    subst (λ (s : HelperStatus). Ends s whole old new) is ends
+no_file_fault status whole old new ends (inr is) =
+    subst (λ (s : HelperStatus). Ends s whole old new) is ends

@@ -18,13 +18,15 @@ use Rattle.wire_text.proofs.SplitLemmas.{split-whole, split-bad, split-more}
 
 -- ---- transcripts
 
-pub after-after : (a b : List ℕ) (later : Transcript) → after a (after b later) ≡ after (a ++ b) later
+pub after-after : (a b : List ℕ) (later : Transcript)
+    → after a (after b later) ≡ after (a ++ b) later
 after-after a b later = ap (λ (s : List ℕ). transcript s later.status) (sym (append_assoc a b later.sent))
   where
     transcript : List ℕ → HelperStatus → Transcript
     transcript sent status = record { sent = sent; status = status }
 
-pub after-ended : (sent : List ℕ) (status : HelperStatus) → after sent (ended status) ≡ record { sent = sent; status = status }
+pub after-ended : (sent : List ℕ) (status : HelperStatus)
+    → after sent (ended status) ≡ record { sent = sent; status = status }
 after-ended sent status = ap (λ (s : List ℕ). transcript s) (append-nil sent)
   where
     transcript : List ℕ → Transcript
@@ -45,7 +47,8 @@ frame-split s t body_len found =
 one_body : Option FromChildMessage → List FromChildMessage → Bool → List ℕ → Transcript
 one_body given answers requests rest = record {
   sent = frames (map from_child_body (then_answers given answers));
-  status = if is_some given && requests then status_at (front longest_to_child rest) rest else BadFrame;
+  status =
+      if is_some given && requests then status_at (front longest_to_child rest) rest else BadFrame;
 }
 
 body-served : (hosts : List Host) (body : List ℕ) (parts : Split)
@@ -58,12 +61,14 @@ answered-served : (hosts : List Host) (answer : FromChildMessage) (parts : Split
 unfolding one_body
 answered-served hosts answer parts = refl
 
-refused-served : (answers : List FromChildMessage) (requests : Bool) (rest : List ℕ) → one_body None answers requests rest ≡ ended BadFrame
+refused-served : (answers : List FromChildMessage) (requests : Bool) (rest : List ℕ)
+    → one_body None answers requests rest ≡ ended BadFrame
 unfolding one_body
 refused-served answers requests rest = refl
 
 -- it is a request
-pub served-request : (hosts : List Host) (heard more : List ℕ) (body_len : ℕ) (answer : FromChildMessage) → front longest_to_child heard ≡ Whole body_len
+pub served-request : (hosts : List Host) (heard more : List ℕ) (body_len : ℕ) (answer : FromChildMessage)
+    → front longest_to_child heard ≡ Whole body_len
     → answer_of hosts (front_body body_len heard) ≡ Some answer
     → served hosts (heard ++ more) ≡ after (string (from_child_body answer)) (served hosts (drop (4 + body_len) heard ++ more))
 unfolding served
@@ -75,7 +80,8 @@ served-request hosts heard more body_len answer found is =
     ∙ answered-served hosts answer parts
 
 -- it is none
-pub served-no_request : (hosts : List Host) (heard more : List ℕ) (body_len : ℕ) → front longest_to_child heard ≡ Whole body_len
+pub served-no_request : (hosts : List Host) (heard more : List ℕ) (body_len : ℕ)
+    → front longest_to_child heard ≡ Whole body_len
     → answer_of hosts (front_body body_len heard) ≡ None → served hosts (heard ++ more) ≡ ended BadFrame
 unfolding served
 served-no_request hosts heard more body_len found is =
@@ -88,12 +94,14 @@ served-no_request hosts heard more body_len found is =
 -- ---- no whole frame in front
 
 -- nothing is split off
-unsplit-served : (hosts : List Host) (rest : List ℕ) → served_split hosts (unsplit rest) ≡ ended (status_at (front longest_to_child rest) rest)
+unsplit-served : (hosts : List Host) (rest : List ℕ)
+    → served_split hosts (unsplit rest) ≡ ended (status_at (front longest_to_child rest) rest)
 unfolding answers_to are_requests
 unsplit-served hosts rest = refl
 
 -- a bad length
-pub served-bad : (hosts : List Host) (heard more : List ℕ) (announced : ℕ) → front longest_to_child heard ≡ Bad announced → served hosts (heard ++ more) ≡ ended BadFrame
+pub served-bad : (hosts : List Host) (heard more : List ℕ) (announced : ℕ)
+    → front longest_to_child heard ≡ Bad announced → served hosts (heard ++ more) ≡ ended BadFrame
 unfolding served
 served-bad hosts heard more announced found =
     let bad = front-append_bad longest_to_child heard more announced found in
@@ -101,7 +109,8 @@ served-bad hosts heard more announced found =
     ∙ ap (λ (f : Front). ended (status_at f (heard ++ more))) bad
 
 -- unfinished bytes, and nothing behind them
-pub served-more : (hosts : List Host) (heard : List ℕ) → front longest_to_child heard ≡ More → served hosts heard ≡ ended (torn_or_done heard)
+pub served-more : (hosts : List Host) (heard : List ℕ) → front longest_to_child heard ≡ More
+    → served hosts heard ≡ ended (torn_or_done heard)
 unfolding served
 served-more hosts heard found =
     ap (served_split hosts) (split-more longest_to_child heard found) ∙ unsplit-served hosts heard ∙ ap (λ (f : Front). ended (status_at f heard)) found

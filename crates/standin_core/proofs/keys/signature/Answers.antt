@@ -7,7 +7,8 @@ use Rattle.standin_core.proofs.KeyLemmas.{head, headed}
 use Rattle.standin_core.proofs.keys.signature.Goals as goal
 
 -- a write over the second half
-joined : (front mac tail : List ℕ) → length front ≡ 32 → length tail ≡ 32 → put_mid 32 32 (front ++ tail) mac ≡ front ++ mac
+joined : (front mac tail : List ℕ) → length front ≡ 32 → length tail ≡ 32
+    → put_mid 32 32 (front ++ tail) mac ≡ front ++ mac
 joined front mac tail long rest =
     let behind : drop 32 (front ++ tail) ≡ tail = drop_at front tail 32 long in
     let none : drop 32 (drop 32 (front ++ tail)) ≡ [] = ap (drop 32) behind ∙ drop_all 32 tail (omega arith) in
@@ -15,7 +16,8 @@ joined front mac tail long rest =
     ∙ ap (λ (r : List ℕ). front ++ (mac ++ r)) none ∙ ap (λ (m : List ℕ). front ++ m) (append-nil mac)
 
 -- its length
-half : (front tail mac new : List ℕ) → length front ≡ 32 → length tail ≡ 32 → length new ≡ length (take 32 (drop 32 (front ++ tail))) → new ≡ mac → length mac ≡ 32
+half : (front tail mac new : List ℕ) → length front ≡ 32 → length tail ≡ 32
+    → length new ≡ length (take 32 (drop 32 (front ++ tail))) → new ≡ mac → length mac ≡ 32
 half front tail mac new long rest same is =
     omega (arith, ap length is, same, length-take 32 (drop 32 (front ++ tail)), length-drop 32 (front ++ tail), length-append front tail)
 

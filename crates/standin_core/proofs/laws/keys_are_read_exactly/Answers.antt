@@ -5,4 +5,5 @@ pub returns-clause-tag : goal.returns-clause-tag
 returns-clause-tag c = λ blob tag. (tag_of-only blob tag, tag_of-found blob tag)
 
 pub returns-clause-secret : goal.returns-clause-secret
-returns-clause-secret c = λ private blob secret. (secret_of-only private blob secret, secret_of-found private blob secret)
+returns-clause-secret c =
+    λ private blob secret. (secret_of-only private blob secret, secret_of-found private blob secret)

@@ -7,7 +7,8 @@ use Rattle.standin_core.proofs.ProgramLemmas.{ends_half_greeted, ends_ungreeted,
 use Rattle.standin_core.proofs.program.greet.Goals as goal
 
 pub returns-in_default : goal.returns-in_default
-returns-in_default g c = λ hosts whole greets. ends_ungreeted whole (g.P.Stream.seen c.args.peer.now)
+returns-in_default g c =
+    λ hosts whole greets. ends_ungreeted whole (g.P.Stream.seen c.args.peer.now)
 
 pub returns-in-Ok-flush : goal.returns-in-Ok-flush
 returns-in-Ok-flush g c = λ hosts whole greets.

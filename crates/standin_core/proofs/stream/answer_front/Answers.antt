@@ -14,7 +14,8 @@ pub front_body-requires : goal.front_body-requires
 front_body-requires g c = omega (arith, ap length c.live.ensures, whole_within longest_to_child c.args.heard.now.live c.args.body_len c.requires.found)
 
 pub consume-requires : goal.consume-requires
-consume-requires g c = whole_within longest_to_child c.args.heard.now.live c.args.body_len c.requires.found
+consume-requires g c =
+    whole_within longest_to_child c.args.heard.now.live c.args.body_len c.requires.found
 
 pub returns-in_default-clause-talk : goal.returns-in_default-clause-talk
 returns-in_default-clause-talk g c = λ hosts whole start are under. ends_early hosts whole start (g.P.Stream.seen c.args.peer.now) c.args.heard.now.live under
