@@ -1,6 +1,6 @@
 -- Lemmas on specs/Answers.antt.
-use Rattle.std.proofs.Common.{◌≡◌, ℕ, List, Result, Ok, Err, ap}
-use Rattle.child_msg.specs.Messages.{ToChildMessage, Sign, Verify, Confirm, Signing, Verification}
+use Rattle.std.proofs.Common.{◌≡◌, ℕ, List, Ok, Err, ap}
+use Rattle.child_msg.specs.Messages.{Sign, Verify, Confirm, Signing, Verification}
 use Rattle.child_msg.specs.Reading.{to_child_of}
 use Rattle.child_msg.specs.declared.fault.ChildFault.{ChildFault}
 use Rattle.ed25519_keys.specs.Answers.{plain_signing, route_of, route_to, signing_route, verdict_of, verifying_route}

@@ -1,5 +1,5 @@
 -- Lemmas on specs/Laws.antt.
-use Rattle.std.proofs.Common.{◌≡◌, ℕ, Bool, true, false, ◌||◌, if◌then◌else◌, List, Result, Ok, Err, refl}
+use Rattle.std.proofs.Common.{◌≡◌, ℕ, Bool, true, false, ◌||◌, if◌then◌else◌, Result, Ok, Err, refl}
 use Rattle.child_msg.specs.Messages.{FromChildMessage, ToChildMessage, Sign, Verify, Confirm}
 use Rattle.child_msg.specs.declared.fault.ChildFault.{ChildFault}
 use Rattle.ed25519_keys.specs.Answers.{route_to, signing_answer, verdict_of, verifying_route}
@@ -9,7 +9,7 @@ use Rattle.ed25519_keys.specs.declared.verifying.Verdict.TheVariants.{Right, Wro
 use Rattle.ed25519_wire.specs.Names.{is_ed25519}
 use Rattle.helper_core.specs.declared.asked.Asked.{Asked}
 use Rattle.helper_core.specs.declared.asked.Asked.TheVariants.{Signature}
-use Rattle.helper_core.specs.Routes.{Route, Answered, HandedOn}
+use Rattle.helper_core.specs.Routes.{Answered, HandedOn}
 
 -- a request to sign that is handed on
 neither : (blob private : Bool) (answer : FromChildMessage) (asked given : Asked) → (if blob || private then Answered answer else HandedOn asked) ≡ HandedOn given

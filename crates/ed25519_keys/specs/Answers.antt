@@ -2,7 +2,7 @@
 -- (ours: docs/PROTOCOL.md, "Messages of child processes").
 use Rattle.std.specs.Prelude.{ℕ, Bool, true, false, ◌||◌, ◌&&◌, if◌then◌else◌, List, ◌++◌, Option, Some, None, Result, Ok, Err}
 use Rattle.std.specs.Str.{bytes_eq}
-use Rattle.child_msg.specs.Messages.{FromChildMessage, Signed, Refused, True, False, ToChildMessage, Sign, Verify, Confirm, Signing, Verification}
+use Rattle.child_msg.specs.Messages.{FromChildMessage, Signed, Refused, True, False, ToChildMessage, Sign, Verify, Confirm, Signing}
 use Rattle.child_msg.specs.Reading.{to_child_of}
 use Rattle.child_msg.specs.declared.fault.ChildFault.{ChildFault}
 use Rattle.ed25519.specs.Keys.{public_key}

@@ -1,7 +1,7 @@
 -- Lemmas on specs/Grammar.antt: what is read is in the grammar.
-use Rattle.std.proofs.Common.{◌≡◌, ◌⊎◌, ℕ, ◌<◌, ◌^◌, ◌+◌, Bool, true, false, if◌then◌else◌, cond, ◌==◌, List, [], ◌++◌, length, take, drop, Option, Some, None, Result, Ok, Err, inl, inr, refl, ap, sym, ◌∙◌, subst, take-append-drop, arith}
+use Rattle.std.proofs.Common.{◌≡◌, ℕ, ◌<◌, ◌^◌, Bool, true, false, if◌then◌else◌, ◌==◌, List, ◌++◌, length, take, drop, Result, Ok, Err, inl, inr, refl, ap, sym, ◌∙◌, subst, take-append-drop, arith}
 use Rattle.std.proofs.lemmas.Bool.Decides.{nat_tests}
-use Rattle.std.proofs.lemmas.List.{append-nil, length-drop, length-take}
+use Rattle.std.proofs.lemmas.List.{length-drop, length-take}
 use Rattle.std.proofs.lemmas.Slice.Eq.{bytes_eq-Decides}
 use Rattle.std.specs.Str.{bytes_eq}
 use Rattle.ed25519_wire.specs.declared.fault.KeyFault.{KeyFault}
@@ -11,7 +11,7 @@ use Rattle.ed25519_wire.specs.Names.{certified_name, is_certified_name, is_plain
 use Rattle.ed25519_wire.specs.Reading.{KeyPair, behind_certificate, certified_key_at, certified_pair, ended, field_then, pair_at, pair_in, pair_of, plain_key_at, plain_pair, seed_at, sized_at}
 use Rattle.wire_core.specs.Fields.{string_at}
 use Rattle.wire_core.specs.Readings.{◌>>=◌}
-use Rattle.wire_core.proofs.ReadingLemmas.{bind_ok, behind, ended_or_is, field_or_is, guard_ok, last}
+use Rattle.wire_core.proofs.ReadingLemmas.{bind_ok, behind, ended_or_is, field_or_is, last}
 use Rattle.wire_core.proofs.Theorems.{string_is_front}
 use Rattle.wire_text.specs.Wire.{IsBytes, string}
 

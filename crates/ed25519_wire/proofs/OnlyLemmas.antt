@@ -1,17 +1,16 @@
 -- Lemmas on specs/Grammar.antt: what is in the grammar is read.
-use Rattle.std.proofs.Common.{◌≡◌, ◌⊎◌, ℕ, ◌<◌, ◌^◌, ◌+◌, Bool, true, false, if◌then◌else◌, ◌==◌, List, [], ◌∷◌, ◌++◌, length, take, drop, Option, Some, None, Result, Ok, Err, inl, inr, refl, ap, sym, ◌∙◌, subst, arith}
+use Rattle.std.proofs.Common.{◌≡◌, ℕ, ◌<◌, ◌^◌, Bool, true, false, if◌then◌else◌, ◌==◌, List, [], ◌++◌, length, take, drop, Option, Result, Ok, Err, inl, inr, refl, ap, sym, ◌∙◌, arith}
 use Rattle.std.proofs.lemmas.Bool.Decides.{nat_tests}
 use Rattle.std.proofs.lemmas.List.{append-nil, drop_at, length-append, take_at}
 use Rattle.std.proofs.lemmas.Slice.Eq.{bytes_eq-Decides}
 use Rattle.std.specs.Str.{bytes_eq}
 use Rattle.ed25519_wire.specs.declared.fault.KeyFault.{KeyFault}
 use Rattle.ed25519_wire.specs.declared.fault.KeyFault.TheVariants.{Unfit}
-use Rattle.ed25519_wire.specs.Grammar.{IsCertified, IsPair, IsPlain, IsSized, private_fields}
+use Rattle.ed25519_wire.specs.Grammar.{IsPair, IsSized, private_fields}
 use Rattle.ed25519_wire.specs.Names.{certified_name, is_certified_name, is_plain_name, plain_name}
 use Rattle.ed25519_wire.specs.Reading.{KeyPair, behind_certificate, certified_key_at, certified_pair, ended, field_then, pair_at, pair_in, pair_of, plain_key_at, plain_pair, seed_at, sized_at}
 use Rattle.wire_core.specs.Fields.{string_at}
 use Rattle.wire_core.specs.Readings.{◌>>=◌}
-use Rattle.wire_core.proofs.ReadingLemmas.{string_at-alone}
 use Rattle.wire_core.proofs.Theorems.{string_at-string}
 use Rattle.wire_text.specs.Wire.{string}
 

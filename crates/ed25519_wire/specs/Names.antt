@@ -1,5 +1,5 @@
 -- The names of the types of Ed25519 keys: RFC 8709, section 4, and OpenSSH's PROTOCOL.certkeys.
-use Rattle.std.specs.Prelude.{ℕ, Bool, true, false, ◌||◌, List, Option, Some, None, codes}
+use Rattle.std.specs.Prelude.{ℕ, Bool, false, ◌||◌, List, Option, Some, None, codes}
 use Rattle.std.specs.Str.{bytes_eq}
 use Rattle.wire_core.specs.Fields.{string_at}
 

@@ -1,6 +1,6 @@
 -- Ed25519 keys and signatures as SSH carries them, read field by field: what is read, or that something doesn't fit.
 -- RFC 8709, sections 4 and 6; draft-miller-ssh-agent, "Adding keys to the agent"; OpenSSH's PROTOCOL.certkeys.
-use Rattle.std.specs.Prelude.{ℕ, ◌==◌, ◌-◌, if◌then◌else◌, List, [], length, take, drop, Option, Result, Ok, Err}
+use Rattle.std.specs.Prelude.{ℕ, ◌==◌, ◌-◌, if◌then◌else◌, List, length, take, drop, Option, Result, Ok, Err}
 use Rattle.std.specs.Str.{bytes_eq}
 use Rattle.ed25519_wire.specs.declared.fault.KeyFault.{KeyFault}
 use Rattle.ed25519_wire.specs.declared.fault.KeyFault.TheVariants.{Unfit}

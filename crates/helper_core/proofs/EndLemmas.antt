@@ -1,5 +1,5 @@
 -- Lemmas on specs/Serving.antt and specs/Claims.antt: steps of a talk, and its ends.
-use Rattle.std.proofs.Common.{◌≡◌, ℕ, ◌+◌, List, [], ◌∷◌, ◌++◌, drop, Option, Some, None, refl, ap, sym, ◌∙◌, subst, append_assoc}
+use Rattle.std.proofs.Common.{◌≡◌, ℕ, ◌+◌, List, [], ◌∷◌, ◌++◌, drop, Option, Some, refl, ap, sym, ◌∙◌, subst, append_assoc}
 use Rattle.std.proofs.lemmas.List.{append-nil}
 use Rattle.std.proofs.KnownBytes.{Appends-trans}
 use Rattle.std.specs.Io.KnownBytes.{Appends, IsAtEnd}
@@ -17,7 +17,6 @@ use Rattle.helper_core.proofs.StepLemmas.{after-after, after-ended, after-parts,
 use Rattle.wire_text.specs.Bounds.{longest_to_child}
 use Rattle.wire_text.specs.Frames.{Whole, Bad, More, front, front_body}
 use Rattle.world_ports.specs.Causes.{Rose}
-use Rattle.world_ports.specs.Journal.{Grows}
 use Rattle.world_ports.specs.Streams.{OnlyReads, OnlyWrites, StreamView, WritesPart}
 
 -- what is told at one time

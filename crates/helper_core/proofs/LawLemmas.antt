@@ -1,13 +1,11 @@
 -- Lemmas on specs/Laws.antt.
-use Rattle.std.proofs.Common.{◌≡◌, ℕ, ◌++◌, Bool, if◌then◌else◌, true, false, List, [], ◌∷◌, length, map, take, filter, Option, refl, ap, sym, ◌∙◌, subst}
+use Rattle.std.proofs.Common.{◌≡◌, ℕ, ◌++◌, Bool, if◌then◌else◌, List, [], ◌∷◌, refl, ap, sym, subst}
 use Rattle.child_msg.specs.ChildFrames.{from_child_body}
 use Rattle.child_msg.specs.Messages.{FromChildMessage}
-use Rattle.helper_core.specs.declared.behind.Exchange.{Exchange}
 use Rattle.helper_core.specs.declared.status.HelperStatus.{HelperStatus}
 use Rattle.helper_core.specs.Laws.{AreFirst, IsAnswerBy, SendsAnswers, for_behind, is_handed_on, requests_of}
 use Rattle.helper_core.specs.Routes.{Route, Answered, HandedOn, NoRequest, counted}
 use Rattle.helper_core.specs.Transcript.{Replies, Transcript, served_bodies, then_served}
-use Rattle.wire_text.specs.Frames.{frames}
 use Rattle.wire_text.specs.Wire.{string}
 
 -- nothing more is sent

@@ -1,5 +1,5 @@
 -- Lemmas on specs/Claims.antt: the program before the talk, and what its status says.
-use Rattle.std.proofs.Common.{◌≡◌, ℕ, List, [], ◌++◌, Option, Some, None, refl, ap, sym, ◌∙◌, subst, append_assoc}
+use Rattle.std.proofs.Common.{◌≡◌, ℕ, List, [], Option, Some, None, refl, ap, ◌∙◌, subst}
 use Rattle.std.proofs.KnownBytes.{Appends-nil}
 use Rattle.std.specs.Io.KnownBytes.{Appends}
 use Rattle.child_peer.specs.Words.{ChildWords, words_of}
@@ -10,7 +10,7 @@ use Rattle.helper_core.specs.declared.status.HelperStatus.{HelperStatus}
 use Rattle.helper_core.specs.declared.status.HelperStatus.TheVariants.{Done, BadFrame, Usage, Memory, ReadFault, WriteFault, TornEnd}
 use Rattle.helper_core.specs.Routes.{Route}
 use Rattle.helper_core.specs.Serving.{IsUnderWay}
-use Rattle.helper_core.specs.Transcript.{Replies, Transcript, after, ended, greeted, replies_of, served, transcript_of, transcript_with}
+use Rattle.helper_core.specs.Transcript.{Replies, after, ended, greeted, replies_of, served, transcript_of, transcript_with}
 use Rattle.helper_core.proofs.EndLemmas.{at}
 use Rattle.helper_core.proofs.StepLemmas.{after-parts, grows_none}
 use Rattle.world_ports.specs.Causes.{Rose}

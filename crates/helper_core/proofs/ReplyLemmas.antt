@@ -1,5 +1,5 @@
 -- Lemmas on replies of the helper behind.
-use Rattle.std.proofs.Common.{◌≡◌, ◌≤◌, ℕ, List, [], ◌∷◌, ◌++◌, length, Option, Some, None, Result, Ok, Err, MatchResult, OnOk, inl, ap, sym, ◌∙◌, subst}
+use Rattle.std.proofs.Common.{◌≡◌, ◌≤◌, ℕ, List, [], ◌∷◌, ◌++◌, length, Option, Result, Ok, Err, MatchResult, OnOk, inl, ap, ◌∙◌, subst}
 use Rattle.std.specs.declared.alloc.AllocError.{AllocError}
 use Rattle.child_msg.specs.ChildFrames.{IsFromChild, from_child_body, from_child_length}
 use Rattle.child_msg.specs.Messages.{FromChildMessage}

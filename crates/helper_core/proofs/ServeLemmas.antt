@@ -3,7 +3,7 @@ use Rattle.std.proofs.Common.{◌≡◌, ℕ, ◌+◌, List, [], ◌∷◌, ◌+
 use Rattle.std.proofs.lemmas.List.{drop-append-le}
 use Rattle.helper_core.specs.declared.status.HelperStatus.TheVariants.{BadFrame}
 use Rattle.helper_core.specs.Routes.{Route}
-use Rattle.helper_core.specs.Transcript.{Replies, Transcript, ended, served, served_bodies, served_split, status_at, then_served, torn_or_done}
+use Rattle.helper_core.specs.Transcript.{Replies, ended, served, served_bodies, served_split, status_at, then_served, torn_or_done}
 use Rattle.wire_text.specs.Bounds.{longest_to_child}
 use Rattle.wire_text.specs.Frames.{Front, Whole, Bad, More, Split, after_front, front, front_body, split, then_split, unsplit}
 use Rattle.wire_text.proofs.FrontLemmas.{front-append_whole, front-append_bad, whole_within}

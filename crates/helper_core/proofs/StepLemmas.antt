@@ -1,12 +1,11 @@
 -- Lemmas on transcripts, journals and the steps of specs/Serving.antt.
-use Rattle.std.proofs.Common.{◌≡◌, ◌⊎◌, ℕ, Bool, true, false, List, [], ◌∷◌, ◌++◌, map, Option, Some, None, Result, Ok, Err, inl, inr, refl, ap, sym, ◌∙◌, subst, append_assoc}
+use Rattle.std.proofs.Common.{◌≡◌, ℕ, Bool, true, false, List, [], ◌∷◌, ◌++◌, Option, Some, None, Result, Ok, Err, inl, inr, refl, ap, sym, ◌∙◌, subst, append_assoc}
 use Rattle.std.proofs.lemmas.List.{append-nil}
 use Rattle.std.proofs.lemmas.Result.{err_from_is_err_and}
 use Rattle.std.specs.Prelude.{IsErrAnd}
 use Rattle.std.specs.declared.alloc.AllocError.{AllocError}
 use Rattle.child_msg.specs.ChildFrames.{from_child_body}
 use Rattle.child_msg.specs.Messages.{FromChildMessage}
-use Rattle.helper_core.specs.Claims.{Begins}
 use Rattle.helper_core.specs.declared.answerer.Routed.{Routed}
 use Rattle.helper_core.specs.declared.answerer.Routed.TheVariants as routed
 use Rattle.helper_core.specs.declared.asked.Asked.{Asked}

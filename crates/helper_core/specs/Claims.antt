@@ -1,5 +1,5 @@
 -- How a helper may end, a record an end (ours). The file is read from its end, `Answers`.
-use Rattle.std.specs.Prelude.{◌≡◌, ℕ, List, Option, Some, None}
+use Rattle.std.specs.Prelude.{◌≡◌, ℕ, List, Option, Some}
 use Rattle.std.specs.Io.KnownBytes.{Appends}
 use Rattle.child_peer.specs.Talk.{HasRead, HoldsOfInput}
 use Rattle.helper_core.specs.declared.behind.Exchange.{Exchange}

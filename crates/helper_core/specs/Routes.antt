@@ -1,6 +1,6 @@
 -- What becomes of a request (ours): it is answered, or handed on to the helper behind, whose reply counts only under
 -- the request's own number.
-use Rattle.std.specs.Prelude.{◌≡◌, ℕ, ◌==◌, if◌then◌else◌, Bool, true, false, List, ◌∷◌, [], ◌++◌, Option, Some, None, Result, Ok, Err, option_map}
+use Rattle.std.specs.Prelude.{◌≡◌, ℕ, ◌==◌, if◌then◌else◌, true, List, ◌∷◌, [], ◌++◌, Option, Some, None, Result, Ok, Err, option_map}
 use Rattle.std.specs.Result.{result_ok}
 use Rattle.std.specs.declared.alloc.AllocError.{AllocError}
 use Rattle.child_msg.specs.ChildFrames.{from_child_body}

@@ -1,4 +1,4 @@
-use Rattle.std.proofs.Common.{◌≡◌, ◌∙◌, IfOk, ap, refl, sym, subst}
+use Rattle.std.proofs.Common.{◌∙◌, IfOk, ap, refl, sym, subst}
 use Rattle.child_msg.specs.Messages.{Signing, Verification}
 use Rattle.ed25519_keys.specs.Answers.{verifying_route}
 use Rattle.ed25519_keys.proofs.AnswerLemmas.{route_of-confirm, route_of-none, route_of-sign, route_of-verify}

@@ -1,4 +1,4 @@
-use Rattle.std.proofs.Common.{◌≡◌, sym, refl, List, ℕ, Option, Some, None, map, string_bytes}
+use Rattle.std.proofs.Common.{◌≡◌, sym, refl, Option, Some, None, map, string_bytes}
 use Rattle.child_peer.specs.Words.{ChildWords, plain_words}
 use Rattle.helper_core.specs.Transcript.{transcript_of}
 use Rattle.helper_core.proofs.EndLemmas.{at}

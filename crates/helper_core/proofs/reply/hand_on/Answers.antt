@@ -1,5 +1,4 @@
-use Rattle.std.proofs.Common.{◌≡◌, ◌∙◌, ◌∷◌, [], List, ℕ, Option, Some, None, refl, ap, sym, subst}
-use Rattle.child_msg.specs.Messages.{from_child_message}
+use Rattle.std.proofs.Common.{◌∙◌, ◌∷◌, [], List, ℕ, Option, Some, None, refl, ap, sym, subst}
 use Rattle.helper_core.specs.declared.behind.Exchange.{Exchange}
 use Rattle.helper_core.specs.Routes.{reply_body, reply_message}
 use Rattle.helper_core.proofs.ReplyLemmas.{handed_on_by}

@@ -1,6 +1,5 @@
-use Rattle.std.proofs.Common.{◌≡◌, ◌∙◌, ◌++◌, ap, sym, subst, length, List, ℕ, [], Bool, true, false, Option, arith}
+use Rattle.std.proofs.Common.{◌∙◌, ap, sym, subst, length, List, ℕ, [], Option, arith}
 use Rattle.wire_text.specs.Bounds.{longest_to_child}
-use Rattle.helper_core.specs.Routes.{Route}
 use Rattle.helper_core.specs.Serving.{IsUnderWay, PutsAnswer, PutsNothing}
 use Rattle.wire_text.specs.Frames.{front_body}
 use Rattle.helper_core.specs.Claims.{Ends}

@@ -1,4 +1,4 @@
-use Rattle.std.proofs.Common.{◌≡◌, List, ℕ, []}
+use Rattle.std.proofs.Common.{◌≡◌, []}
 use Rattle.helper_core.specs.Claims.{Seen, Talk}
 use Rattle.helper_core.specs.Serving.{IsUnderWay}
 use Rattle.helper_core.proofs.stream.serve.Given as goal
