@@ -58,7 +58,10 @@ impl Parts {
             (self.new ≡ after self.old.closes (first_message (from_child_of (front_body body_len port.heard)) number
             (after_front body_len port.heard) self.old.state)) }
     {
-        let Some(job) = job_named(&self.under_way, first_body(self.ports.heard(number), body_len)) else {
+        let Some(job) = job_named(
+            &self.under_way,
+            first_body(self.ports.heard(number), body_len),
+        ) else {
             self.ports.close_open(number);
             return Ok(());
         };

@@ -67,7 +67,13 @@ impl Parts {
             → given_back one ≡ held.now
             → IfOk result (λ asked. IsGrantedTo asked self.new (grant_in port.chain one self.old.state) self.old) }
     {
-        let asked = ask_granted(&self.ports, &mut self.under_way, &self.keys, self.wall, held)?;
+        let asked = ask_granted(
+            &self.ports,
+            &mut self.under_way,
+            &self.keys,
+            self.wall,
+            held,
+        )?;
         match asked {
             Some(ask) => {
                 self.keys.spend(held.addition);

@@ -28,7 +28,11 @@ use world_ports::{Reading, ScriptWorld, Sink, Source, Writing};
 
 // The status where a call of the system failed.
 fn status_of(error: &Error, otherwise: Status) -> Status {
-    if is_memory(error) { Status::Memory } else { otherwise }
+    if is_memory(error) {
+        Status::Memory
+    } else {
+        otherwise
+    }
 }
 
 // The words behind the program's name. Such as can't be read are no form of the program's.
