@@ -1,6 +1,5 @@
 # make            proves each crate, a line for each, and builds the programs into bin/, mortarleek-helper too where it can
-# make demo       shows the agent at work with OpenSSH's tools, built without proofs where it isn't proved yet; the helper
-#                 that signs with Ed25519 keys is proved first
+# make demo       shows the agent at work with OpenSSH's tools, built without proofs where it isn't proved yet
 # make check      proves and tests everything: the gate, .ci/run
 # make nightly    what takes hours: .ci/nightly
 # make bench      measures, beside other programs of the same machine
