@@ -4,7 +4,8 @@
 --   replay_run, specs/Replay.antt: the events that each line brings, and the run that they lead to
 --   replay_run, specs/Settling.antt: what ports take after each line
 --   replay_run, specs/Told.antt: what is printed of each event
---   agent_laws, specs/History.antt, Dues.antt, Past.antt: which signature is put to the helper, by what was done before
+--   agent_laws, specs/History.antt from `IsLawful`, Dues.antt, Past.antt: which signature is put to the helper, by what was
+--   done before
 --   schedule_text, specs/Lines.antt and Deeds.antt: the lines that are read, and those that are printed
 --   agent_model, specs/Step.antt: one step of the abstract agent
 --   agent_model, specs/Dispatch.antt: the table of requests

@@ -1,7 +1,8 @@
 -- The law of history over the calls of `serve` (ours): `ServesLawfully`. From here on down, each file read from its end:
 --   ready_loop, specs/Serving.antt: how far a run of the loop is, by its calls
 --   loop_model, specs/LegalJournal.antt: what each call brings, and what has to come after it
---   agent_laws, specs/History.antt, Dues.antt, Past.antt: which signature is put to the helper, by what was done before
+--   agent_laws, specs/History.antt from `IsLawful`, Dues.antt, Past.antt: which signature is put to the helper, by what was
+--   done before
 use Rattle.std.specs.Prelude.{◌≡◌, ℕ, List, [], ◌∷◌, ◌++◌, Option, Some, None}
 use Rattle.world_ports.specs.Journal.{Grows}
 use Rattle.world_ports.specs.declared.entry.Entry.{Entry}

@@ -117,6 +117,7 @@ route_to (Ok (Verify request)) = verifying_route (verdict_of request.host_key re
 route_to (Ok (Confirm job prompt)) = NoRequest
 route_to (Err _) = NoRequest
 
--- what becomes of a body: its answer, where it is a request with an Ed25519 key, is a function of the body alone
+-- what becomes of a body, which is a function of the body alone: its answer, where it is a request with an Ed25519 key
+-- and not for a certificate whose authority has a key of another type
 unfoldable pub route_of : List ℕ → Route
 route_of body = route_to (to_child_of body)

@@ -13,9 +13,10 @@ use world_ports::{Sink, Source};
 /// The helper: `words` are those of the command line behind the program's name, SOCKET JOB TICKET and
 /// where there is one a word more, which names the program of the helper behind.
 ///
-/// What it answers to a request with an Ed25519 key is `route_of` of specs/Answers.antt, a function of
-/// the request alone. Every other request goes to the helper behind, once and unchanged. What is sent,
-/// in which order, and how it ends is `transcript_of` of helper_core.
+/// What becomes of a request is `route_of` of specs/Answers.antt, a function of the request alone: it is
+/// answered where its key, and the authority of a certificate to verify, is an Ed25519 key; every other
+/// one goes to the helper behind, once and unchanged. What is sent, in which order, and how it ends is
+/// `transcript_of` of helper_core.
 pub fn ed25519_main<R: Wait, B: HelperBehind, P: Source + Sink>(
     rt: &R,
     alloc: Global,
