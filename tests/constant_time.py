@@ -5,11 +5,13 @@ memcheck runs ed25519_tool under gdb, which marks a secret as undefined where a 
 returns, memcheck has to find no jump and no address that depends on it. Behind that the program writes what the function
 gave, digit by digit, which depends on the secret: there memcheck has to find something, or it wouldn't find anything. And
 in the code of the functions below it no conditional jump may stand but at the ends of loops over numbers that aren't
-secret. ED25519=PROGRAM puts another program in its place."""
+secret. The same of the helper that signs. ED25519=PROGRAM and ED25519_HELPER=PROGRAM put other programs in their places."""
 
 import os
 import pathlib
 import re
+import socket
+import struct
 import subprocess
 import sys
 import time
@@ -17,13 +19,17 @@ import time
 sys.dont_write_bytecode = True
 
 import rig
-from rig import BUILT
+from rig import BUILT, string
 
 check = rig.Checks("constant_time")
 TOOL = pathlib.Path(os.environ.get("ED25519", BUILT / "ed25519_tool"))
+HELPER = pathlib.Path(os.environ.get("ED25519_HELPER", rig.HELPER))
 SEED = "9d61b19deffd5a60ba844af492ec2cc44449c5697b326919703bac031cae7f60"
 PUBLIC = "d75a980182b10ab7d54bfed3c964073a0ee172f3daa62325af021a68f707511a"
 MESSAGE = "72" * 40
+
+# What `sign_expanded` takes: the seed's hash and the secret scalar.
+EXPANDED = [("$rdx", 64), ("$rcx", 32)]
 
 # The jumps that a function may have: one at the end of each of its loops.
 JUMPS = {
@@ -58,14 +64,39 @@ kill
 """
 
 
-def watched(folder, line, function, marks):
+def of_tool(line):
+    """Starts ed25519_tool on a line, under these words before it."""
+
+    def start(folder, before, output):
+        lines = pathlib.Path(folder, "lines")
+        lines.write_text(line + "\n")
+        return subprocess.Popen([*before, TOOL, lines], stdout=output, stderr=subprocess.STDOUT)
+
+    return start
+
+
+def of_helper(folder, before, output):
+    """Starts the helper with a request to sign."""
+    seed, public, message = map(bytes.fromhex, (SEED, PUBLIC, MESSAGE))
+    name = string(b"ssh-ed25519")
+    private = name + string(public) + string(seed + public)
+    request = struct.pack(">BQ", 1, 1) + string(private) + string(name + string(public)) + string(message) + bytes(4)
+    ours, theirs = socket.socketpair()
+    ours.sendall(string(request))
+    ours.shutdown(socket.SHUT_WR)
+    words = [*before, rig.there(HELPER), "-", "1", "0" * 32]
+    with theirs:
+        process = subprocess.Popen(words, stdin=theirs, stdout=output, stderr=subprocess.STDOUT)
+    process.agent = ours
+    return process
+
+
+def watched(folder, start, function, marks, program=TOOL):
     """Whether the function returned before memcheck found an error; the errors then, and where it stopped next."""
-    lines = pathlib.Path(folder, "lines")
-    lines.write_text(line + "\n")
     log = pathlib.Path(folder, "memcheck")
-    words = ["valgrind", "-q", "--vgdb=yes", "--vgdb-error=0", f"--log-file={log}", TOOL, lines]
+    words = ["valgrind", "-q", "--vgdb=yes", "--vgdb-error=0", f"--log-file={log}"]
     with open(pathlib.Path(folder, "output"), "w") as output:
-        memcheck = subprocess.Popen(words, stdout=output, stderr=subprocess.STDOUT)
+        memcheck = start(folder, words, output)
     try:
         time.sleep(1)
         undefined = "\n".join(
@@ -73,7 +104,7 @@ def watched(folder, line, function, marks):
         )
         script = pathlib.Path(folder, "script")
         script.write_text(SCRIPT.format(pid=memcheck.pid, function=function, marks=undefined))
-        said = rig.run(["gdb", "-q", "-batch", "-x", script, TOOL], status=None, timeout=300)
+        said = rig.run(["gdb", "-q", "-batch", "-x", script, program], status=None, timeout=300)
     finally:
         memcheck.kill()
         memcheck.wait()
@@ -82,8 +113,8 @@ def watched(folder, line, function, marks):
     return "returned 1" in said, *counts
 
 
-def holds(folder, line, function, marks):
-    returned, before, after = watched(folder, line, function, marks)
+def holds(folder, start, function, marks, program=TOOL):
+    returned, before, after = watched(folder, start, function, marks, program)
     assert returned and before == 0, f"{function}: a jump or an address depends on a secret"
     assert after > 0, f"{function}: memcheck finds nothing, also where something is"
 
@@ -91,36 +122,43 @@ def holds(folder, line, function, marks):
 @check
 def a_public_key_is_made_alike_for_each_seed(folder):
     """The seed is the third word that `public_key` is passed, behind the room for what it gives."""
-    holds(folder, f"key {SEED}", "ed25519::keys::public_key", [("$rdx", 32)])
+    holds(folder, of_tool(f"key {SEED}"), "ed25519::keys::public_key", [("$rdx", 32)])
 
 
 @check
 def a_signature_is_made_alike_for_each_seed(folder):
     """The seed's hash and the secret scalar: before them the public key is compared, which is no secret."""
     line = f"sign {SEED} {PUBLIC} {MESSAGE}"
-    holds(folder, line, "ed25519::sign::sign_expanded", [("$rdx", 64), ("$rcx", 32)])
+    holds(folder, of_tool(line), "ed25519::sign::sign_expanded", EXPANDED)
+
+
+@check
+def the_helper_signs_alike_for_each_seed(folder):
+    """The same in the helper; behind it the signature is copied and written, which memcheck tells."""
+    holds(folder, of_helper, "ed25519::sign::sign_expanded", EXPANDED, HELPER)
 
 
 @check
 def a_comparison_that_may_stop_early_is_found(folder):
     """The control: `equals`, by which a key that isn't secret is decoded, stops at the first word that differs."""
     line = f"verify {PUBLIC} {PUBLIC}{'00' * 32} {MESSAGE}"
-    returned, before, _ = watched(folder, line, "field25519::element::Element::equals", [("$rdi", 40)])
+    returned, before, _ = watched(folder, of_tool(line), "field25519::element::Element::equals", [("$rdi", 40)])
     assert not returned and before > 0, "memcheck finds no jump where one is"
 
 
-def jumps(function):
+def jumps(function, program):
     """The conditional jumps in the code of a function."""
-    listing = rig.run(["objdump", "-d", "--no-show-raw-insn", f"--disassemble={function}", TOOL])
+    listing = rig.run(["objdump", "-d", "--no-show-raw-insn", f"--disassemble={function}", program])
     assert f"<{function}>:" in listing, f"no function {function}"
     return re.findall(r"\t(j(?!mp)\w+) .*", listing)
 
 
 @check
 def no_jump_stands_but_at_the_ends_of_loops(_):
-    for function, most in JUMPS.items():
-        found = jumps(function)
-        assert len(found) <= most, f"{function}: {len(found)} conditional jumps, {most} loops"
+    for program in (TOOL, rig.there(HELPER)):
+        for function, most in JUMPS.items():
+            found = jumps(function, program)
+            assert len(found) <= most, f"{program}: {function}: {len(found)} conditional jumps, {most} loops"
 
 
 if __name__ == "__main__":

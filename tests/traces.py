@@ -1,13 +1,16 @@
 #!/usr/bin/env python3
 """What a signature leaves in a process: pieces of eight bytes of the seed, of its hash, of the secret scalar, of the nonce
 and of the hash that it comes from, in all writable memory and in the registers, while the program (signing_traces) waits
-behind the signature. With `sign_checked` pieces are found, with `sign_erased` none. TRACES=PROGRAM puts another program
-in its place."""
+behind the signature. With `sign_checked` pieces are found, with `sign_erased` none. Of the helper that signs
+(ed25519_helper) nothing is found behind its answers; while it signs, and while it waits for the rest of a request, pieces
+are. TRACES=PROGRAM and ED25519_HELPER=PROGRAM put other programs in their places."""
 
+import contextlib
 import hashlib
 import os
 import pathlib
 import re
+import struct
 import subprocess
 import sys
 import time
@@ -15,7 +18,7 @@ import time
 sys.dont_write_bytecode = True
 
 import rig
-from rig import BUILT, TOP
+from rig import BUILT, TOP, string
 
 sys.path.insert(0, str(TOP))
 
@@ -23,8 +26,11 @@ from model import ed25519 as model
 
 check = rig.Checks("traces")
 PROGRAM = pathlib.Path(os.environ.get("TRACES", BUILT / "signing_traces"))
+HELPER = pathlib.Path(os.environ.get("ED25519_HELPER", rig.HELPER))
 MESSAGE = b"a message that is signed, of forty bytes"
 PIECE = 8
+# Where a signature has both secret scalars.
+MULTIPLIES = "scalar25519::scalar::Scalar::mul_add"
 # A piece of an array of words may stand with each word's bytes turned round, as SHA-512 takes them.
 WORD = 8
 
@@ -84,6 +90,16 @@ def registers(process):
     return b"".join(int(word, 16).to_bytes(8, "little") for word in re.findall(r"0x([0-9a-f]{1,16})\b", said))
 
 
+def found_in(texts, seed):
+    """The names of the pieces that stand in these texts, and in which."""
+    pieces, found = secrets(seed), []
+    for name, text in texts:
+        for place in range(len(text) - PIECE + 1):
+            if (piece := text[place : place + PIECE]) in pieces:
+                found.append((pieces[piece], name))
+    return found
+
+
 def left(word, seed):
     """The names of the pieces that stay behind a signature, and where."""
     process = subprocess.Popen([PROGRAM, word], stdin=subprocess.PIPE, stdout=subprocess.PIPE)
@@ -94,11 +110,7 @@ def left(word, seed):
         # 0 is the call that reads.
         rig.until(lambda: waits.read_text().startswith("0 "), what="the signature")
         time.sleep(0.5)
-        pieces, found = secrets(seed), []
-        for name, text in [*memory(process.pid), ("registers", registers(process.pid))]:
-            for place in range(len(text) - PIECE + 1):
-                if (piece := text[place : place + PIECE]) in pieces:
-                    found.append((pieces[piece], name))
+        found = found_in([*memory(process.pid), ("registers", registers(process.pid))], seed)
         said, _ = process.communicate(bytes(33), timeout=60)
         assert said.decode().strip() == model.sign(seed, MESSAGE).hex(), said
     finally:
@@ -120,6 +132,84 @@ def a_signature_that_is_erased_leaves_nothing(_):
     for seed in SEEDS:
         found = left("erased", seed)
         assert not found, sorted(set(found))
+
+
+# The helper.
+NAME = b"ssh-ed25519"
+
+
+def request(seed, public=None):
+    """A request to sign the message, under this public key or the seed's own."""
+    own = model.public_key(seed)
+    blob = string(NAME) + string(public or own)
+    private = string(NAME) + string(own) + string(seed + own)
+    return struct.pack(">BQ", 1, 1) + string(private) + string(blob) + string(MESSAGE) + bytes(4)
+
+
+@contextlib.contextmanager
+def helper():
+    child = rig.Child(rig.there(HELPER))
+    try:
+        yield child
+    finally:
+        child.end()
+
+
+def found_in_helper(child, seed):
+    """What stands in it while it waits for more."""
+    time.sleep(0.5)
+    return found_in([*memory(child.process.pid), ("registers", registers(child.process.pid))], seed)
+
+
+@check
+def the_helper_s_answers_leave_nothing(_):
+    """Signed, and refused since the seed is another key's."""
+    for seed, other in zip(SEEDS, reversed(SEEDS)):
+        with helper() as child:
+            for public in (None, model.public_key(other), None):
+                child.peer.send(request(seed, public))
+                answer = child.peer.reply()
+                assert answer[0] == (101 if public is None else 102), answer
+                assert public or answer.endswith(model.sign(seed, MESSAGE))
+            found = found_in_helper(child, seed)
+            assert not found, sorted(set(found))
+
+
+@check
+def the_helper_s_request_is_found_while_the_rest_is_to_come(_):
+    """The control: of a request that isn't whole the seed stands in memory."""
+    with helper() as child:
+        child.peer.socket.sendall(string(request(SEEDS[0]))[:-1])
+        found = found_in_helper(child, SEEDS[0])
+        assert any(name == "seed" for name, _ in found), "the search finds nothing, also where something is"
+
+
+@check
+def what_the_helper_signs_with_is_found_while_it_signs(folder):
+    """The other control: stopped where the scalars are multiplied it has the secret scalar and the nonce."""
+    stopped = folder / "stopped"
+    with helper() as child:
+        commands = [
+            f"break {MULTIPLIES}",
+            f"shell touch {folder}/ready",
+            "continue",
+            f"shell touch {stopped}; while [ -e {stopped} ]; do sleep 0.1; done",
+            "delete",
+            "detach",
+        ]
+        words = ["gdb", "-q", "-batch", "-p", str(child.process.pid), *(word for line in commands for word in ("-ex", line))]
+        debugger = subprocess.Popen(words, stdin=subprocess.DEVNULL, stdout=subprocess.PIPE, stderr=subprocess.STDOUT, text=True)
+        try:
+            rig.until((folder / "ready").exists, 60, what="the debugger")
+            child.peer.send(request(SEEDS[0]))
+            rig.until(stopped.exists, 60, what="the signature's scalars")
+            names = {name for name, _ in found_in(memory(child.process.pid), SEEDS[0])}
+        finally:
+            with contextlib.suppress(FileNotFoundError):
+                stopped.unlink()
+            said = debugger.communicate(timeout=60)[0]
+        assert {"seed", "scalar", "nonce"} <= names, (names, said[-500:])
+        assert child.peer.reply().endswith(model.sign(SEEDS[0], MESSAGE))
 
 
 if __name__ == "__main__":
