@@ -29,8 +29,8 @@ PROGRAM = pathlib.Path(os.environ.get("TRACES", BUILT / "signing_traces"))
 HELPER = pathlib.Path(os.environ.get("ED25519_HELPER", rig.HELPER))
 MESSAGE = b"a message that is signed, of forty bytes"
 PIECE = 8
-# Where a signature has both secret scalars.
-MULTIPLIES = "scalar25519::scalar::Scalar::mul_add"
+# What reduces the hash of the nonce, and then the challenge.
+REDUCES = "scalar25519::scalar::Scalar::from_bytes"
 # A piece of an array of words may stand with each word's bytes turned round, as SHA-512 takes them.
 WORD = 8
 
@@ -186,11 +186,11 @@ def the_helper_s_request_is_found_while_the_rest_is_to_come(_):
 
 @check
 def what_the_helper_signs_with_is_found_while_it_signs(folder):
-    """The other control: stopped where the scalars are multiplied it has the secret scalar and the nonce."""
+    """The other control: stopped at the challenge it has the seed, the secret scalar and the nonce."""
     stopped = folder / "stopped"
     with helper() as child:
         commands = [
-            f"break {MULTIPLIES}",
+            f"break {REDUCES}", "ignore 1 1",
             f"shell touch {folder}/ready",
             "continue",
             f"shell touch {stopped}; while [ -e {stopped} ]; do sleep 0.1; done",
@@ -202,7 +202,7 @@ def what_the_helper_signs_with_is_found_while_it_signs(folder):
         try:
             rig.until((folder / "ready").exists, 60, what="the debugger")
             child.peer.send(request(SEEDS[0]))
-            rig.until(stopped.exists, 60, what="the signature's scalars")
+            rig.until(stopped.exists, 60, what="the challenge")
             names = {name for name, _ in found_in(memory(child.process.pid), SEEDS[0])}
         finally:
             with contextlib.suppress(FileNotFoundError):
