@@ -69,7 +69,7 @@ COMP_WORDS=(mortarleek-filter -); COMP_CWORD=1; _mortarleek_filter mortarleek-fi
     agent, add, filtered = run(["bash", "-c", script]).splitlines()
     assert {"-a", "-c", "-D", "-d", "-k", "-s", "-t", "--stand-in"} <= set(agent.split()), agent
     assert {"-c", "-D", "-d", "-h", "-H", "-l", "-L", "-t", "-x", "-X", "-k", "-q"} <= set(add.split()), add
-    assert filtered == "-k", filtered
+    assert set(filtered.split()) == {"-a", "-k", "--end"}, filtered
     said = run(["fish", "-c", f"source {place}/mortarleek.fish; complete -C 'mortarleek-agent -'"])
     assert "-k" in said and "-a" in said, said
 
