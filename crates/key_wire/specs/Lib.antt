@@ -1,0 +1,4 @@
+pub mod Closings
+pub mod Fields
+pub mod Grammar
+pub mod Numbers

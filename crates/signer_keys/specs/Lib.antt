@@ -1,0 +1,9 @@
+pub mod Answers
+pub mod Ecdsa
+pub mod Ed25519
+pub mod Laws
+pub mod Numbers
+pub mod Rsa
+pub mod Signing
+pub mod Types
+pub mod Verifying

@@ -1,0 +1,426 @@
+#!/usr/bin/env python3
+"""RSA signatures as they are built (rsa_tool), beside RSA Laboratories' and NIST's vectors (Debian's
+python3-cryptography-vectors) and libcrypto. Words choose checks by a part of their names; `rsa.py N SEED` takes N random
+keys of each size (4) by a seed."""
+
+import functools
+import hashlib
+import math
+import os
+import pathlib
+import random
+import re
+import subprocess
+import sys
+import time
+
+sys.dont_write_bytecode = True
+
+import line_tools
+import rig
+from line_tools import spoken, turned
+from rig import BUILT, Skip
+
+check = rig.Checks("rsa")
+TOOL = pathlib.Path(os.environ.get("RSA", BUILT / "rsa_tool"))
+same = functools.partial(line_tools.same, functools.partial(line_tools.answers, TOOL))
+VECTORS = pathlib.Path("/usr/lib/python3/dist-packages/cryptography_vectors/asymmetric/RSA")
+NUMBERS = [int(word) for word in sys.argv[1:] if word.isdigit()]
+COUNT = NUMBERS[0] if NUMBERS else 4
+SEED = NUMBERS[1] if len(NUMBERS) > 1 else 66
+HASHES = ["sha1", "sha256", "sha512"]
+
+# What stands before the digest in a DigestInfo: RFC 8017, section 9.2, note 1.
+PREFIXES = {
+    "sha1": bytes.fromhex("3021300906052b0e03021a05000414"),
+    "sha256": bytes.fromhex("3031300d060960864801650304020105000420"),
+    "sha512": bytes.fromhex("3051300d060960864801650304020305000440"),
+}
+
+
+def octets(number):
+    """A number without zeros in front, in hexadecimal."""
+    text = f"{number:x}"
+    return "0" * (len(text) % 2) + text
+
+
+class Key:
+    """The numbers of a private key."""
+
+    def __init__(self, p, q, e, d=None, iqmp=None):
+        self.p, self.q, self.e, self.n = p, q, e, p * q
+        self.d = pow(e, -1, math.lcm(p - 1, q - 1)) if d is None else d
+        self.iqmp = pow(q, -1, p) if iqmp is None else iqmp
+
+    def size(self):
+        return (self.n.bit_length() + 7) // 8
+
+    def power(self, encoded):
+        return pow(int.from_bytes(encoded, "big"), self.d, self.n).to_bytes(self.size(), "big")
+
+    def signing(self, name, message, **changed):
+        numbers = {part: getattr(self, part) for part in ("n", "e", "d", "p", "q", "iqmp")} | changed
+        words = [octets(numbers["n"]), str(numbers["e"])] + [octets(numbers[part]) for part in ("d", "p", "q", "iqmp")]
+        return " ".join(["sign", name, *words, message.hex()])
+
+    def verifying(self, name, message, signature, e=None, n=None):
+        n = octets(self.n) if n is None else n
+        return f"verify {name} {n} {self.e if e is None else e} {signature.hex()} {message.hex()}"
+
+
+def encoded(name, message, size):
+    """EMSA-PKCS1-v1_5 by hand."""
+    info = PREFIXES[name] + hashlib.new(name, message).digest()
+    return b"\x00\x01" + b"\xff" * (size - len(info) - 3) + b"\x00" + info
+
+
+@functools.cache
+def libcrypto():
+    """Python's cryptography, which calls libcrypto."""
+    rig.install("rsa")
+    try:
+        from cryptography.exceptions import InvalidSignature
+        from cryptography.hazmat.primitives import hashes
+        from cryptography.hazmat.primitives.asymmetric import padding, rsa
+    except ImportError as error:
+        raise Skip(f"no cryptography for this Python: {error}") from None
+    names = {"sha1": hashes.SHA1(), "sha256": hashes.SHA256(), "sha512": hashes.SHA512()}
+    return rsa, padding.PKCS1v15(), names, InvalidSignature
+
+
+def key_of(private):
+    numbers = private.private_numbers()
+    return Key(numbers.p, numbers.q, numbers.public_numbers.e, numbers.d, numbers.iqmp)
+
+
+@functools.cache
+def drawn(bits):
+    """A key of libcrypto, and libcrypto's own handle of it."""
+    rsa = libcrypto()[0]
+    private = rsa.generate_private_key(public_exponent=65537, key_size=bits)
+    return key_of(private), private
+
+
+def accepts_libcrypto(private, name, message, signature):
+    _, padding, names, invalid = libcrypto()
+    try:
+        private.public_key().verify(signature, message, padding, names[name])
+    except (invalid, ValueError):
+        return False
+    return True
+
+
+@check
+def the_vectors_of_rsa_laboratories(folder):
+    """15 keys of 1024 to 1031, 1536 and 2048 bits, of 20 messages each, by SHA-1."""
+    rig.install("rsa")
+    rows, sizes = [], set()
+    text = (VECTORS / "pkcs1v15sign-vectors.txt").read_text()
+    for part in re.split(r"# Example \d+: ", text)[1:]:
+        fields = [
+            (name, int(value.replace(" ", "").replace("\n", ""), 16), bytes.fromhex(value))
+            for name, value in re.findall(r"# ([A-Z][\w ]*?):? *\n((?:[0-9a-f ]+\n)+)", part)
+        ]
+        numbers = {name: number for name, number, _ in fields}
+        d = [number for name, number, _ in fields if name == "Exponent"][1]
+        key = Key(numbers["Prime 1"], numbers["Prime 2"], 65537, d, numbers["Coefficient"])
+        assert key.n == numbers["Modulus"]
+        sizes.add(key.n.bit_length())
+        messages = [value for name, _, value in fields if name == "Message to be signed"]
+        signatures = [value for name, _, value in fields if name == "Signature"]
+        assert len(messages) == len(signatures) == 20
+        for message, signature in zip(messages, signatures):
+            rows.append((key.signing("sha1", message), signature.hex()))
+            rows.append((key.verifying("sha1", message, signature), "true"))
+    assert sizes == {*range(1024, 1032), 1536, 2048}, sizes
+    assert same(folder, rows) == 600
+
+
+def blocks(path):
+    """The assignments of a file of NIST, each block with those of its modulus."""
+    known = {}
+    for line in path.read_text().splitlines():
+        if "=" in line:
+            name, value = (side.strip() for side in line.strip().strip("[]").split("=", 1))
+            known[name] = value
+            if name in ("mod", "n"):
+                known.pop("e", None)
+        elif not line.strip() and "S" in known and "Result" in known:
+            yield dict(known)
+            known.pop("Result")
+
+
+@check
+def the_verifications_of_nist(folder):
+    """Signatures that were changed in one thing each: message, exponent, signature, and the form of the encoding."""
+    rig.install("rsa")
+    rows = []
+    for name in ("SigVer15EMTest.txt", "FIPS_186-2/SigVer15_186-3.rsp"):
+        for row in blocks(VECTORS / name):
+            hashed = row["SHAAlg"].lower().replace("-", "")
+            e = int(row["e"], 16)
+            if hashed not in HASHES or e >= 2**64:
+                continue
+            n, signature = int(row["n"], 16), bytes.fromhex(row["S"])
+            size = (n.bit_length() + 7) // 8
+            signature = signature[-size:] if len(signature) > size and not any(signature[:-size]) else signature
+            line = f"verify {hashed} {octets(n)} {e} {signature.hex()} {row['Msg']}"
+            rows.append((line, spoken(row["Result"].startswith("P"))))
+    wanted = [answer for _, answer in rows]
+    assert min(wanted.count("true"), wanted.count("false")) > 10, len(rows)
+    same(folder, rows)
+
+
+@check
+def random_keys_beside_libcrypto(folder):
+    """Signed alike, of sizes that are whole words and that aren't; with one bit turned, refused as libcrypto does."""
+    rsa, padding, names, _ = libcrypto()
+    pick, rows = random.Random(SEED), []
+    for bits in (1024, 1040, 1096, 2048, 2050, 3072):
+        for _ in range(COUNT):
+            private = rsa.generate_private_key(public_exponent=pick.choice((3, 65537)), key_size=bits)
+            key = key_of(private)
+            for name in HASHES:
+                message = pick.randbytes(pick.choice((0, 1, 64, 200)))
+                signature = private.sign(message, padding, names[name])
+                rows.append((key.signing(name, message), signature.hex()))
+                rows.append((key.verifying(name, message, signature), "true"))
+                wrong = turned(signature, pick.randrange(8 * len(signature)))
+                rows.append((key.verifying(name, message, wrong), spoken(accepts_libcrypto(private, name, message, wrong))))
+    same(folder, rows)
+
+
+@check
+def long_keys_beside_libcrypto(folder):
+    """4096 and 8192 bits."""
+    _, padding, names, _ = libcrypto()
+    rows = []
+    for bits in (4096, 8192):
+        key, private = drawn(bits)
+        for name in HASHES:
+            signature = private.sign(b"long", padding, names[name])
+            rows.append((key.signing(name, b"long"), signature.hex()))
+            rows.append((key.verifying(name, b"long", signature), "true"))
+    same(folder, rows)
+
+
+@check
+def each_bit_of_one_signature(folder):
+    key, private = drawn(1024)
+    message, rows = b"each bit of this signature", []
+    signature = key.power(encoded("sha256", message, key.size()))
+    for place in range(8 * len(signature)):
+        wrong = turned(signature, place)
+        rows.append((key.verifying("sha256", message, wrong), spoken(accepts_libcrypto(private, "sha256", message, wrong))))
+    rows.append((key.verifying("sha256", message, signature), "true"))
+    assert same(folder, rows) == 1025
+
+
+@check
+def wrong_encodings(folder):
+    """Paddings, hash names and forms of a DigestInfo, each signed by hand and changed in one thing."""
+    key, _ = drawn(1024)
+    message, size = b"this", key.size()
+    right = encoded("sha256", message, size)
+    digest = hashlib.sha256(message).digest()
+    info = PREFIXES["sha256"] + digest
+    bare = PREFIXES["sha256"].replace(b"\x05\x00", b"").replace(b"\x30\x31\x30\x0d", b"\x30\x2f\x30\x0b") + digest
+    others = [
+        b"\x00\x02" + right[2:],
+        b"\x01\x01" + right[2:],
+        b"\x00\x00" + right[2:],
+        right[:10] + b"\xfe" + right[11:],
+        b"\x00\x01" + b"\xff" * (size - len(info) - 2) + info,
+        b"\x00\x01" + b"\xff" * 8 + b"\x00" + info + bytes(size - len(info) - 11),
+        b"\x00\x01" + b"\xff" * (size - len(bare) - 3) + b"\x00" + bare,
+        b"\x00\x01" + b"\xff" * (size - len(digest) - 3) + b"\x00" + digest,
+        encoded("sha512", message, size),
+        encoded("sha1", message, size),
+        encoded("sha256", b"that", size),
+    ]
+    rows = [(key.verifying("sha256", message, key.power(right)), "true")]
+    rows += [(key.verifying("sha256", message, key.power(other)), "false") for other in others]
+    same(folder, rows)
+
+
+@check
+def lengths_and_bounds_of_signatures(folder):
+    """Of k octets alone, and below n; zeros in front of n count for nothing."""
+    key, _ = drawn(1024)
+    message = b"bounds"
+    signature = key.power(encoded("sha256", message, key.size()))
+    number = int.from_bytes(signature, "big")
+    rows = [(key.verifying("sha256", message, signature, n="000000" + octets(key.n)), "true")]
+    for other in (b"", signature[1:], signature[:-1], b"\x00" + signature, signature + b"\x00", bytes(128), b"\xff" * 128):
+        rows.append((key.verifying("sha256", message, other), "false"))
+    for other in (number + key.n, key.n, key.n - 1, 0, 1):
+        if other < 1 << 1024:
+            rows.append((key.verifying("sha256", message, other.to_bytes(128, "big")), "false"))
+    # a signature that begins with a zero, and the same without it
+    for salt in range(100000):
+        message = str(salt).encode()
+        signature = key.power(encoded("sha256", message, key.size()))
+        if not signature[0]:
+            break
+    rows.append((key.verifying("sha256", message, signature), "true"))
+    rows.append((key.verifying("sha256", message, signature[1:]), "false"))
+    rows.append((key.signing("sha256", message), signature.hex()))
+    same(folder, rows)
+
+
+@check
+def public_keys_that_are_none(folder):
+    """Moduli too short, too long or even, and exponents of 0, 1 and even ones, as the formula has them."""
+    key, _ = drawn(1024)
+    message = b"keys"
+    em = encoded("sha256", message, key.size())
+    rows = []
+    for n in ("00", "01", octets(key.n >> 1), octets(key.n >> 8), octets(key.n + 1), octets(key.n << 1), "ff" * 1025):
+        rows.append((key.verifying("sha256", message, em, n=n), "false"))
+    rows.append((key.verifying("sha256", message, em, e=0), "false"))
+    # s^1 is s: the formula takes the encoding itself, as the standard does; which exponents a key may have is for others
+    rows.append((key.verifying("sha256", message, em, e=1), "true"))
+    square = (int.from_bytes(em, "big") ** 2 % key.n).to_bytes(key.size(), "big")
+    rows.append((key.verifying("sha256", message, square, e=2), "false"))
+    same(folder, rows)
+
+
+@check
+def private_keys_that_are_none(folder):
+    """What doesn't fit together, or has another size, signs nothing; zeros in front count for nothing."""
+    key, _ = drawn(1024)
+    other, _ = drawn(1040)
+    message, refused = b"private", []
+    right = key.power(encoded("sha256", message, key.size())).hex()
+    for changed in (
+        {"p": key.q},
+        {"q": key.p},
+        {"p": key.q, "q": key.p},
+        {"p": key.p + 2},
+        {"p": key.p + 1},
+        {"q": key.q + 1},
+        {"p": 3},
+        {"p": 1},
+        {"p": 0},
+        {"q": 2**64 - 59},
+        {"p": key.n, "q": 1},
+        {"d": key.d + 2},
+        {"d": 0},
+        {"d": key.n << 64},
+        {"iqmp": key.iqmp + 1},
+        {"iqmp": 0},
+        {"iqmp": key.p << 64},
+        {"n": other.n},
+        {"n": key.n + 2},
+        {"n": key.n + 1},
+        {"e": 65539},
+        {"e": 65536},
+        {"e": 0},
+    ):
+        refused.append((key.signing("sha256", message, **changed), "refused"))
+    words = key.signing("sha256", message).split()
+    padded = " ".join(words[:2] + ["00" + words[2], words[3]] + ["0000" + word for word in words[4:8]] + words[8:])
+    rows = [(key.signing("sha256", message), right), (padded, right)]
+    # an exponent that does the same work: d and a multiple of both p - 1 and q - 1
+    rows.append((key.signing("sha256", message, d=key.d + math.lcm(key.p - 1, key.q - 1)), right))
+    same(folder, rows + refused)
+
+
+@check
+def factors_of_different_lengths(folder):
+    """p of 400 bits and q of 700, either way round, and factors whose words aren't whole."""
+    libcrypto()
+    pick, rows = random.Random(SEED), []
+
+    def prime(bits):
+        while True:
+            number = pick.getrandbits(bits) | 1 | 1 << bits - 1
+            if all(number % small for small in range(3, 2000, 2)) and pow(2, number - 1, number) == 1:
+                if math.gcd(65537, number - 1) == 1:
+                    return number
+
+    for first, second in ((400, 700), (700, 400), (513, 515), (520, 504), (100, 1000), (1000, 100)):
+        key = Key(prime(first), prime(second), 65537)
+        if key.n.bit_length() < 1024:
+            continue
+        for name in HASHES:
+            signature = key.power(encoded(name, b"unlike", key.size()))
+            rows.append((key.signing(name, b"unlike"), signature.hex()))
+            rows.append((key.verifying(name, b"unlike", signature), "true"))
+    assert len(rows) > 20
+    same(folder, rows)
+
+
+# What gdb has memcheck do: the numbers of a function are undefined until it returns, and defined nowhere behind it.
+SCRIPT = """set pagination off
+set confirm off
+set breakpoint pending on
+target remote | vgdb --pid={pid} --wait=60
+break {function}
+continue
+set $back = *(unsigned long *)$rsp
+{marks}
+delete
+break *$back
+continue
+printf "returned %d\\n", $pc == $back
+monitor v.info n_errs_found
+delete
+continue
+monitor v.info n_errs_found
+kill
+"""
+
+
+def stacked(place):
+    return f"*(unsigned long *)($rsp + {place})"
+
+
+# Where LLVM's build passes each secret number, and its octets for a key of 1024 bits: the message, d and a factor; then
+# both parts, iqmp, p and q. A wrong place shows: memcheck would find nothing behind the function either.
+SECRETS = [
+    ("rsa_sign::part::set_part", [("$rdx", 128), ("$r8", 128), (stacked(8), 64)]),
+    ("rsa_sign::joining::set_joined", [("$rsi", 64), ("$rcx", 64), ("$r9", 64), (stacked(8), 64), (stacked(24), 64)]),
+]
+
+
+def watched(folder, function, place, size):
+    """Whether the function returned, what memcheck had found by then, and whether it found more until the end."""
+    key, _ = drawn(1024)
+    path = pathlib.Path(folder, "lines")
+    path.write_text(key.signing("sha256", b"watched") + "\n")
+    log = pathlib.Path(folder, "memcheck")
+    with open(pathlib.Path(folder, "output"), "w") as output:
+        words = ["valgrind", "-q", "--vgdb=yes", "--vgdb-error=0", f"--log-file={log}", TOOL, path]
+        memcheck = subprocess.Popen(words, stdout=output, stderr=subprocess.STDOUT)
+    try:
+        time.sleep(1)
+        marks = f'eval "monitor make_memory undefined 0x%lx {size}", {place}'
+        script = pathlib.Path(folder, "script")
+        script.write_text(SCRIPT.format(pid=memcheck.pid, function=function, marks=marks))
+        said = rig.run(["gdb", "-q", "-batch", "-x", script, TOOL], status=None, timeout=300)
+    finally:
+        memcheck.kill()
+        memcheck.wait()
+    counts = [int(number) for number in re.findall(r"n_errs_found (\d+)", said)]
+    return "returned 1" in said, counts[0] if counts else None, counts[1:] > [0]
+
+
+@check
+def no_step_depends_on_a_secret(folder):
+    """By memcheck: no jump and no address of the powers and of the joining, of each number by itself."""
+    rig.install("constant_time")
+    for function, marks in SECRETS:
+        for place, size in marks:
+            found = watched(folder, function, place, size)
+            assert found == (True, 0, True), f"{function}, {place}: {found}"
+
+
+@check
+def lines_that_are_none(folder):
+    same(folder, [("", "not a line"), ("sign", "not a line"), ("sign md5 00 3", "not a line"), ("verify sha1 00 x", "not a line")])
+
+
+if __name__ == "__main__":
+    sys.argv[1:] = [word for word in sys.argv[1:] if not word.isdigit()]
+    check.main(TOOL)
