@@ -1,11 +1,14 @@
 #!/usr/bin/env python3
 """Whether what a built program does depends on an Ed25519 seed.
 
-memcheck runs ed25519_tool under gdb, which marks a secret as undefined where a function takes it. Until the function
-returns, memcheck has to find no jump and no address that depends on it. Behind that the program writes what the function
-gave, digit by digit, which depends on the secret: there memcheck has to find something, or it wouldn't find anything. And
-in the code of the functions below it no conditional jump may stand but at the ends of loops over numbers that aren't
-secret. The same of the helper that signs. ED25519=PROGRAM and ED25519_HELPER=PROGRAM put other programs in their places."""
+memcheck runs a program under gdb, which marks a secret as undefined where a function takes it. Until the function returns,
+memcheck has to find no jump and no address that depends on it. Behind that the program writes what the function gave,
+which depends on the secret: there memcheck has to find something, or it wouldn't find anything. A signature begins with a
+comparison of the seed's public key, which is no secret: gdb marks that as defined where it is made, and where it doesn't,
+the comparison is found. In the code of LLVM's build, by its own look, no conditional jump may stand but at the ends of loops
+over numbers that aren't secret. The same of a multiple of P-256's base point in ecdsa_tool. ED25519=PROGRAM,
+ED25519_HELPER=PROGRAM and ECDSA=PROGRAM put other programs in their places: the first two Rattle's own compiler's builds
+too."""
 
 import os
 import pathlib
@@ -19,17 +22,30 @@ import time
 sys.dont_write_bytecode = True
 
 import rig
-from rig import BUILT, string
+from rig import BUILT, TOP, string
+
+sys.path.insert(0, str(TOP))
+
+from model import ed25519 as model
 
 check = rig.Checks("constant_time")
 TOOL = pathlib.Path(os.environ.get("ED25519", BUILT / "ed25519_tool"))
 HELPER = pathlib.Path(os.environ.get("ED25519_HELPER", rig.HELPER))
-SEED = "9d61b19deffd5a60ba844af492ec2cc44449c5697b326919703bac031cae7f60"
-PUBLIC = "d75a980182b10ab7d54bfed3c964073a0ee172f3daa62325af021a68f707511a"
-MESSAGE = "72" * 40
+ECDSA = pathlib.Path(os.environ.get("ECDSA", BUILT / "ecdsa_tool"))
+SEED = bytes.fromhex("9d61b19deffd5a60ba844af492ec2cc44449c5697b326919703bac031cae7f60")
+PUBLIC = bytes.fromhex("d75a980182b10ab7d54bfed3c964073a0ee172f3daa62325af021a68f707511a")
+MESSAGE = bytes([0x72]) * 40
 
-# What `sign_expanded` takes: the seed's hash and the secret scalar.
-EXPANDED = [("$rdx", 64), ("$rcx", 32)]
+# What makes a public key or multiplies for it, and what it takes behind the room for what it gives and the table: the seed, or
+# the secret scalar. Each compiler inlines some of them.
+SCALAR = model.octets(model.expanded(SEED)[0])
+MAKES = {
+    "ed25519::keys::public_key": {"$rdx": SEED},
+    "ed25519::keys::encoded_multiple": {"$rdx": SCALAR},
+    "curve25519::doublings::Doublings::multiple": {"$rdx": SCALAR},
+}
+# What signs, and the seed that it takes; and what gives the bytes of the seed's public key there.
+SIGNS, TAKEN, GIVES = "ed25519::erase::sign_with_copy", {"$rdx": SEED}, "curve25519::point::Point::encode"
 
 # The jumps that a function may have: one at the end of each of its loops.
 JUMPS = {
@@ -43,7 +59,16 @@ JUMPS = {
     "sha2::block512::compress": 1,
 }
 
-# Where the program stops, what is marked there by register and length, and how often it is continued until then.
+# The same of ecdsa_tool.
+ECDSA_JUMPS = {
+    "p256_curve::doublings::Doublings::multiple_by_bits": 1,
+    "p256_curve::point::Point::add": 0,
+    "p256_field::residue::Residue::product": 0,
+    "p256_order::residue::Residue::product": 0,
+    "wide_words::u256::U256::is_below": 0,
+}
+
+# Where the program stops, what is marked there, and how often it is continued until then.
 SCRIPT = """
 set pagination off
 set confirm off
@@ -53,6 +78,7 @@ continue
 {marks}
 set $back = *(unsigned long*)$rsp
 delete
+{public}
 break *$back
 continue
 printf "returned %d\\n", $pc == $back
@@ -63,24 +89,57 @@ monitor v.info n_errs_found
 kill
 """
 
+# Marks what a function gives first as defined: 32 bytes, for which LLVM's build is passed room, and which Rattle's own
+# compiler gives in registers.
+IS_PUBLIC = """
+break {function}
+continue
+set $made = $rdi
+set $made_back = *(unsigned long*)$rsp
+delete
+break *$made_back
+continue
+{marks}
+delete
+"""
+IN_MEMORY = 'eval "monitor make_memory defined 0x%lx 32", $made'
+IN_REGISTERS = "\n".join(f"set ${register}s1 = 0" for register in ("rax", "rdx", "rcx", "rsi"))
 
-def of_tool(line):
-    """Starts ed25519_tool on a line, under these words before it."""
+
+def is_rattle_s(program):
+    """Whether Rattle's own compiler built the program."""
+    return "backend=rattle" in rig.run(["readelf", "-p", ".comment", program])
+
+
+def marked(register, text):
+    """Says what stands at a register, and marks that as undefined."""
+    words = len(text) // 8
+    return f'x/{words}xg {register}\neval "monitor make_memory undefined 0x%lx {len(text)}", {register}'
+
+
+def present(program, functions):
+    """The first of these that the program has code of: what Rattle's own compiler inlined has a name, and no length."""
+    symbols = [line.split() for line in rig.run(["nm", "-S", "--defined-only", program]).splitlines()]
+    names = {words[3] for words in symbols if len(words) == 4 and int(words[1], 16)}
+    return next(name for name in functions if name in names)
+
+
+def on_a_key(tool):
+    """Starts a tool on a line that asks for a public key, under these words before it."""
 
     def start(folder, before, output):
         lines = pathlib.Path(folder, "lines")
-        lines.write_text(line + "\n")
-        return subprocess.Popen([*before, TOOL, lines], stdout=output, stderr=subprocess.STDOUT)
+        lines.write_text(f"key {SEED.hex()}\n")
+        return subprocess.Popen([*before, tool, lines], stdout=output, stderr=subprocess.STDOUT)
 
     return start
 
 
 def of_helper(folder, before, output):
     """Starts the helper with a request to sign."""
-    seed, public, message = map(bytes.fromhex, (SEED, PUBLIC, MESSAGE))
     name = string(b"ssh-ed25519")
-    private = name + string(public) + string(seed + public)
-    request = struct.pack(">BQ", 1, 1) + string(private) + string(name + string(public)) + string(message) + bytes(4)
+    private = name + string(PUBLIC) + string(SEED + PUBLIC)
+    request = struct.pack(">BQ", 1, 1) + string(private) + string(name + string(PUBLIC)) + string(MESSAGE) + bytes(4)
     ours, theirs = socket.socketpair()
     ours.sendall(string(request))
     ours.shutdown(socket.SHUT_WR)
@@ -91,58 +150,60 @@ def of_helper(folder, before, output):
     return process
 
 
-def watched(folder, start, function, marks, program=TOOL):
+def watched(folder, start, program, function, takes, public=""):
     """Whether the function returned before memcheck found an error; the errors then, and where it stopped next."""
     log = pathlib.Path(folder, "memcheck")
-    words = ["valgrind", "-q", "--vgdb=yes", "--vgdb-error=0", f"--log-file={log}"]
+    words = ["valgrind", "-q", "--vgdb=yes", "--vgdb-error=0", "--vgdb-shadow-registers=yes", f"--log-file={log}"]
     with open(pathlib.Path(folder, "output"), "w") as output:
         memcheck = start(folder, words, output)
     try:
         time.sleep(1)
-        undefined = "\n".join(
-            f'eval "monitor make_memory undefined 0x%lx {length}", {register}' for register, length in marks
-        )
+        marks = "\n".join(marked(register, text) for register, text in takes.items())
         script = pathlib.Path(folder, "script")
-        script.write_text(SCRIPT.format(pid=memcheck.pid, function=function, marks=undefined))
+        script.write_text(SCRIPT.format(pid=memcheck.pid, function=function, marks=marks, public=public))
         said = rig.run(["gdb", "-q", "-batch", "-x", script, program], status=None, timeout=300)
     finally:
         memcheck.kill()
         memcheck.wait()
     counts = [int(number) for number in re.findall(r"n_errs_found (\d+)", said)]
     assert "returned " in said and len(counts) == 2, said[-2000:]
+    found = [int(word, 16) for word in re.findall(r"\t0x([0-9a-f]{16})\b", said)]
+    wanted = [word for text in takes.values() for word in struct.unpack(f"<{len(text) // 8}Q", text)]
+    assert found[: len(wanted)] == wanted, f"{function}: the secret isn't where it was marked"
     return "returned 1" in said, *counts
 
 
-def holds(folder, start, function, marks, program=TOOL):
-    returned, before, after = watched(folder, start, function, marks, program)
+def holds(folder, start, program, function, takes, public=""):
+    returned, before, after = watched(folder, start, program, function, takes, public)
     assert returned and before == 0, f"{function}: a jump or an address depends on a secret"
     assert after > 0, f"{function}: memcheck finds nothing, also where something is"
 
 
 @check
 def a_public_key_is_made_alike_for_each_seed(folder):
-    """The seed is the third word that `public_key` is passed, behind the room for what it gives."""
-    holds(folder, of_tool(f"key {SEED}"), "ed25519::keys::public_key", [("$rdx", 32)])
+    function = present(TOOL, MAKES)
+    holds(folder, on_a_key(TOOL), TOOL, function, MAKES[function])
 
 
 @check
-def a_signature_is_made_alike_for_each_seed(folder):
-    """The seed's hash and the secret scalar: before them the public key is compared, which is no secret."""
-    line = f"sign {SEED} {PUBLIC} {MESSAGE}"
-    holds(folder, of_tool(line), "ed25519::sign::sign_expanded", EXPANDED)
+def a_multiple_of_p256_is_made_alike_for_each_number(folder):
+    """The number is the third word that the function is passed, behind the room for the point and the doublings: in words,
+    the lowest first."""
+    multiple = "p256_curve::doublings::Doublings::multiple_by_bits"
+    holds(folder, on_a_key(rig.there(ECDSA)), ECDSA, multiple, {"$rdx": SEED[::-1]})
 
 
 @check
 def the_helper_signs_alike_for_each_seed(folder):
-    """The same in the helper; behind it the signature is copied and written, which memcheck tells."""
-    holds(folder, of_helper, "ed25519::sign::sign_expanded", EXPANDED, HELPER)
+    """From the seed to the signature; behind it that is copied and written, which memcheck tells."""
+    marks = IN_REGISTERS if is_rattle_s(rig.there(HELPER)) else IN_MEMORY
+    holds(folder, of_helper, HELPER, SIGNS, TAKEN, IS_PUBLIC.format(function=GIVES, marks=marks))
 
 
 @check
 def a_comparison_that_may_stop_early_is_found(folder):
-    """The control: `equals`, by which a key that isn't secret is decoded, stops at the first word that differs."""
-    line = f"verify {PUBLIC} {PUBLIC}{'00' * 32} {MESSAGE}"
-    returned, before, _ = watched(folder, of_tool(line), "field25519::element::Element::equals", [("$rdi", 40)])
+    """The control: that of the public keys, where the one that is made isn't marked as public."""
+    returned, before, _ = watched(folder, of_helper, HELPER, SIGNS, TAKEN)
     assert not returned and before > 0, "memcheck finds no jump where one is"
 
 
@@ -155,8 +216,10 @@ def jumps(function, program):
 
 @check
 def no_jump_stands_but_at_the_ends_of_loops(_):
-    for program in (TOOL, rig.there(HELPER)):
-        for function, most in JUMPS.items():
+    for program, table in ((TOOL, JUMPS), (rig.there(HELPER), JUMPS), (rig.there(ECDSA), ECDSA_JUMPS)):
+        if is_rattle_s(program):
+            raise rig.Skip("Rattle's own compiler leaves comparisons of places with lengths in the code")
+        for function, most in table.items():
             found = jumps(function, program)
             assert len(found) <= most, f"{program}: {function}: {len(found)} conditional jumps, {most} loops"
 

@@ -7,13 +7,14 @@ import functools
 import os
 import pathlib
 import random
-import subprocess
 import sys
 import unittest.mock
 
 sys.dont_write_bytecode = True
 
+import line_tools
 import rig
+from line_tools import spoken, turned
 from rig import BUILT, TOP, Skip
 
 sys.path.insert(0, str(TOP))
@@ -22,6 +23,7 @@ from model import ed25519 as model
 
 check = rig.Checks("ed25519")
 TOOL = pathlib.Path(os.environ.get("ED25519", BUILT / "ed25519_tool"))
+answers = functools.partial(line_tools.answers, TOOL)
 VECTORS = "/usr/lib/python3/dist-packages/cryptography_vectors/asymmetric/Ed25519/sign.input"
 NUMBERS = [int(word) for word in sys.argv[1:] if word.isdigit()]
 COUNT = NUMBERS[0] if NUMBERS else 10000
@@ -64,22 +66,9 @@ ROWS = [
 ]
 
 
-def answers(folder, lines):
-    """What the program answers to each line."""
-    path = pathlib.Path(folder, "lines")
-    path.write_text("".join(f"{line}\n" for line in lines))
-    done = subprocess.run([TOOL, path], stdout=subprocess.PIPE, text=True, timeout=600, check=True)
-    said = done.stdout.splitlines()
-    assert len(said) == len(lines), (len(said), len(lines))
-    return said
-
-
 def same(folder, rows):
-    """Each line of the rows has the answer that stands beside it."""
-    said = answers(folder, [line for line, _ in rows])
-    for (line, wanted), answer in zip(rows, said):
-        assert answer == wanted, f"{line[:200]}: {answer}, not {wanted}"
-    return len(rows)
+    """Each line of the rows has the answer that stands beside it: the tool's, or the helper's (ed25519_helper.py)."""
+    return line_tools.same(answers, folder, rows)
 
 
 def calls_of(seed, public, message, signature):
@@ -111,10 +100,6 @@ def accepts_libcrypto(public, message, signature):
     except (invalid, ValueError):
         return False
     return True
-
-
-def spoken(holds):
-    return "true" if holds else "false"
 
 
 def verifying(public, message, signature):
@@ -157,19 +142,12 @@ def random_keys_beside_libcrypto(folder):
         public, signature = public_bytes(key), key.sign(message)
         rows += calls_of(seed.hex(), public.hex(), message.hex(), signature.hex())
         texts = [public, message, signature]
-        place = pick.choice((0, 2, 2) if not message else (0, 1, 2, 2))
-        texts[place] = turned(texts[place], pick)
+        part = pick.choice((0, 2, 2) if not message else (0, 1, 2, 2))
+        texts[part] = turned(texts[part], pick.randrange(8 * len(texts[part])))
         rows.append((verifying(*texts), spoken(accepts_libcrypto(*texts))))
-        rows.append((f"sign {seed.hex()} {turned(public, pick).hex()} {message.hex()}", "refused"))
+        other = turned(public, pick.randrange(8 * len(public)))
+        rows.append((f"sign {seed.hex()} {other.hex()} {message.hex()}", "refused"))
     same(folder, rows)
-
-
-def turned(text, pick):
-    """The text with one bit turned."""
-    place = pick.randrange(8 * len(text))
-    changed = bytearray(text)
-    changed[place // 8] ^= 1 << place % 8
-    return bytes(changed)
 
 
 @check
@@ -182,7 +160,7 @@ def each_bit_of_one_signature(folder):
     for part, text in enumerate(texts):
         for place in range(8 * len(text)):
             changed = list(texts)
-            changed[part] = bytes(byte ^ (1 << place % 8 if i == place // 8 else 0) for i, byte in enumerate(text))
+            changed[part] = turned(text, place)
             rows.append((verifying(*changed), spoken(accepts_libcrypto(*changed))))
     assert same(folder, rows) == 8 * (32 + len(message) + 64)
 
@@ -259,7 +237,7 @@ def the_second_reading(folder):
         seed, message = pick.randbytes(32), pick.randbytes(pick.randrange(100))
         public, signature = model.public_key(seed), model.sign(seed, message)
         rows += calls_of(seed.hex(), public.hex(), message.hex(), signature.hex())
-        wrong = turned(signature, pick)
+        wrong = turned(signature, pick.randrange(8 * len(signature)))
         rows.append((verifying(public, message, wrong), spoken(model.verify(public, message, wrong))))
     same(folder, rows)
 

@@ -3,7 +3,7 @@
 and of the hash that it comes from, in all writable memory and in the registers, while the program (signing_traces) waits
 behind the signature. With `sign_checked` pieces are found, with `sign_erased` none. Of the helper that signs
 (ed25519_helper) nothing is found behind its answers; while it signs, and while it waits for the rest of a request, pieces
-are. TRACES=PROGRAM and ED25519_HELPER=PROGRAM put other programs in their places."""
+are. TRACES=PROGRAM and ED25519_HELPER=PROGRAM put other programs in their places, as Rattle's own compiler's builds."""
 
 import contextlib
 import hashlib

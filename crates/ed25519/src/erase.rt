@@ -28,14 +28,20 @@ pub fn sign_erased(
     ensures { MatchOption result (public.now ≢ public_key seed.now)
         (λ s. (public.now ≡ public_key seed.now) × (s ≡ signature seed.now message.now)) }
 {
-    let signature = sign_with_copy(doublings, seed, public, message);
+    // It is called at two places: Rattle's own compiler inlines a function that is called at one, and
+    // what this one leaves would lie in a frame that is in use while the stack is cleared.
+    let signature = if message.is_empty() {
+        sign_with_copy(doublings, seed, public, &[])
+    } else {
+        sign_with_copy(doublings, seed, public, message)
+    };
     use_registers(doublings);
     clear_stack();
     signature
 }
 
-// Signs with a copy of the seed. Once it is zero the copy is handed to the system, which reads it
-// for all that the compiler knows, so that the zeros are written.
+// Signs with a copy of the seed, in a frame of its own. Once it is zero the copy is handed to the
+// system, which reads it for all that the compiler knows, so that the zeros are written.
 #[inline(never)]
 fn sign_with_copy(
     doublings: &Doublings,

@@ -8,11 +8,12 @@ use Rattle.child_msg.specs.declared.fault.ChildFault.{ChildFault}
 use Rattle.ed25519.specs.Keys.{public_key}
 use Rattle.ed25519.specs.Signatures.{signature}
 use Rattle.ed25519.specs.Verification.{accepts}
-use Rattle.ed25519_wire.specs.declared.fault.KeyFault.{KeyFault}
+use Rattle.key_wire.specs.declared.fault.KeyFault.{KeyFault}
+use Rattle.key_wire.specs.Closings.{Seal, seal_at, sealed}
 use Rattle.ed25519_keys.specs.declared.verifying.Verdict.{Verdict}
 use Rattle.ed25519_keys.specs.declared.verifying.Verdict.TheVariants as verdict
 use Rattle.ed25519_wire.specs.Names.{is_certified_name, is_ed25519, is_plain_name, plain_name}
-use Rattle.ed25519_wire.specs.Reading.{KeyPair, Seal, authority_key, certified_key_at, pair_in, plain_key_at, seal_at, sealed, signature_in}
+use Rattle.ed25519_wire.specs.Reading.{KeyPair, authority_key, certified_key_at, pair_in, plain_key_at, signature_in}
 use Rattle.helper_core.specs.declared.asked.Asked.TheVariants as asked
 use Rattle.helper_core.specs.Routes.{Route, Answered, HandedOn, NoRequest}
 use Rattle.wire_core.specs.Fields.{string_at}

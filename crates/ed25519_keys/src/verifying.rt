@@ -1,13 +1,15 @@
 // Signatures and certificates, and what verifies them.
 ghost use Rattle.std.specs.Prelude.{◌≡◌, ◌≤◌, length, take};
 ghost use Rattle.ed25519_keys.specs.Answers.{certificate_verdict, here, key_signs, plain_verdict, signs, verdict_of};
-ghost use Rattle.ed25519_wire.specs.Reading.{authority_key, certified_key_at, plain_key_at, seal_of, sealed};
+ghost use Rattle.ed25519_wire.specs.Reading.{authority_key, certified_key_at, plain_key_at};
+ghost use Rattle.key_wire.specs.Closings.{seal_of, sealed};
 
 use ed25519::{Doublings, verify};
 use ed25519_wire::{
-    Closing, is_certified, is_ed25519, is_plain, read_authority, read_certified_key, read_closing,
-    read_plain_key, read_signature,
+    is_certified, is_ed25519, is_plain, read_authority, read_certified_key, read_plain_key,
+    read_signature,
 };
+use key_wire::{Closing, read_closing};
 use wire_core::Cursor;
 
 /// Whether a host key made a signature.

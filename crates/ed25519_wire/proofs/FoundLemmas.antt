@@ -1,14 +1,15 @@
 -- Lemmas on specs/Grammar.antt: what is read is in the grammar.
-use Rattle.std.proofs.Common.{◌≡◌, ℕ, ◌<◌, ◌^◌, Bool, true, false, if◌then◌else◌, ◌==◌, List, ◌++◌, length, take, drop, Result, Ok, Err, inl, inr, refl, ap, sym, ◌∙◌, subst, take-append-drop, arith}
-use Rattle.std.proofs.lemmas.Bool.Decides.{nat_tests}
+use Rattle.std.proofs.Common.{◌≡◌, ℕ, ◌<◌, ◌^◌, Bool, true, false, if◌then◌else◌, List, ◌++◌, length, take, drop, Result, Ok, Err, inl, inr, refl, ap, sym, ◌∙◌, subst, take-append-drop, arith}
 use Rattle.std.proofs.lemmas.List.{length-drop, length-take}
 use Rattle.std.proofs.lemmas.Slice.Eq.{bytes_eq-Decides}
 use Rattle.std.specs.Str.{bytes_eq}
-use Rattle.ed25519_wire.specs.declared.fault.KeyFault.{KeyFault}
-use Rattle.ed25519_wire.specs.declared.fault.KeyFault.TheVariants.{Unfit}
+use Rattle.key_wire.specs.declared.fault.KeyFault.{KeyFault}
+use Rattle.key_wire.specs.declared.fault.KeyFault.TheVariants.{Unfit}
 use Rattle.ed25519_wire.specs.Grammar.{IsCertified, IsPair, IsPlain, IsSized, private_fields}
 use Rattle.ed25519_wire.specs.Names.{certified_name, is_certified_name, is_plain_name, plain_name}
-use Rattle.ed25519_wire.specs.Reading.{KeyPair, behind_certificate, certified_key_at, certified_pair, ended, field_then, pair_at, pair_in, pair_of, plain_key_at, plain_pair, seed_at, sized_at}
+use Rattle.ed25519_wire.specs.Reading.{KeyPair, behind_certificate, certified_key_at, certified_pair, field_then, pair_at, pair_in, pair_of, plain_key_at, plain_pair, seed_at}
+use Rattle.key_wire.specs.Fields.{ended, sized_at}
+use Rattle.key_wire.proofs.FieldLemmas.{sized_front}
 use Rattle.wire_core.specs.Fields.{string_at}
 use Rattle.wire_core.specs.Readings.{◌>>=◌}
 use Rattle.wire_core.proofs.ReadingLemmas.{bind_ok, behind, ended_or_is, field_or_is, last}
@@ -24,43 +25,12 @@ chosen : {A : Type 0} (test : Bool) (given : Result A KeyFault) (value : A) → 
 chosen true given value is = (refl, is)
 chosen false given value is = cc is
 
--- what was read
-abbrev done : List ℕ × List ℕ → Result (List ℕ × List ℕ) KeyFault
-done read = Ok read
-
--- the same, part by part
-same_parts : (x y : List ℕ × List ℕ) → done x ≡ done y → (x.0 ≡ y.0) × (x.1 ≡ y.1)
-same_parts x y is =
-    let same : x ≡ y = cc is in
-    (ap (λ (p : List ℕ × List ℕ). p.0) same, ap (λ (p : List ℕ × List ℕ). p.1) same)
-
--- a string that was read of this length
-pub record IsSizedFront (len : ℕ) (bytes text rest : List ℕ) : Type 0 where
-  pub parts : bytes ≡ string text ++ rest
-  pub left : IsBytes rest
-  pub sized : length text ≡ len
-
-sized_at-front : (len : ℕ) (bytes text rest : List ℕ) → IsBytes bytes → sized_at len bytes ≡ Ok (text, rest) → IsSizedFront len bytes text rest
-unfolding sized_at
-sized_at-front len bytes text rest small read =
-    let field = field_or_is Unfit (string_at bytes) (λ t r. if length t == len then Ok (t, r) else Err Unfit) (text, rest) read in
-    let found = chosen (length field.field == len) (Ok (field.field, field.rest)) (text, rest) field.read in
-    let front = string_is_front bytes field.field field.rest small field.there in
-    let parts = same_parts (field.field, field.rest) (text, rest) found.1 in
-    let text_is : field.field ≡ text = parts.0 in
-    let rest_is : field.rest ≡ rest = parts.1 in
-    record {
-      parts = front.0.parts ∙ ap (λ (t : List ℕ). string t ++ field.rest) text_is ∙ ap (λ (r : List ℕ). string text ++ r) rest_is;
-      left = subst IsBytes rest_is front.0.left;
-      sized = ap length (sym text_is) ∙ grind (arith, nat_tests, found.0);
-    }
-
 -- the seed and the public key in one string, to its end
 seed_at-is : (public bytes seed : List ℕ) → IsBytes bytes → seed_at public bytes ≡ Ok seed → (bytes ≡ string (seed ++ public)) × (length seed ≡ 32) × (length public ≡ 32)
 unfolding seed_at
 seed_at-is public bytes seed small read =
     let secret = bind_ok (sized_at 64 bytes) (λ s. (if bytes_eq (drop 32 s.0) public then Ok (take 32 s.0) else Err Unfit) >>= (λ seed. ended seed s.1)) seed read in
-    let front = sized_at-front 64 bytes secret.0.0 secret.0.1 small secret.1 in
+    let front = sized_front 64 bytes secret.0 small secret.1 in
     let half = bind_ok (if bytes_eq (drop 32 secret.0.0) public then Ok (take 32 secret.0.0) else Err Unfit) (λ s. ended s secret.0.1) seed secret.2 in
     let found = chosen (bytes_eq (drop 32 secret.0.0) public) (Ok (take 32 secret.0.0)) half.0 half.1 in
     let end = ended_or_is Unfit half.0 seed secret.0.1 half.2 in
@@ -91,7 +61,7 @@ plain_key_at-is : (bytes public : List ℕ) → IsBytes bytes → plain_key_at b
 unfolding plain_key_at
 plain_key_at-is bytes public small read =
     let key = bind_ok (sized_at 32 bytes) (λ k. ended k.0 k.1) public read in
-    let front = sized_at-front 32 bytes key.0.0 key.0.1 small key.1 in
+    let front = sized_front 32 bytes key.0 small key.1 in
     let end = ended_or_is Unfit key.0.0 public key.0.1 key.2 in
     last bytes (string key.0.0) key.0.1 front.parts end.0 ∙ ap string end.1
 
@@ -128,7 +98,7 @@ unfolding certified_key_at
 certified_key_at-is bytes public seal small read =
     let field = field_or_is Unfit (string_at bytes) (λ nonce more. sized_at 32 more) (public, seal) read in
     let front = string_is_front bytes field.field field.rest small field.there in
-    let key = sized_at-front 32 field.rest public seal front.0.left field.read in
+    let key = sized_front 32 field.rest (public, seal) front.0.left field.read in
     record { nonce = field.field; parts = behind bytes (string field.field) field.rest (string public ++ seal) front.0.parts key.parts; fits = front.1 }
 
 behind_certificate-found : (whole public bytes seed : List ℕ) → IsBytes bytes → behind_certificate whole public bytes ≡ Ok seed

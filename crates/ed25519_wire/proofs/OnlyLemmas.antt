@@ -1,14 +1,15 @@
 -- Lemmas on specs/Grammar.antt: what is in the grammar is read.
-use Rattle.std.proofs.Common.{◌≡◌, ℕ, ◌<◌, ◌^◌, Bool, true, false, if◌then◌else◌, ◌==◌, List, [], ◌++◌, length, take, drop, Option, Result, Ok, Err, inl, inr, refl, ap, sym, ◌∙◌, arith}
-use Rattle.std.proofs.lemmas.Bool.Decides.{nat_tests}
-use Rattle.std.proofs.lemmas.List.{append-nil, drop_at, length-append, take_at}
+use Rattle.std.proofs.Common.{◌≡◌, ℕ, ◌<◌, ◌^◌, Bool, true, false, if◌then◌else◌, List, [], ◌++◌, length, take, drop, Option, Result, Ok, Err, inl, inr, refl, ap, ◌∙◌, arith}
+use Rattle.std.proofs.lemmas.List.{drop_at, length-append, take_at}
 use Rattle.std.proofs.lemmas.Slice.Eq.{bytes_eq-Decides}
 use Rattle.std.specs.Str.{bytes_eq}
-use Rattle.ed25519_wire.specs.declared.fault.KeyFault.{KeyFault}
-use Rattle.ed25519_wire.specs.declared.fault.KeyFault.TheVariants.{Unfit}
+use Rattle.key_wire.specs.declared.fault.KeyFault.{KeyFault}
+use Rattle.key_wire.specs.declared.fault.KeyFault.TheVariants.{Unfit}
 use Rattle.ed25519_wire.specs.Grammar.{IsPair, IsSized, private_fields}
 use Rattle.ed25519_wire.specs.Names.{certified_name, is_certified_name, is_plain_name, plain_name}
-use Rattle.ed25519_wire.specs.Reading.{KeyPair, behind_certificate, certified_key_at, certified_pair, ended, field_then, pair_at, pair_in, pair_of, plain_key_at, plain_pair, seed_at, sized_at}
+use Rattle.ed25519_wire.specs.Reading.{KeyPair, behind_certificate, certified_key_at, certified_pair, field_then, pair_at, pair_in, pair_of, plain_key_at, plain_pair, seed_at}
+use Rattle.key_wire.specs.Fields.{ended, sized_at}
+use Rattle.key_wire.proofs.FieldLemmas.{sized_again, sized_alone}
 use Rattle.wire_core.specs.Fields.{string_at}
 use Rattle.wire_core.specs.Readings.{◌>>=◌}
 use Rattle.wire_core.proofs.Theorems.{string_at-string}
@@ -23,17 +24,6 @@ yes : {A : Type 0} (test : Bool) (value other : A) → test ≡ true → (if tes
 yes true value other is = refl
 yes false value other is = cc is
 
--- a string of the wanted length
-sized_at-string : (len : ℕ) (text rest : List ℕ) → length text ≡ len → length text < 2 ^ 32 → sized_at len (string text ++ rest) ≡ Ok (text, rest)
-unfolding sized_at
-sized_at-string len text rest is small =
-    ap (λ (at : Option (List ℕ × List ℕ)). field_then at (λ t r. if length t == len then Ok (t, r) else Err Unfit)) (string_at-string text rest small)
-    ∙ yes (length text == len) (Ok (text, rest)) (Err Unfit) (grind (arith, nat_tests, is))
-
--- one that nothing follows
-sized_at-alone : (len : ℕ) (text : List ℕ) → length text ≡ len → length text < 2 ^ 32 → sized_at len (string text) ≡ Ok (text, [])
-sized_at-alone len text is small = ap (sized_at len) (sym (append-nil (string text))) ∙ sized_at-string len text [] is small
-
 -- the seed in the string of both
 seed_at-alone : (pair : KeyPair) → IsSized pair → seed_at pair.public (string (pair.seed ++ pair.public)) ≡ Ok pair.seed
 unfolding seed_at
@@ -41,7 +31,7 @@ seed_at-alone pair sized =
     let both = pair.seed ++ pair.public in
     let long : length both ≡ 64 = omega (arith, length-append pair.seed pair.public, sized.seed, sized.public) in
     ap (λ (r : Result (List ℕ × List ℕ) KeyFault). r >>= (λ secret. (if bytes_eq (drop 32 secret.0) pair.public then Ok (take 32 secret.0) else Err Unfit) >>= (λ seed. ended seed secret.1)))
-    (sized_at-alone 64 both long (omega (arith, long)))
+    (sized_alone 64 both long (omega (arith, long)))
     ∙ ap (λ (r : Result (List ℕ) KeyFault). r >>= (λ seed. ended seed [])) (
     yes (bytes_eq (drop 32 both) pair.public) (Ok (take 32 both)) (Err Unfit)
     (ap (λ (h : List ℕ). bytes_eq h pair.public) (drop_at pair.seed pair.public 32 sized.seed) ∙ same pair.public)
@@ -59,14 +49,14 @@ pair_at-fields pair sized =
 plain_key_at-alone : (pair : KeyPair) → IsSized pair → plain_key_at (string pair.public) ≡ Ok pair.public
 unfolding plain_key_at
 plain_key_at-alone pair sized =
-    ap (λ (r : Result (List ℕ × List ℕ) KeyFault). r >>= (λ key. ended key.0 key.1)) (sized_at-alone 32 pair.public sized.public (omega (arith, sized.public)))
+    ap (λ (r : Result (List ℕ × List ℕ) KeyFault). r >>= (λ key. ended key.0 key.1)) (sized_alone 32 pair.public sized.public (omega (arith, sized.public)))
 
 certified_key_at-key : (pair : KeyPair) (nonce rest : List ℕ) → IsSized pair → length nonce < 2 ^ 32
     → certified_key_at (string nonce ++ (string pair.public ++ rest)) ≡ Ok (pair.public, rest)
 unfolding certified_key_at
 certified_key_at-key pair nonce rest sized small =
     ap (λ (at : Option (List ℕ × List ℕ)). field_then at (λ n more. sized_at 32 more)) (string_at-string nonce (string pair.public ++ rest) small)
-    ∙ sized_at-string 32 pair.public rest sized.public (omega (arith, sized.public))
+    ∙ sized_again 32 pair.public rest sized.public (omega (arith, sized.public))
 
 -- what is in the grammar of plain keys
 plain_pair-is : (private : List ℕ) (pair : KeyPair) → private ≡ string plain_name ++ private_fields pair → IsSized pair → plain_pair private (string pair.public) ≡ Ok pair

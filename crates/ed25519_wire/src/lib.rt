@@ -1,17 +1,12 @@
 //! Ed25519 keys and signatures as SSH carries them, by themselves and in certificates: RFC 8709,
-//! draft-miller-ssh-agent and OpenSSH's PROTOCOL.certkeys. Stands on wire_core. Nothing is copied.
+//! draft-miller-ssh-agent and OpenSSH's PROTOCOL.certkeys. Stands on key_wire. Nothing is copied.
 #![tactic(auto)]
 
-mod closing;
-mod cursor;
-mod fault;
 mod laws;
 mod names;
 mod pair;
 mod signature;
 
-pub use closing::{Closing, read_closing};
-pub use fault::KeyFault;
 pub use laws::keys_are_read_exactly;
 pub use names::{is_certified, is_ed25519, is_plain};
 pub use pair::{Pair, read_authority, read_certified_key, read_pair, read_plain_key};

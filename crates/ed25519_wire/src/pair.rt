@@ -3,9 +3,8 @@ ghost use Rattle.std.specs.Prelude.{◌≡◌, ℕ, List, length, Ok, Err, IfOk,
 ghost use Rattle.ed25519_wire.specs.Reading.{authority_key, certified_key_at, certified_pair, pair_at, pair_in, plain_key_at, plain_pair, plain_pair_of};
 ghost use Rattle.wire_core.specs.Readings.{IsAnswer};
 
-use crate::cursor::{end, take_sized};
-use crate::fault::KeyFault;
 use crate::names::{is_certified, is_plain};
+use key_wire::{KeyFault, end, take_sized};
 use wire_core::Cursor;
 
 /// A seed, and the public key that stands beside it.

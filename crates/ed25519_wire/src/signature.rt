@@ -3,9 +3,8 @@ ghost use Rattle.std.specs.Prelude.{◌≡◌, Ok, Err, IfOk, length};
 ghost use Rattle.ed25519_wire.specs.Reading.{signature_in};
 ghost use Rattle.wire_core.specs.Readings.{IsAnswer};
 
-use crate::cursor::{end, take_sized};
-use crate::fault::KeyFault;
 use crate::names::is_plain;
+use key_wire::{KeyFault, end, take_sized};
 use wire_core::Cursor;
 
 /// The 64 bytes of a signature.

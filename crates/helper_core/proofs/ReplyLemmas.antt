@@ -7,7 +7,7 @@ use Rattle.child_msg.proofs.WriteLemmas.{length-from_child_body}
 use Rattle.helper_core.specs.declared.asked.Asked.{Asked}
 use Rattle.helper_core.specs.declared.asked.Asked.TheVariants.{Signature, Verdict}
 use Rattle.helper_core.specs.declared.behind.Exchange.{Exchange}
-use Rattle.helper_core.specs.Routes.{counted, reply_message, signed_under, verdict_under}
+use Rattle.helper_core.specs.Routes.{counted, given_up_by, reply_message, signed_under, verdict_under}
 use Rattle.helper_core.specs.Serving.{IsHandedOn, IsMaybeHandedOn}
 use Rattle.wire_text.specs.Bounds.{longest_body}
 use Rattle.wire_text.specs.Wire.{string}
@@ -28,9 +28,10 @@ pub counted-verdict : (asked : Asked) (ask : ℕ) (reply : Option (List ℕ)) (m
 unfolding counted
 counted-verdict asked ask reply message is read = ap (λ (a : Asked). counted a reply) is ∙ ap (verdict_under ask) read
 
--- the reply, and the frame that was written of it
-pub handed_on_by : (result : Result Unit AllocError) (asked : Asked) (request : List ℕ) (behind now : Option (List Exchange)) (before out : List ℕ) (reply : Option (List ℕ))
-    → Grows behind now (record { request = request; reply = reply } ∷ []) → OnOk result (out ≡ before ++ string (from_child_body (counted asked reply)))
-    → MatchResult result (λ _. IsHandedOn asked request behind now before out) (λ _. IsMaybeHandedOn request behind now)
-handed_on_by (Ok done) asked request behind now before out reply grew frame = record { reply = reply; grew = grew; appended = frame }
-handed_on_by (Err error) asked request behind now before out reply grew frame = record { reply = reply; told = inl grew }
+-- the reply, what became of the helper, and the frame that was written
+pub handed_on_by : (result : Result Unit AllocError) (asked : Asked) (request : List ℕ) (behind now : Option (List Exchange)) (gave_up given_up : ℕ) (before out : List ℕ) (reply : Option (List ℕ))
+    → Grows behind now (record { request = request; reply = reply } ∷ []) → given_up ≡ given_up_by asked reply gave_up
+    → OnOk result (out ≡ before ++ string (from_child_body (counted asked reply)))
+    → MatchResult result (λ _. IsHandedOn asked request behind now gave_up given_up before out) (λ _. IsMaybeHandedOn asked request behind now gave_up given_up)
+handed_on_by (Ok done) asked request behind now gave_up given_up before out reply grew parted frame = record { reply = reply; grew = grew; appended = frame; parted = parted }
+handed_on_by (Err error) asked request behind now gave_up given_up before out reply grew parted frame = record { reply = reply; told = inl grew; parted = parted }

@@ -38,9 +38,6 @@ pub after-ended : (sent : List ℕ) (handed : List Exchange) (status : HelperSta
 unfolding transcript
 after-ended sent handed status = same_transcript (sent ++ []) sent (handed ++ []) handed (Some status) (append-nil sent) (append-nil handed)
 
-pub after-nil : (later : Transcript) → after [] [] later ≡ later
-after-nil later = refl
-
 -- the same bytes in two parts
 pub after-parts : (sent front rest frame : List ℕ) (handed : List Exchange) (later : Transcript) → front ++ rest ≡ frame
     → after (sent ++ frame) handed later ≡ after (sent ++ front) handed (after rest [] later)
@@ -120,13 +117,6 @@ puts-answered routed.Answered NoRequest body behind before out is same = absurd 
 puts-answered (routed.HandedOn code) route body behind before out is same = cc same
 puts-answered routed.NoRequest route body behind before out is same = cc same
 
-pub routed-none : (code : Routed) (route : Route) (before out : List ℕ) → IsRouted code route before out → code ≡ routed.NoRequest → route ≡ NoRequest
-routed-none routed.NoRequest (Answered answer) before out is same = absurd is
-routed-none routed.NoRequest (HandedOn asked) before out is same = absurd is
-routed-none routed.NoRequest NoRequest before out is same = refl
-routed-none (routed.HandedOn code) route before out is same = cc same
-routed-none routed.Answered route before out is same = cc same
-
 pub routed-handed_on : (code : Routed) (route : Route) (before out : List ℕ) (asked : Asked) → IsRouted code route before out → code ≡ routed.HandedOn asked
     → (route ≡ HandedOn asked) × (out ≡ before)
 routed-handed_on (routed.HandedOn code) (Answered answer) before out asked is same = absurd is
@@ -135,9 +125,9 @@ routed-handed_on (routed.HandedOn code) NoRequest before out asked is same = abs
 routed-handed_on routed.NoRequest route before out asked is same = cc same
 routed-handed_on routed.Answered route before out asked is same = cc same
 
-pub puts-handed_on : (route : Route) (asked : Asked) (body : List ℕ) (behind now : Option (List Exchange)) (before mid out : List ℕ) → route ≡ HandedOn asked
-    → mid ≡ before → IsHandedOn asked body behind now mid out → PutsAnswer route body behind now before out
-puts-handed_on route asked body behind now before mid out is same on = record {
+pub puts-handed_on : (route : Route) (asked : Asked) (body : List ℕ) (behind now : Option (List Exchange)) (gave_up given_up : ℕ) (before mid out : List ℕ) → route ≡ HandedOn asked
+    → mid ≡ before → IsHandedOn asked body behind now gave_up given_up mid out → PutsAnswer route body behind now before out
+puts-handed_on route asked body behind now gave_up given_up before mid out is same on = record {
   handed = record { request = body; reply = on.reply } ∷ [];
   grew = on.grew;
   frame = string (from_child_body (counted asked on.reply));
@@ -146,9 +136,9 @@ puts-handed_on route asked body behind now before mid out is same on = record {
       (step-handed_on asked body on.reply);
 }
 
-pub puts-maybe : (route : Route) (asked : Asked) (body : List ℕ) (behind now : Option (List Exchange)) → route ≡ HandedOn asked
-    → IsMaybeHandedOn body behind now → PutsNothing route body behind now
-puts-maybe route asked body behind now is maybe =
+pub puts-maybe : (route : Route) (asked : Asked) (body : List ℕ) (behind now : Option (List Exchange)) (gave_up given_up : ℕ) → route ≡ HandedOn asked
+    → IsMaybeHandedOn asked body behind now gave_up given_up → PutsNothing route body behind now
+puts-maybe route asked body behind now gave_up given_up is maybe =
     subst (λ (r : Route). PutsNothing r body behind now) (sym is) (maybe_handed_on asked body maybe.reply behind now maybe.told)
 
 -- what an error says

@@ -1,6 +1,6 @@
 -- What becomes of a request (ours): it is answered, or handed on to the helper behind, whose reply counts only under
 -- the request's own number.
-use Rattle.std.specs.Prelude.{◌≡◌, ℕ, ◌==◌, if◌then◌else◌, true, List, ◌∷◌, [], ◌++◌, Option, Some, None, Result, Ok, Err, option_map}
+use Rattle.std.specs.Prelude.{◌≡◌, ℕ, ◌==◌, if◌then◌else◌, Bool, true, false, List, ◌∷◌, [], ◌++◌, Option, Some, None, Result, Ok, Err, option_map}
 use Rattle.std.specs.Result.{result_ok}
 use Rattle.std.specs.declared.alloc.AllocError.{AllocError}
 use Rattle.child_msg.specs.ChildFrames.{from_child_body}
@@ -13,6 +13,7 @@ use Rattle.helper_core.specs.declared.asked.Asked.TheVariants.{Signature, Verdic
 use Rattle.helper_core.specs.declared.behind.Exchange.{Exchange}
 use Rattle.secret_buf.specs.Buffers.{Buffer}
 use Rattle.wire_text.specs.Wire.{string}
+use Rattle.world_ports.specs.Causes.{next_count}
 use Rattle.world_ports.specs.Journal.{Grows, Tells}
 
 -- what becomes of a body
@@ -70,7 +71,31 @@ unfoldable pub counted : Asked → Option (List ℕ) → FromChildMessage
 counted (Signature ask) reply = signed_under ask (reply_message reply)
 counted (Verdict ask) reply = verdict_under ask (reply_message reply)
 
+-- the message is a reply to what was asked: it is of its kind, and under its number
+abbrev pub is_to : Asked → Option FromChildMessage → Bool
+is_to (Signature ask) (Some (Signed number signature)) = number == ask
+is_to (Signature ask) (Some (Refused number)) = number == ask
+is_to (Signature ask) (Some (True number)) = false
+is_to (Signature ask) (Some (False number)) = false
+is_to (Signature ask) (Some (Hello job ticket)) = false
+is_to (Signature ask) (Some (Granted job)) = false
+is_to (Signature ask) (Some (Denied job)) = false
+is_to (Signature ask) None = false
+is_to (Verdict ask) (Some (True number)) = number == ask
+is_to (Verdict ask) (Some (False number)) = number == ask
+is_to (Verdict ask) (Some (Signed number signature)) = false
+is_to (Verdict ask) (Some (Refused number)) = false
+is_to (Verdict ask) (Some (Hello job ticket)) = false
+is_to (Verdict ask) (Some (Granted job)) = false
+is_to (Verdict ask) (Some (Denied job)) = false
+is_to (Verdict ask) None = false
+
 -- ---- the helper behind
+
+-- how many helpers were given up, behind a reply: one more exactly where it came and was none to what was asked
+abbrev pub given_up_by : Asked → Option (List ℕ) → ℕ → ℕ
+given_up_by asked (Some body) given_up = if is_to asked (reply_message (Some body)) then given_up else next_count given_up
+given_up_by asked None given_up = given_up
 
 -- the body of a reply
 abbrev pub reply_body : Option Buffer → Option (List ℕ)

@@ -5,7 +5,7 @@ use Rattle.child_msg.specs.ChildFrames.{from_child_body}
 use Rattle.helper_core.specs.Claims.{Begins, HasDone, Seen, Talk}
 use Rattle.helper_core.specs.declared.asked.Asked.{Asked}
 use Rattle.helper_core.specs.declared.behind.Exchange.{Exchange}
-use Rattle.helper_core.specs.Routes.{Route, NoRequest, counted}
+use Rattle.helper_core.specs.Routes.{Route, NoRequest, counted, given_up_by}
 use Rattle.helper_core.specs.Transcript.{Replies, Transcript, after, replies_of, served, then_served}
 use Rattle.wire_text.specs.Wire.{string}
 use Rattle.world_ports.specs.Journal.{Grows, Tells}
@@ -49,13 +49,16 @@ Puts (Ok true) route body behind now before out = PutsAnswer route body behind n
 Puts (Ok false) route body behind now before out = (route ≡ NoRequest) × (now ≡ behind)
 Puts (Err _) route body behind now before out = PutsNothing route body behind now
 
--- a request was handed on, and the frame of the answer that its reply gives was appended
-pub record IsHandedOn (asked : Asked) (request : List ℕ) (behind now : Option (List Exchange)) (before out : List ℕ) : Type 0 where
+-- a request was handed on, and the frame of the answer that its reply gives was appended; the helper was given up exactly
+-- where its reply is none to what was asked
+pub record IsHandedOn (asked : Asked) (request : List ℕ) (behind now : Option (List Exchange)) (gave_up given_up : ℕ) (before out : List ℕ) : Type 0 where
   pub reply : Option (List ℕ)
   pub grew : Grows behind now (record { request = request; reply = reply } ∷ [])
   pub appended : out ≡ before ++ string (from_child_body (counted asked reply))
+  pub parted : given_up ≡ given_up_by asked reply gave_up
 
 -- memory ran out, and the request may have been handed on
-pub record IsMaybeHandedOn (request : List ℕ) (behind now : Option (List Exchange)) : Type 0 where
+pub record IsMaybeHandedOn (asked : Asked) (request : List ℕ) (behind now : Option (List Exchange)) (gave_up given_up : ℕ) : Type 0 where
   pub reply : Option (List ℕ)
   pub told : Tells behind now true (record { request = request; reply = reply })
+  pub parted : given_up ≡ given_up_by asked reply gave_up

@@ -16,17 +16,23 @@ pub trait HelperBehind {
     ghost use Rattle.helper_core.specs.declared.behind.Exchange.{Exchange};
     ghost use Rattle.helper_core.specs.Routes.{IsAsked};
     ghost use Rattle.wire_text.specs.Bounds.{longest_body};
+    ghost use Rattle.world_ports.specs.Causes.{next_count};
 
     ghost seen: { Self → Option (List Exchange) };
+
+    // How many helpers were given up, which stays at 2^64 - 1.
+    ghost given_up: { Self → ℕ };
 
     /// Hands a request's body on, and gives the body of what is replied: none where no helper is there,
     /// or where it ends or says nothing for too long. Where memory runs out, the request may have been
     /// handed on.
     fn ask(&mut self, alloc: Global, request: &[u8]) -> Result<Option<ScrubBuf>, AllocError>
         ensures told { IsAsked result request.now (Self.seen self.old) (Self.seen self.new) }
-        ensures small { IfOk result (λ reply. IfSome reply (λ body. length body.live ≤ longest_body)) };
+        ensures small { IfOk result (λ reply. IfSome reply (λ body. length body.live ≤ longest_body)) }
+        ensures kept { Self.given_up self.new ≡ Self.given_up self.old };
 
     /// Parts with the helper that is there: its last reply was none to what it was asked.
     fn give_up(&mut self)
-        ensures { Self.seen self.new ≡ Self.seen self.old };
+        ensures same { Self.seen self.new ≡ Self.seen self.old }
+        ensures counted { Self.given_up self.new ≡ next_count (Self.given_up self.old) };
 }

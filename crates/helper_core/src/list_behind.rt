@@ -13,6 +13,7 @@ pub struct ListBehind {
     // The last one comes next.
     replies: Vec<Option<Bytes>>,
     made: Vec<Exchange>,
+    given_up: u64,
 }
 
 impl ListBehind {
@@ -25,6 +26,7 @@ impl ListBehind {
         ListBehind {
             replies,
             made: Vec::new(alloc),
+            given_up: 0,
         }
     }
 
@@ -38,6 +40,8 @@ impl ListBehind {
 
 impl HelperBehind for ListBehind {
     ghost seen = { λ s. Some s.made.items };
+
+    ghost given_up = { λ s. s.given_up };
 
     fn ask(&mut self, alloc: Global, request: &[u8]) -> Result<Option<ScrubBuf>, AllocError> {
         let request = Bytes::from_vec(Vec::from_slice(alloc, request)?);
@@ -59,5 +63,7 @@ impl HelperBehind for ListBehind {
         Ok(None)
     }
 
-    fn give_up(&mut self) {}
+    fn give_up(&mut self) {
+        self.given_up = self.given_up.saturating_add(1);
+    }
 }

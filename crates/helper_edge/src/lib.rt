@@ -2,6 +2,7 @@
 //! Stands on helper_core and frame_core.
 #![tactic(auto)]
 
+mod deadline;
 mod program;
 mod running;
 

@@ -1,6 +1,7 @@
 // A helper that was started, and its connection.
 ghost use Rattle.std.specs.Prelude.{◌≡◌};
 
+use crate::deadline::Deadline;
 use child_msg::{FromChild, read_from_child};
 use frame_core::{Front, LONGEST_BODY, first};
 use secret_buf::ScrubBuf;
@@ -35,12 +36,12 @@ fn lost() -> Error {
     Error::from(ErrorKind::Other)
 }
 
-// What is left until this second; nothing is left in it.
-fn left<R: Clock>(rt: &R, end: u64) -> IoResult<Duration> {
+// What is left until the deadline.
+fn left<R: Clock>(rt: &R, deadline: Deadline) -> IoResult<Duration> {
     let now = rt.monotonic()?.as_secs();
-    match end.checked_sub(now) {
-        Some(seconds) if seconds > 0 => Ok(Duration::from_secs(seconds)),
-        _ => Err(lost()),
+    match deadline.left(now) {
+        Some(seconds) => Ok(Duration::from_secs(seconds)),
+        None => Err(lost()),
     }
 }
 
@@ -88,17 +89,17 @@ impl<P: OpenProcess + Drop> Running<P> {
         }
     }
 
-    /// The body of the next frame, where the request goes out and the frame comes in before this second, and no more
+    /// The body of the next frame, where the request goes out and the frame comes in before the deadline, and no more
     /// than that frame.
     pub fn reply_to<R: Clock>(
         &mut self,
         rt: &R,
         alloc: Global,
         request: &[u8],
-        end: u64,
+        deadline: Deadline,
     ) -> Option<ScrubBuf> {
         if !self.has_greeted {
-            let hello = self.next_body(rt, alloc, end).ok()?;
+            let hello = self.next_body(rt, alloc, deadline).ok()?;
             if !is_hello(hello.live()) {
                 return None;
             }
@@ -108,19 +109,20 @@ impl<P: OpenProcess + Drop> Running<P> {
             return None;
         }
         let len = u32::try_from(request.len()).ok()?;
-        self.send(rt, &len.to_be_bytes(), end).ok()?;
-        self.send(rt, request, end).ok()?;
-        self.next_body(rt, alloc, end).ok()
+        self.send(rt, &len.to_be_bytes(), deadline).ok()?;
+        self.send(rt, request, deadline).ok()?;
+        self.next_body(rt, alloc, deadline).ok()
     }
 
     // Writes all of the bytes.
-    fn send<R: Clock>(&mut self, rt: &R, bytes: &[u8], end: u64) -> IoResult<()> {
+    fn send<R: Clock>(&mut self, rt: &R, bytes: &[u8], deadline: Deadline) -> IoResult<()> {
         let mut sent = 0;
         'pieces: for _ in 0..u64::MAX {
             if sent >= bytes.len() {
                 return Ok(());
             }
-            self.connection.set_write_timeout(Some(left(rt, end)?))?;
+            self.connection
+                .set_write_timeout(Some(left(rt, deadline)?))?;
             match self.connection.write(&bytes[sent..]) {
                 Ok(0) => return Err(lost()),
                 Ok(n) => sent += n,
@@ -135,7 +137,12 @@ impl<P: OpenProcess + Drop> Running<P> {
     }
 
     // The body of the frame in front, which is taken.
-    fn next_body<R: Clock>(&mut self, rt: &R, alloc: Global, end: u64) -> IoResult<ScrubBuf> {
+    fn next_body<R: Clock>(
+        &mut self,
+        rt: &R,
+        alloc: Global,
+        deadline: Deadline,
+    ) -> IoResult<ScrubBuf> {
         let mut room = [0; ROOM];
         'pieces: for _ in 0..u64::MAX {
             match first(self.heard.live(), LONGEST_BODY) {
@@ -149,7 +156,7 @@ impl<P: OpenProcess + Drop> Running<P> {
                 Front::Bad { .. } => return Err(lost()),
                 Front::More => {}
             }
-            self.connection.set_read_timeout(Some(left(rt, end)?))?;
+            self.connection.set_read_timeout(Some(left(rt, deadline)?))?;
             match self.connection.read(&mut room) {
                 Ok(0) => return Err(lost()),
                 Ok(n) => self.heard.push_slice(&room[..n])?,
