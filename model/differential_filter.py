@@ -1,6 +1,6 @@
 #!/usr/bin/env python3
 """Random clients and agents on both sides of the built filter, over sockets, beside the model: each side is sent the same
-bytes, and a pair is closed at the same piece.
+bytes, a connection to the agent behind is made and given back at the same piece, and a pair is closed at the same one.
 
     model/differential_filter.py FILTER [RUNS [SEED]]
     model/differential_filter.py --wrong [RUNS [SEED]]
@@ -99,12 +99,10 @@ class Played:
     def __init__(self, path: str, listener: socket.socket) -> None:
         client = socket.socket(socket.AF_UNIX)
         client.settimeout(PATIENCE)
+        client.setsockopt(socket.SOL_SOCKET, socket.SO_SNDTIMEO, SENDING)
         client.connect(path)
-        upstream = listener.accept()[0]
-        upstream.settimeout(PATIENCE)
-        self.ends = {"client": client, "upstream": upstream}
-        for end in self.ends.values():
-            end.setsockopt(socket.SOL_SOCKET, socket.SO_SNDTIMEO, SENDING)
+        self.listener, self.made = listener, 0
+        self.ends = {"client": client}
         self.seen = {"client": b"", "upstream": b""}
         self.kept = {"client": b"", "upstream": b""}
         self.model = Pair(set(LISTED))
@@ -128,6 +126,19 @@ class Played:
             assert not self.model.is_open, f"{side}: {fault} at {piece[:40].hex()}, waits for {self.model.waits}"
         end.settimeout(PATIENCE)
 
+    def follow(self) -> None:
+        """Connections to the agent behind begin and end as the model's."""
+        if "upstream" in self.ends and (self.made < self.model.made or not self.model.is_linked):
+            while self.take("upstream"):
+                pass
+            self.ends.pop("upstream").close()
+        if self.made < self.model.made:
+            upstream = self.listener.accept()[0]
+            upstream.setsockopt(socket.SOL_SOCKET, socket.SO_SNDTIMEO, SENDING)
+            upstream.settimeout(PATIENCE)
+            self.ends["upstream"] = upstream
+            self.made += 1
+
     def take(self, side: str) -> bool:
         """Reads once. Whether the other side goes on."""
         try:
@@ -139,6 +150,8 @@ class Played:
 
     def compare(self) -> None:
         """What each side is sent is what the model says. In the piece that closes a pair it may be cut off anywhere."""
+        if self.model.is_open:
+            self.follow()
         for side, end in self.ends.items():
             wanted = self.model.sent[side]
             if self.model.is_open:
@@ -161,6 +174,8 @@ class Script:
 
     def next(self, dice: random.Random, model: Pair) -> tuple[str, bytes] | None:
         """A side, and the bytes that it sends next, or none where it ends. Nothing where it has to wait."""
+        if not model.is_linked:
+            self.left["upstream"].clear()
         if model.waits and not self.left["upstream"] and not model.unread["upstream"] and dice.random() < 0.7:
             self.left["upstream"] += answer(dice, model.waits)
         side = "upstream" if self.left["upstream"] and dice.random() < 0.8 else "client"
@@ -173,7 +188,7 @@ class Script:
         chance = dice.random()
         if chance < 0.01 and model.wants(side):
             return side, b""
-        if chance < 0.02 and not model.waits:
+        if chance < 0.02 and model.is_linked and not model.waits:
             return "upstream", b"\0"
         count = dice.choice((len(self.left[side]), len(self.left[side]), 1, 3, 16384))
         piece = bytes(self.left[side][:count])
@@ -217,6 +232,10 @@ WRONG = {
     "takes a request before the answer": ("        if self.waits:\n            return False\n", ""),
     "passes on what is no list": ('raise Fault("no list")', "return body"),
     "refuses without an answer": ("string(body if self.waits else FAILURE)", "(string(body) if self.waits else b'')"),
+    "gives a bound connection back": ("self.is_linked = self.is_bound", "self.is_linked = False"),
+    "holds what nobody needs": ("        self.is_linked = self.is_bound\n", ""),
+    "takes no bind for one": ("self.is_bound = self.is_bound or is_bind(body)", "pass"),
+    "connects for what it refuses": ("if self.waits and not self.is_linked:", "if not self.is_linked:"),
     "has no longest message": ("LONGEST = 262144", "LONGEST = 1 << 32"),
 }
 
@@ -230,7 +249,8 @@ def differs(wrong: type[Pair], dice: random.Random) -> bool:
         side, piece = step
         for each in (model, other):
             each.hear(side, piece) if piece else each.end()
-        if (model.sent, model.is_open) != (other.sent, other.is_open):
+        states = [(each.sent, each.is_open, each.made, each.is_linked) for each in (model, other)]
+        if states[0] != states[1]:
             return True
         if not model.is_open:
             return False

@@ -45,7 +45,8 @@ def identities(body: bytes) -> list[tuple[bytes, bytes]] | None:
 
 
 class Pair:
-    """A client's connection, and one of its own to the agent behind. `sent` is what each side was sent."""
+    """A client's connection, and while it needs one, one of its own to the agent behind. `sent` is what each side was
+    sent, and `made` how many connections to the agent behind were made."""
 
     def __init__(self, listed: set[bytes]) -> None:
         self.listed = listed
@@ -53,6 +54,9 @@ class Pair:
         self.sent = {"client": b"", "upstream": b""}
         self.waits: str | None = None
         self.is_open = True
+        self.is_linked = False
+        self.is_bound = False
+        self.made = 0
 
     def hear(self, side: str, piece: bytes) -> None:
         """A side sends bytes, and each side takes what it is sent."""
@@ -67,7 +71,7 @@ class Pair:
 
     def wants(self, side: str) -> bool:
         """Whether a side is read: not while a whole message of it waits. Its end isn't noticed either then."""
-        return take_frame(bytearray(self.unread[side]), LONGEST) is None
+        return (side == "client" or self.is_linked) and take_frame(bytearray(self.unread[side]), LONGEST) is None
 
     def end(self) -> None:
         """Either side sends no more."""
@@ -85,6 +89,10 @@ class Pair:
         elif is_signature_request(body, self.listed) or is_bind(body):
             self.waits = "reply"
         self.sent["upstream" if self.waits else "client"] += string(body if self.waits else FAILURE)
+        if self.waits and not self.is_linked:
+            self.is_linked = True
+            self.made += 1
+        self.is_bound = self.is_bound or is_bind(body)
         return True
 
     def answer(self) -> bool:
@@ -98,6 +106,7 @@ class Pair:
             return False
         self.sent["client"] += string(self.cut(body) if self.waits == "list" else body)
         self.waits = None
+        self.is_linked = self.is_bound
         return True
 
     def cut(self, body: bytes) -> bytes:

@@ -7,6 +7,7 @@ import base64
 import contextlib
 import os
 import pathlib
+import select
 import shutil
 import signal
 import socket
@@ -16,6 +17,7 @@ import time
 
 sys.dont_write_bytecode = True
 
+import clients
 import rig
 from frames import Ended, string
 from hosts import Hosts, keygen
@@ -23,7 +25,9 @@ from rig import FAILURE, IDENTITIES, LIST, SIGN, Agent, Peer, openssh_agent, our
 
 check = rig.Checks("filter")
 PROGRAM = pathlib.Path(os.environ.get("FILTER", rig.BUILT / "filter_proxy"))
-MOST, LONGEST = 128, 262144
+MOST, LINKS, LONGEST = 128, 64, 262144
+# A session bind whose host key no agent reads.
+BIND = b"\x1b" + string(b"session-bind@openssh.com") + string(b"key") + string(b"session") + string(b"sg") + b"\0"
 
 
 def listening(path):
@@ -102,6 +106,27 @@ def forwarded_connections_keep_destination_constraints(folder):
                 assert listed[0] == 0 and comments == {"far", "free"}, listed
 
 
+def logs_in_by(folder, login):
+    """A client of SSH that is no OpenSSH logs in through the filter with the key that is listed, and not without it."""
+    with Hosts(folder, "one") as hosts:
+        words = login(folder, hosts)
+        for agent, keys in each_with_two(folder):
+            hosts.allow(keys[0])
+            for text, status in ((public(keys[0]), 0), (public(keys[1]), None)):
+                with filtered(folder, agent.path, text) as before:
+                    assert before.run(*words, status=status).startswith("in\n") == (status == 0)
+
+
+@check
+def asyncssh_logs_in_through_it(folder):
+    logs_in_by(folder, clients.asyncssh_login)
+
+
+@check
+def go_s_client_logs_in_through_it(folder):
+    logs_in_by(folder, clients.go_login)
+
+
 @check
 def what_ssh_add_does_through_it(folder):
     for agent, keys in each_with_two(folder):
@@ -148,17 +173,86 @@ def more_clients_than_may_be_open_wait(folder):
         rig.one_more_waits(before, peers)
 
 
+def replied(peers):
+    """The clients that have a reply to read."""
+    ready = select.select([peer.socket for peer in peers], [], [], 0)[0]
+    return [peer for peer in peers if peer.socket in ready]
+
+
+@check
+def idle_clients_leave_the_agent_behind_to_its_owner(folder):
+    with our_agent(rig.there(rig.agent_program()), folder) as agent, filtered(folder, agent.path, "") as before:
+        for binds, answered in ((False, MOST), (True, LINKS)):
+            peers = [before.peer() for _ in range(MOST)]
+            for peer in peers:
+                peer.send(BIND if binds else bytes([LIST]))
+            until(lambda: len(replied(peers)) == answered, what="the replies")
+            begin = time.monotonic()
+            with agent.peer() as owner:
+                assert owner.ask(LIST)[0] == IDENTITIES
+            spent = time.monotonic() - begin
+            print(f"filter: the owner's list beside {MOST} clients came in {spent * 1000:.1f} ms")
+            assert spent < 2, spent
+            # Who is bound holds its place, and who waits for one is served once one is left.
+            first = replied(peers)
+            assert len(first) == answered
+            for peer in first + [peer for peer in peers if peer not in first]:
+                assert peer.reply()[0] == (FAILURE if binds else IDENTITIES)
+                peer.close()
+
+
+@check
+def no_more_than_64_wait_for_the_agent_behind(folder):
+    with Behind(folder) as behind, filtered(folder, behind.path, "") as before:
+        peers = [before.peer() for _ in range(LINKS + 2)]
+        for peer in peers:
+            peer.send(bytes([LIST]))
+        upstreams = [behind.peer() for _ in range(LINKS)]
+        behind.waits()
+        for upstream in upstreams:
+            assert upstream.reply() == bytes([LIST])
+        for place in range(2):
+            upstreams[place].send(bytes([FAILURE]))
+            assert upstreams[place].has_ended()
+            upstreams.append(behind.peer())
+            assert upstreams[-1].reply() == bytes([LIST])
+        for upstream in upstreams[2:]:
+            upstream.send(bytes([FAILURE]))
+        assert [peer.reply() for peer in peers] == [bytes([FAILURE])] * len(peers)
+
+
+@check
+def a_client_waits_while_the_agent_behind_has_no_place(folder):
+    with Behind(folder, 0) as behind, filtered(folder, behind.path, "") as before, socket.socket(socket.AF_UNIX) as full:
+        full.connect(str(behind.path))
+        with before.peer() as peer:
+            peer.send(bytes([LIST]))
+            begin = rig.spent(before.process.pid)
+            time.sleep(1)
+            assert rig.spent(before.process.pid) - begin < 0.2
+            behind.peer().close()
+            with behind.peer() as upstream:
+                assert upstream.reply() == bytes([LIST])
+                upstream.send(bytes([FAILURE]))
+            assert peer.reply() == bytes([FAILURE])
+
+
 @check
 def an_agent_that_ends_and_comes_back(folder):
     key = keygen(folder / "key")
     agent = openssh_agent(folder, stderr=subprocess.DEVNULL)
     with filtered(folder, agent.path, public(key)) as before:
-        peer = before.peer()
-        assert peer.ask(LIST)[0] == IDENTITIES
+        idle, bound = before.peer(), before.peer()
+        for peer in (idle, bound):
+            assert peer.ask(LIST)[0] == IDENTITIES
+        bound.send(BIND)
+        assert bound.reply() == bytes([FAILURE])
         agent.end()
-        assert peer.has_ended()
+        assert bound.has_ended()
         for _ in range(3):
-            assert before.peer().has_ended()
+            with before.peer() as peer:
+                peer.send(bytes([LIST]))
+                assert peer.has_ended()
         begin = rig.spent(before.process.pid)
         time.sleep(1)
         assert rig.spent(before.process.pid) - begin < 0.2
@@ -167,16 +261,18 @@ def an_agent_that_ends_and_comes_back(folder):
         with openssh_agent(folder, stderr=subprocess.DEVNULL) as agent:
             agent.run("ssh-add", "-q", key)
             assert before.run("ssh-add", "-L") == public(key)
+            # Who asked for nothing meanwhile doesn't notice.
+            assert idle.ask(LIST)[0] == IDENTITIES
 
 
 class Behind:
     """An agent behind a filter, played by this process."""
 
-    def __init__(self, folder):
+    def __init__(self, folder, most=200):
         self.path = folder / "behind.sock"
         self.listener = socket.socket(socket.AF_UNIX)
         self.listener.bind(str(self.path))
-        self.listener.listen(200)
+        self.listener.listen(most)
         self.listener.settimeout(10)
 
     def __enter__(self):
@@ -188,15 +284,52 @@ class Behind:
     def peer(self):
         return Peer(self.listener.accept()[0])
 
+    def waits(self):
+        """Nobody else connects for a while."""
+        self.listener.settimeout(0.3)
+        with contextlib.suppress(TimeoutError):
+            self.listener.accept()
+            raise AssertionError("one more connection")
+        self.listener.settimeout(10)
+
 
 @contextlib.contextmanager
 def played(folder, text=""):
-    """A filter before an agent that this process plays: the pair of connections of a client that has come."""
-    with Behind(folder) as behind, filtered(folder, behind.path, text) as before:
-        # The look whether the filter listens was a client.
-        behind.peer().close()
-        with before.peer() as client, behind.peer() as upstream:
+    """A filter before an agent that this process plays: the pair of connections of a client that is bound."""
+    with Behind(folder) as behind, filtered(folder, behind.path, text) as before, before.peer() as client:
+        client.send(BIND)
+        with behind.peer() as upstream:
+            assert upstream.reply() == BIND
+            upstream.send(bytes([FAILURE]))
+            assert client.reply() == bytes([FAILURE])
             yield client, upstream, before, behind
+
+
+@check
+def a_connection_is_made_for_a_request_and_given_back_behind_it(folder):
+    with Behind(folder) as behind, filtered(folder, behind.path, "") as before, before.peer() as client:
+        assert client.ask(rig.REMOVE_ALL) == bytes([FAILURE])
+        behind.waits()
+        client.send(bytes([LIST]), bytes([LIST]))
+        for answer in (bytes([IDENTITIES, 0, 0, 0, 0]), bytes([FAILURE])):
+            with behind.peer() as upstream:
+                assert upstream.reply() == bytes([LIST])
+                upstream.send(answer)
+                assert client.reply() == answer
+                assert upstream.has_ended()
+        # Once a bind was sent it stays, whatever the answer was.
+        client.send(BIND)
+        with behind.peer() as upstream:
+            assert upstream.reply() == BIND
+            upstream.send(bytes([FAILURE]))
+            assert client.reply() == bytes([FAILURE])
+            client.send(bytes([LIST]))
+            assert upstream.reply() == bytes([LIST])
+            upstream.send(bytes([FAILURE]))
+            assert client.reply() == bytes([FAILURE])
+            behind.waits()
+            client.close()
+            assert upstream.has_ended()
 
 
 @check
@@ -231,8 +364,9 @@ def only_the_pair_that_breaks_the_rules_is_closed(folder):
         place = folder / str(len(list(folder.iterdir())))
         place.mkdir()
         with played(place) as (client, upstream, before, behind):
-            with before.peer() as other, behind.peer() as beside:
+            with before.peer() as other, contextlib.ExitStack() as stack:
                 other.send(bytes([LIST]))
+                beside = stack.enter_context(behind.peer())
                 assert beside.reply() == bytes([LIST])
                 if asked:
                     client.send(bytes([LIST]))
@@ -361,12 +495,18 @@ class Front:
         return not list(self.temporary.iterdir())
 
 
-@check
-def the_front_end_runs_a_command_and_cleans_up(folder):
+@contextlib.contextmanager
+def front_and_three_keys(folder):
+    """The front end, OpenSSH's agent, and three keys that it holds."""
     keys = [keygen(folder / name) for name in ("one", "two", "three")]
-    front = Front(folder)
     with openssh_agent(folder, stderr=subprocess.DEVNULL) as agent:
         agent.run("ssh-add", "-q", *keys)
+        yield Front(folder), agent, keys
+
+
+@check
+def the_front_end_runs_a_command_and_cleans_up(folder):
+    with front_and_three_keys(folder) as (front, agent, keys):
         named = [word for key in keys[:2] for word in ("-k", f"{key}.pub")]
         assert front.run(agent, *named, "ssh-add", "-L") == public(*keys[:2])
         # A private key stands for the public one beside it.
@@ -446,11 +586,9 @@ def home(folder):
 
 @check
 def a_socket_that_stays_until_it_is_ended(folder):
-    keys = [keygen(folder / name) for name in ("one", "two", "three")]
-    front, place = Front(folder), home(folder)
+    place = home(folder)
     path = place / "some.sock"
-    with openssh_agent(folder, stderr=subprocess.DEVNULL) as agent:
-        agent.run("ssh-add", "-q", *keys)
+    with front_and_three_keys(folder) as (front, agent, keys):
         shown = lambda: run(["ssh-add", "-L"], env=dict(front.environment, SSH_AUTH_SOCK=str(path)))
         assert front.run(agent, "-a", path, "-k", keys[0]) == ""
         assert shown() == public(keys[0])
@@ -508,10 +646,7 @@ def a_forwarded_socket_shows_its_keys_on_two_hosts(folder):
 
 @check
 def keys_are_named_by_pipes_fingerprints_and_comments(folder):
-    keys = [keygen(folder / name) for name in ("one", "two", "three")]
-    front = Front(folder)
-    with openssh_agent(folder, stderr=subprocess.DEVNULL) as agent:
-        agent.run("ssh-add", "-q", *keys)
+    with front_and_three_keys(folder) as (front, agent, keys):
         one, two, three = public(*keys).splitlines(True)
         told = [run(["ssh-keygen", "-l", "-E", hash, "-f", f"{keys[1]}.pub"]).split()[1] for hash in ("sha256", "md5")]
         for word in (*told, two.split()[2]):

@@ -5,9 +5,9 @@ use Rattle.wire_text.specs.Bounds.{longest_body}
 use Rattle.wire_text.specs.Frames.{Bad, Front, More, Whole, after_front, front, front_body}
 use Rattle.filter_model.specs.declared.waits.Waits.{Waits}
 use Rattle.filter_model.specs.declared.waits.Waits.TheVariants as waiting
-use Rattle.filter_model.specs.Pairs.{Pair}
-use Rattle.filter_model.specs.Looking.{Looked, and_then_if, answered, client_front, client_looked, client_owed, client_waits, ends, fate_of, looked, nothing_left, reply_for, stays, taken_as, upstream_front, upstream_looked, upstream_waits, without_front}
-use Rattle.filter_core.specs.Slots.{Leaves, is_free, is_none, is_quiet, owes_reply}
+use Rattle.filter_model.specs.Pairs.{Pair, is_none, is_quiet, kept}
+use Rattle.filter_model.specs.Looking.{Looked, and_then, and_then_if, answered, client_front, client_looked, client_owed, client_waits, ends, fate_of, given_back, nothing_left, reply_for, stays, taken_as, upstream_front, upstream_looked, upstream_waits, without_front}
+use Rattle.filter_core.specs.Slots.{Leaves, is_free, owes_reply}
 
 -- ---- the client's side
 
@@ -24,11 +24,13 @@ owed_held (byte ∷ bytes) upstream listed pair held = refl
 waits_free : (waits : Waits) (listed : List (List ℕ)) (pair : Pair) → (is_quiet waits && (is_none pair.client.owed && is_none pair.upstream.owed)) ≡ true → client_waits waits listed pair ≡ client_front (front longest_body pair.client.heard) listed pair
 waits_free waiting.Nothing listed pair free = owed_free pair.client.owed pair.upstream.owed listed pair free
 waits_free waiting.OnList listed pair free = cc
+waits_free waiting.OnBind listed pair free = cc
 waits_free waiting.OnReply listed pair free = cc
 
 waits_held : (waits : Waits) (listed : List (List ℕ)) (pair : Pair) → (is_quiet waits && (is_none pair.client.owed && is_none pair.upstream.owed)) ≡ false → client_waits waits listed pair ≡ stays pair
 waits_held waiting.Nothing listed pair held = owed_held pair.client.owed pair.upstream.owed listed pair held
 waits_held waiting.OnList listed pair held = refl
+waits_held waiting.OnBind listed pair held = refl
 waits_held waiting.OnReply listed pair held = refl
 
 -- the look is this
@@ -59,6 +61,7 @@ taken_leaves listed pair left body_len free found is =
 quiet_by : (waits : Waits) (others : Bool) → (is_quiet waits && others) ≡ true → waits ≡ waiting.Nothing
 quiet_by waiting.Nothing others free = refl
 quiet_by waiting.OnList others free = cc
+quiet_by waiting.OnBind others free = cc
 quiet_by waiting.OnReply others free = cc
 
 pub free_is_quiet : (pair : Pair) → is_free pair ≡ true → pair.waits ≡ waiting.Nothing
@@ -73,6 +76,7 @@ left_by (byte ∷ bytes) pair is_open is = record { stays = is; left = refl }
 unasked_by : (waits : Waits) (listed : List (List ℕ)) (pair : Pair) → is_quiet waits ≡ true → upstream_waits waits listed pair ≡ nothing_left pair.upstream.heard pair
 unasked_by waiting.Nothing listed pair quiet = refl
 unasked_by waiting.OnList listed pair quiet = cc
+unasked_by waiting.OnBind listed pair quiet = cc
 unasked_by waiting.OnReply listed pair quiet = cc
 
 pub unasked_leaves : (listed : List (List ℕ)) (pair : Pair) (is_open : Bool) → is_quiet pair.waits ≡ true → is_open ≡ is_none pair.upstream.heard → Leaves is_open pair (upstream_looked listed pair)
@@ -83,6 +87,7 @@ unasked_leaves listed pair is_open quiet is =
 asked_by : (waits : Waits) (listed : List (List ℕ)) (pair : Pair) → is_quiet waits ≡ false → upstream_waits waits listed pair ≡ upstream_front (front longest_body pair.upstream.heard) listed pair
 asked_by waiting.Nothing listed pair asked = cc
 asked_by waiting.OnList listed pair asked = refl
+asked_by waiting.OnBind listed pair asked = refl
 asked_by waiting.OnReply listed pair asked = refl
 
 upstream_is : (listed : List (List ℕ)) (pair : Pair) (answer : Front) → is_quiet pair.waits ≡ false → front longest_body pair.upstream.heard ≡ answer → upstream_looked listed pair ≡ upstream_front answer listed pair
@@ -107,22 +112,29 @@ answered_none None body_len pair left none is = record { stays = refl; left = is
 answered_none (Some reply) body_len pair left none is = absurd (cc)
 
 pub answered_some : (reply : Option (List ℕ)) (body_len : ℕ) (pair left : Pair) (is_open : Bool) → is_some reply ≡ true → is_open ≡ is_none (after_front body_len pair.upstream.heard)
-    → left ≡ record { client = owes_reply reply pair.client; upstream = without_front body_len pair.upstream; waits = waiting.Nothing }
+    → left ≡ record pair { client = owes_reply reply pair.client; upstream = without_front body_len pair.upstream; waits = waiting.Nothing }
     → Leaves is_open left (answered reply body_len pair)
 answered_some None body_len pair left is_open some open_yet is = absurd (cc)
 answered_some (Some reply) body_len pair left is_open some open_yet is =
-    let after : Pair = record { client = owes_reply (Some reply) pair.client; upstream = without_front body_len pair.upstream; waits = waiting.Nothing } in
+    let after : Pair = record pair { client = owes_reply (Some reply) pair.client; upstream = without_front body_len pair.upstream; waits = waiting.Nothing } in
     let leaves = left_by (after_front body_len pair.upstream.heard) after is_open open_yet in
     record { stays = leaves.stays; left = is ∙ leaves.left }
 
 -- ---- both sides
 
-pub then_stops : (listed : List (List ℕ)) (pair left : Pair) → Leaves false left (client_looked listed pair) → Leaves false left (looked listed pair)
+pub then_stops : (listed : List (List ℕ)) (pair left : Pair) → Leaves false left (client_looked listed pair) → Leaves false left (and_then (client_looked listed pair) (upstream_looked listed))
 then_stops listed pair left first =
-    leaves_as false left (looked listed pair) (ends (client_looked listed pair).pair)
+    leaves_as false left (and_then (client_looked listed pair) (upstream_looked listed)) (ends (client_looked listed pair).pair)
     (ap (λ (b : Bool). and_then_if b (client_looked listed pair).pair (upstream_looked listed)) (sym first.stays)) refl first.left
 
-pub then_goes : (listed : List (List ℕ)) (pair mid left : Pair) (is_open : Bool) → Leaves true mid (client_looked listed pair) → Leaves is_open left (upstream_looked listed mid) → Leaves is_open left (looked listed pair)
+pub then_goes : (listed : List (List ℕ)) (pair mid left : Pair) (is_open : Bool) → Leaves true mid (client_looked listed pair) → Leaves is_open left (upstream_looked listed mid) → Leaves is_open left (and_then (client_looked listed pair) (upstream_looked listed))
 then_goes listed pair mid left is_open first next =
-    leaves_as is_open left (looked listed pair) (upstream_looked listed mid)
+    leaves_as is_open left (and_then (client_looked listed pair) (upstream_looked listed)) (upstream_looked listed mid)
     (ap (λ (b : Bool). and_then_if b (client_looked listed pair).pair (upstream_looked listed)) (sym first.stays) ∙ ap (upstream_looked listed) (sym first.left)) next.stays next.left
+
+-- the connection is given back where it isn't needed
+pub back_leaves : (pair left : Pair) (is_open : Bool) (after : Looked) → left ≡ kept pair → Leaves is_open pair after → Leaves is_open left (given_back after)
+back_leaves pair left is_open after back leaves = record {
+  stays = leaves.stays;
+  left = back ∙ ap kept leaves.left;
+}

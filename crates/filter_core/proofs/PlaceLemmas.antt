@@ -1,5 +1,5 @@
 -- Lemmas on the place of a pair in a list whose numbers rise.
-use Rattle.std.proofs.Common.{◌≡◌, ◌≢◌, ◌==◌, ℕ, zero, suc, ◌<◌, ◌≤◌, List, [], ◌∷◌, ◌++◌, length, map, get_or, refl, arith, ap, sym, subst, ◌∙◌, Some, None, Result, Ok, Err, MatchOption, slice_get, slice_set, inl, inr, Bool, true, if◌then◌else◌}
+use Rattle.std.proofs.Common.{◌≡◌, ◌≢◌, ◌==◌, ℕ, zero, suc, false, ◌<◌, ◌≤◌, List, [], ◌∷◌, ◌++◌, length, map, get_or, refl, arith, ap, sym, subst, ◌∙◌, Some, None, Result, Ok, Err, MatchOption, slice_get, slice_set, inl, inr, Bool, true, if◌then◌else◌}
 use Rattle.std.proofs.lemmas.Bool.Decides.{Decides-eqb, nat_tests}
 use Rattle.std.specs.List.{remove}
 use Rattle.std.proofs.lemmas.Bool.{cases_eq, cases_lt}
@@ -42,13 +42,6 @@ number-above low high (one ∷ pairs) (suc i) rising within =
     omega (arith, rising.0)
 
 -- a number that isn't above the bound is nobody's
-put-below : (number low high : ℕ) (pair : Pair) (pairs : List Numbered) → number ≤ low → IsRising low high pairs → put_pair number pair pairs ≡ pairs
-put-below number low high pair [] below rising = refl
-put-below number low high pair (one ∷ pairs) below rising =
-    let above : low < one.number = rising.0 in
-    let rest : put_pair number pair pairs ≡ pairs = put-below number one.number high pair pairs (omega (arith, above)) rising.1 in
-    grind (arith, nat_tests)
-
 remove-below : (number low high : ℕ) (pairs : List Numbered) → number ≤ low → IsRising low high pairs → remove_pair number pairs ≡ pairs
 remove-below number low high [] below rising = refl
 remove-below number low high (one ∷ pairs) below rising =
@@ -73,11 +66,11 @@ pub rising-put : (number low high : ℕ) (pair : Pair) (pairs : List Numbered) �
 rising-put number low high pair [] rising = rising
 rising-put number low high pair (one ∷ pairs) rising = elim (cases_eq number one.number) [
   | inl here ↦
-      (let is : put_pair number pair (one ∷ pairs) ≡ record { number = number; pair = pair } ∷ put_pair number pair pairs = grind (arith, nat_tests) in
+      (let is : put_pair number pair (one ∷ pairs) ≡ record { number = number; pair = pair } ∷ pairs = grind (arith, nat_tests) in
       let P : List Numbered → Type 0 = λ all. IsRising low high all in
       let above : low < number = omega (arith, rising.0, here) in
-      let Q : ℕ → Type 0 = λ n. IsRising n high (put_pair number pair pairs) in
-      subst P (sym is) (above, subst Q (sym here) (rising-put number one.number high pair pairs rising.1)))
+      let Q : ℕ → Type 0 = λ n. IsRising n high pairs in
+      subst P (sym is) (above, subst Q (sym here) rising.1))
   | inr apart ↦
       (let is : put_pair number pair (one ∷ pairs) ≡ one ∷ put_pair number pair pairs = grind (arith, nat_tests) in
       let P : List Numbered → Type 0 = λ all. IsRising low high all in
@@ -106,7 +99,6 @@ put-at : (number low high : ℕ) (pairs : List Numbered) (i : ℕ) → IsRising 
 put-at number low high [] i rising within is pair = absurd (omega arith)
 put-at number low high (one ∷ pairs) zero rising within is pair =
     let here : one.number ≡ number = is in
-    let rest : put_pair number pair pairs ≡ pairs = put-below number one.number high pair pairs (omega (arith, here)) rising.1 in
     grind (arith, nat_tests)
 put-at number low high (one ∷ pairs) (suc i) rising within is pair =
     let later : one.number < get_or (numbers pairs) i 0 = number-above one.number high pairs i rising.1 (omega arith) in
@@ -166,7 +158,7 @@ numbers-ordered low high (one ∷ pairs) (suc i) (suc j) rising order within =
 
 -- a slot of nobody
 pub no_slot : Slot
-no_slot = record { number = 0; client = empty_half; upstream = empty_half; waits = waits.Nothing }
+no_slot = record { number = 0; client = empty_half; upstream = empty_half; waits = waits.Nothing; is_linked = false; is_bound = false }
 
 -- the comparisons with a number rise along the slots, as a binary search asks
 comparisons_rise : (slots : List Slot) (number high : ℕ) → IsRising 0 high (pairs_of slots) → IsNonDecreasingBy (λ slot. ordering_index (nat_cmp slot.number number)) slots

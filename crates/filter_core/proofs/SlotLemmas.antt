@@ -1,12 +1,13 @@
 -- Edits of the slots are edits of the pairs, and these are the steps of the definition.
-use Rattle.std.proofs.Common.{◌≡◌, ◌∙◌, ℕ, zero, suc, ◌+◌, ◌-◌, ◌^◌, ◌<◌, List, [], ◌∷◌, ◌++◌, Bool, true, false, length, get_or, set, refl, ap, arith, sym, subst, Some, slice_get, Result, Ok, Err}
+use Rattle.std.proofs.Common.{◌≡◌, ◌∙◌, ℕ, zero, suc, ◌+◌, ◌-◌, ◌^◌, ◌<◌, List, [], ◌∷◌, ◌++◌, Bool, true, false, length, cond, get_or, set, refl, ap, arith, sym, subst, Some, slice_get, Result, Ok, Err}
 use Rattle.std.proofs.lemmas.List.{map-set, map-append, drop-map, take-map}
 use Rattle.std.specs.Prelude.{OnOk}
 use Rattle.std.proofs.lemmas.Option.{slice_get-map}
-use Rattle.std.specs.List.{remove}
+use Rattle.std.specs.List.{count_by, filter, remove}
+use Rattle.std.proofs.lemmas.List.Sums.{length-filter}
 use Rattle.std.specs.Option.{option_map}
 use Rattle.filter_model.specs.Pairs.{Pair}
-use Rattle.filter_model.specs.Filters.{Happening, Numbered, State, at_pair, find_pair, put_pair, remove_pair, settled, told}
+use Rattle.filter_model.specs.Filters.{Happening, Numbered, State, at_pair, find_pair, links, parted, put_pair, remove_pair, settled, told}
 use Rattle.filter_core.specs.declared.slot.Slot.{Slot}
 use Rattle.filter_core.specs.Slots.{IsKept, IsRising, Leaves, numbered_of, pair_of, pairs_of}
 use Rattle.filter_core.specs.Places.{IsPlace}
@@ -88,43 +89,62 @@ kept-numbered pairs last below kept = record { rising = rising-higher 0 last (la
 
 -- the pair stays open
 pub steps_open : (event : Happening) (state : State) (number : ℕ) (pair left : Pair) → find_pair number state.pairs ≡ Some pair → Leaves true left (told event state.listed pair)
-    → at_pair (find_pair number state.pairs) number event state ≡ record state { pairs = put_pair number left state.pairs; closes = [] }
+    → at_pair (find_pair number state.pairs) number event state ≡ record state { pairs = put_pair number left state.pairs; closes = []; parts = parted number pair.is_linked left.is_linked }
 steps_open event state number pair left found leaves =
     ap (λ f. at_pair f number event state) found
-    ∙ ap (λ b. settled b number (told event state.listed pair).pair state) (sym leaves.stays)
-    ∙ ap (λ p. settled true number p state) (sym leaves.left)
+    ∙ ap (λ b. settled b number pair (told event state.listed pair).pair state) (sym leaves.stays)
+    ∙ ap (λ p. settled true number pair p state) (sym leaves.left)
 
 -- it is closed
 pub steps_closed : (event : Happening) (state : State) (number : ℕ) (pair left : Pair) → find_pair number state.pairs ≡ Some pair → Leaves false left (told event state.listed pair)
-    → at_pair (find_pair number state.pairs) number event state ≡ record state { pairs = remove_pair number state.pairs; closes = number ∷ [] }
+    → at_pair (find_pair number state.pairs) number event state ≡ record state { pairs = remove_pair number state.pairs; closes = number ∷ []; parts = [] }
 steps_closed event state number pair left found leaves =
     ap (λ f. at_pair f number event state) found
-    ∙ ap (λ b. settled b number (told event state.listed pair).pair state) (sym leaves.stays)
+    ∙ ap (λ b. settled b number pair (told event state.listed pair).pair state) (sym leaves.stays)
+
+-- ---- connections
+
+counted_by : (test : Bool) (slot : Slot) (some : List Slot) (all : List Numbered) → length some ≡ length all → length (cond test (slot ∷ some) some) ≡ length (cond test (numbered_of slot ∷ all) all)
+counted_by true slot some all same = ap suc same
+counted_by false slot some all same = same
+
+as_many : (slots : List Slot) → length (filter (λ slot. slot.is_linked) slots) ≡ links (pairs_of slots)
+as_many [] = refl
+as_many (slot ∷ slots) =
+    counted_by slot.is_linked slot (filter (λ each. each.is_linked) slots) (filter (λ one. one.pair.is_linked) (pairs_of slots)) (as_many slots)
+
+-- slots and pairs with a connection are as many
+pub counted : (slots : List Slot) → count_by (λ slot. slot.is_linked) slots ≡ links (pairs_of slots)
+counted slots = sym (length-filter (λ slot. slot.is_linked) slots) ∙ as_many slots
 
 -- ---- the state of the storage
 
-abbrev pub state_of : List (List ℕ) → List Slot → ℕ → List ℕ → State
-state_of listed slots last closed = record { listed = listed; pairs = pairs_of slots; last_pair = last; closes = closed }
+abbrev pub state_of : List (List ℕ) → List Slot → ℕ → List ℕ → List ℕ → State
+state_of listed slots last closed parts = record { listed = listed; pairs = pairs_of slots; last_pair = last; closes = closed; parts = parts }
 
 -- an event that leaves the pair open
-pub tells_open : (listed : List (List ℕ)) (slots : List Slot) (last : ℕ) (closed : List ℕ) (number place : ℕ) (event : Happening) (old slot : Slot) (stays : Bool)
-    → IsPlace number (pairs_of slots) place → old ≡ get_or slots place old → slot.number ≡ old.number → Leaves stays (pair_of slot) (told event listed (pair_of old)) → stays ≡ true → closed ≡ []
-    → state_of listed (set slots place slot) last closed ≡ at_pair (find_pair number (pairs_of slots)) number event (state_of listed slots last closed)
-tells_open listed slots last closed number place event old slot stays is here same leaves open_yet quiet =
-    ap (λ (pairs : List Numbered). let s : State = record { listed = listed; pairs = pairs; last_pair = last; closes = closed } in s) (put_slot slots number place old is here slot same)
-    ∙ ap (λ (closes : List ℕ). let s : State = record { listed = listed; pairs = put_pair number (pair_of slot) (pairs_of slots); last_pair = last; closes = closes } in s) quiet
-    ∙ sym (steps_open event (state_of listed slots last closed) number (pair_of old) (pair_of slot) (found_slot slots number place old is here)
+pub tells_open : (listed : List (List ℕ)) (slots : List Slot) (last : ℕ) (closed parts noted : List ℕ) (number place : ℕ) (event : Happening) (old slot : Slot) (stays : Bool)
+    → IsPlace number (pairs_of slots) place → old ≡ get_or slots place old → slot.number ≡ old.number → Leaves stays (pair_of slot) (told event listed (pair_of old)) → stays ≡ true → closed ≡ [] → parts ≡ []
+    → noted ≡ parts ++ parted number old.is_linked slot.is_linked
+    → state_of listed (set slots place slot) last closed noted ≡ at_pair (find_pair number (pairs_of slots)) number event (state_of listed slots last closed parts)
+tells_open listed slots last closed parts noted number place event old slot stays is here same leaves open_yet quiet unparted notes =
+    ap (λ (pairs : List Numbered). let s : State = record { listed = listed; pairs = pairs; last_pair = last; closes = closed; parts = noted } in s) (put_slot slots number place old is here slot same)
+    ∙ ap (λ (closes : List ℕ). let s : State = record { listed = listed; pairs = put_pair number (pair_of slot) (pairs_of slots); last_pair = last; closes = closes; parts = noted } in s) quiet
+    ∙ ap (λ (gone : List ℕ). let s : State = record { listed = listed; pairs = put_pair number (pair_of slot) (pairs_of slots); last_pair = last; closes = []; parts = gone } in s)
+    (notes ∙ ap (λ (l : List ℕ). l ++ parted number old.is_linked slot.is_linked) unparted)
+    ∙ sym (steps_open event (state_of listed slots last closed parts) number (pair_of old) (pair_of slot) (found_slot slots number place old is here)
     (subst (λ (b : Bool). Leaves b (pair_of slot) (told event listed (pair_of old))) open_yet leaves))
 
 -- one that closes it
-pub tells_closed : (listed : List (List ℕ)) (slots : List Slot) (last : ℕ) (closed : List ℕ) (number place : ℕ) (event : Happening) (old slot : Slot) (stays : Bool)
-    → IsPlace number (pairs_of slots) place → old ≡ get_or slots place old → slot.number ≡ old.number → Leaves stays (pair_of slot) (told event listed (pair_of old)) → stays ≡ false → closed ≡ []
-    → state_of listed (remove (set slots place slot) place) last (closed ++ slot.number ∷ []) ≡ at_pair (find_pair number (pairs_of slots)) number event (state_of listed slots last closed)
-tells_closed listed slots last closed number place event old slot stays is here same leaves shut quiet =
-    ap (λ (pairs : List Numbered). let s : State = record { listed = listed; pairs = pairs; last_pair = last; closes = closed ++ slot.number ∷ [] } in s) (remove_put slots number place old is here slot)
-    ∙ ap (λ (closes : List ℕ). let s : State = record { listed = listed; pairs = remove_pair number (pairs_of slots); last_pair = last; closes = closes ++ slot.number ∷ [] } in s) quiet
-    ∙ ap (λ (n : ℕ). let s : State = record { listed = listed; pairs = remove_pair number (pairs_of slots); last_pair = last; closes = n ∷ [] } in s) (same ∙ number_of_slot slots number place old is here)
-    ∙ sym (steps_closed event (state_of listed slots last closed) number (pair_of old) (pair_of slot) (found_slot slots number place old is here)
+pub tells_closed : (listed : List (List ℕ)) (slots : List Slot) (last : ℕ) (closed parts : List ℕ) (number place : ℕ) (event : Happening) (old slot : Slot) (stays : Bool)
+    → IsPlace number (pairs_of slots) place → old ≡ get_or slots place old → slot.number ≡ old.number → Leaves stays (pair_of slot) (told event listed (pair_of old)) → stays ≡ false → closed ≡ [] → parts ≡ []
+    → state_of listed (remove (set slots place slot) place) last (closed ++ slot.number ∷ []) parts ≡ at_pair (find_pair number (pairs_of slots)) number event (state_of listed slots last closed parts)
+tells_closed listed slots last closed parts number place event old slot stays is here same leaves shut quiet unparted =
+    ap (λ (pairs : List Numbered). let s : State = record { listed = listed; pairs = pairs; last_pair = last; closes = closed ++ slot.number ∷ []; parts = parts } in s) (remove_put slots number place old is here slot)
+    ∙ ap (λ (closes : List ℕ). let s : State = record { listed = listed; pairs = remove_pair number (pairs_of slots); last_pair = last; closes = closes ++ slot.number ∷ []; parts = parts } in s) quiet
+    ∙ ap (λ (n : ℕ). let s : State = record { listed = listed; pairs = remove_pair number (pairs_of slots); last_pair = last; closes = n ∷ []; parts = parts } in s) (same ∙ number_of_slot slots number place old is here)
+    ∙ ap (λ (gone : List ℕ). let s : State = record { listed = listed; pairs = remove_pair number (pairs_of slots); last_pair = last; closes = number ∷ []; parts = gone } in s) unparted
+    ∙ sym (steps_closed event (state_of listed slots last closed parts) number (pair_of old) (pair_of slot) (found_slot slots number place old is here)
     (subst (λ (b : Bool). Leaves b (pair_of slot) (told event listed (pair_of old))) shut leaves))
 
 -- what follows where memory sufficed

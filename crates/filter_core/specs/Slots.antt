@@ -6,11 +6,9 @@ use Rattle.wire_text.specs.Bounds.{longest_body}
 use Rattle.agent_msg.specs.Replies.{entries_length}
 use Rattle.agent_msg.specs.ReplyReading.{AgentReply, Failure, Identities, Signature, Success}
 use Rattle.filter_core.specs.declared.slot.Slot.{Slot}
-use Rattle.filter_model.specs.declared.waits.Waits.{Waits}
-use Rattle.filter_model.specs.declared.waits.Waits.TheVariants as waiting
-use Rattle.filter_model.specs.Pairs.{Half, Pair, half_of, owes_more}
+use Rattle.filter_model.specs.Pairs.{Half, Pair, half_of, is_none, is_quiet, owes_more}
 use Rattle.filter_model.specs.Looking.{Looked}
-use Rattle.filter_model.specs.Filters.{Ended, Happening, Heard, Joined, Numbered, Took}
+use Rattle.filter_model.specs.Filters.{Connected, Ended, Happening, Heard, Joined, Numbered, Took}
 
 -- the blobs of a set, in order
 abbrev pub blobs_of : BTreeSet (Vec ℕ Global) → List (List ℕ)
@@ -18,7 +16,13 @@ blobs_of listed = map (λ blob. blob.items) listed.keys
 
 -- a pair without its storage, and with its number
 abbrev pub pair_of : Slot → Pair
-pair_of slot = record { client = slot.client; upstream = slot.upstream; waits = slot.waits }
+pair_of slot = record {
+  client = slot.client;
+  upstream = slot.upstream;
+  waits = slot.waits;
+  is_linked = slot.is_linked;
+  is_bound = slot.is_bound;
+}
 
 -- the pair of a slot with its number
 abbrev pub numbered_of : Slot → Numbered
@@ -43,17 +47,6 @@ abbrev pub owes_reply : Option (List ℕ) → Half → Half
 owes_reply None half = half
 owes_reply (Some reply) half = owes_more reply half
 
--- no bytes
-abbrev pub is_none : List ℕ → Bool
-is_none [] = true
-is_none (byte ∷ bytes) = false
-
--- nothing is waited for
-abbrev pub is_quiet : Waits → Bool
-is_quiet waiting.Nothing = true
-is_quiet waiting.OnList = false
-is_quiet waiting.OnReply = false
-
 -- the client's next request may be taken
 abbrev pub is_free : Pair → Bool
 is_free pair = is_quiet pair.waits && (is_none pair.client.owed && is_none pair.upstream.owed)
@@ -73,6 +66,7 @@ IsShort (Signature signature) = Unit {0}
 -- the event may come to the pair: no more is taken than is owed
 abbrev pub FitsPair : Happening → Pair → Type 0
 FitsPair Joined pair = Unit {0}
+FitsPair (Connected number) pair = Unit {0}
 FitsPair (Heard number side piece) pair = Unit {0}
 FitsPair (Took number side count) pair = count ≤ length (half_of side pair).owed
 FitsPair (Ended number) pair = Unit {0}

@@ -3,8 +3,12 @@ use pair_ports::Side;
 /// What happens to a filter: the atomic step of its pairs. Prints nothing, since it carries what clients sent.
 #[derive(Clone, Copy)]
 pub enum FilterEvent<'a> {
-    /// A client connected, and so did its upstream side. The new pair has the next number, from 1.
+    /// A client connected. The new pair has the next number, from 1.
     Joined,
+    /// The pair was connected to the agent behind.
+    Connected {
+        pair: u64,
+    },
     /// The next bytes of a side, in a piece of any length.
     Heard {
         pair: u64,

@@ -36,7 +36,7 @@ fn waits_for(listed: &BTreeSet<Vec<u8>>, request: Request<'_>) -> Waits
     match request {
         Request::List => Waits::OnList,
         Request::Sign { blob, .. } => waits_by(is_listed(listed, blob)),
-        Request::Bind { .. } => Waits::OnReply,
+        Request::Bind { .. } => Waits::OnBind,
         _ => Waits::Nothing,
     }
 }

@@ -1,11 +1,11 @@
 //! The filter.
 
-ghost use Rattle.std.specs.Prelude.{◌≡◌, ◌↔◌, ◌-◌, ◌^◌, ◌<◌, ◌≤◌, [], ◌∷◌, ◌++◌, IsSome, IsTrue, MatchOption, None, OnOk, Some, false, length, map, slice_get, true};
+ghost use Rattle.std.specs.Prelude.{◌≡◌, ◌↔◌, ◌-◌, ◌^◌, ◌<◌, ◌≤◌, [], ◌∷◌, ◌++◌, IsSome, IsTrue, MatchOption, None, OnOk, Some, count_by, false, length, map, slice_get, true};
 ghost use Rattle.std.specs.List.{remove};
-ghost use Rattle.filter_model.specs.Filters.{Fits, Joined, at_pair, find_pair, first_state, joined, owed_of, step, wants};
+ghost use Rattle.filter_model.specs.Filters.{Fits, Joined, at_pair, can_send, find_pair, first_state, has_place, is_reached, joined, links, owed_of, parted, step, wants};
 ghost use Rattle.filter_model.specs.Pairs.{Pair};
 ghost use Rattle.filter_core.specs.Happenings.{happening};
-ghost use Rattle.filter_core.specs.Slots.{FitsPair, pair_of};
+ghost use Rattle.filter_core.specs.Slots.{FitsPair, pair_of, pairs_of};
 ghost use Rattle.filter_core.specs.declared.slot.Slot.{Slot};
 
 use crate::FilterEvent;
@@ -19,8 +19,11 @@ use std::marker::Model;
 /// The most pairs that are open at once.
 const MOST_PAIRS: usize = 128;
 
-/// A filter: its blobs, its open pairs, and those that its last step closed. Dropping it wipes what its pairs sent and
-/// are owed.
+/// The most connections to the agent behind.
+const MOST_LINKS: usize = 64;
+
+/// A filter: its blobs, its open pairs, those that its last step closed, and those whose connection to the agent behind it
+/// gave back. Dropping it wipes what its pairs sent and are owed.
 #[derive(Drop)]
 pub struct Filter {
     alloc: Global,
@@ -29,6 +32,7 @@ pub struct Filter {
     slots: Vec<Slot>,
     last: u64,
     closed: Vec<u64>,
+    parted: Vec<u64>,
 }
 
 impl Model for Filter {
@@ -42,6 +46,7 @@ impl Model for Filter {
       pairs = pairs_of f.slots.items;
       last_pair = f.last;
       closes = f.closed.items;
+      parts = f.parted.items;
     } };
 
     ghost invariant = { λ f. IsKept (pairs_of f.slots.items) f.last };
@@ -58,6 +63,7 @@ impl Filter {
             slots: Vec::new(alloc),
             last: 0,
             closed: Vec::new(alloc),
+            parted: Vec::new(alloc),
         }
     }
 
@@ -67,9 +73,14 @@ impl Filter {
     {
         match *event {
             FilterEvent::Joined => self.last < u64::MAX,
-            FilterEvent::Heard { pair, piece, .. } => self.is_open(pair) && !piece.is_empty(),
+            FilterEvent::Connected { pair } => {
+                self.can_send(pair, Side::Upstream) && !self.is_reached(pair, Side::Upstream)
+            }
+            FilterEvent::Heard { pair, side, piece } => {
+                self.is_reached(pair, side) && !piece.is_empty()
+            }
             FilterEvent::Took { pair, side, count } => {
-                count > 0 && count <= self.owed(pair, side).len()
+                self.is_reached(pair, side) && count > 0 && count <= self.owed(pair, side).len()
             }
             FilterEvent::Ended { pair } => self.is_open(pair),
         }
@@ -81,8 +92,10 @@ impl Filter {
         ensures { OnOk result (self.new ≡ step self.old (happening event.now)) }
     {
         self.closed.clear();
+        self.parted.clear();
         match *event {
             FilterEvent::Joined => self.join(),
+            FilterEvent::Connected { pair } => self.tell(pair, event),
             FilterEvent::Heard { pair, .. } => self.tell(pair, event),
             FilterEvent::Took { pair, .. } => self.tell(pair, event),
             FilterEvent::Ended { pair } => self.tell(pair, event),
@@ -99,8 +112,31 @@ impl Filter {
         }
     }
 
-    /// Whether a side of a pair is to be read: not where the pair isn't open, and not while a whole frame or a bad one
-    /// of that side waits to be taken.
+    /// Whether there is a connection to a side of a pair.
+    pub fn is_reached(&self, pair: u64, side: Side) -> bool
+        ensures { result ≡ is_reached pair side self.now }
+    {
+        match self.find(pair) {
+            Some(slot) => slot::reaches(slot, side),
+            None => false,
+        }
+    }
+
+    /// Whether a side of a pair is owed bytes, and there is a connection to it or a place for one.
+    pub fn can_send(&self, pair: u64, side: Side) -> bool
+        ensures { result ≡ can_send pair side self.now }
+    {
+        match self.find(pair) {
+            Some(slot) => {
+                !slot::owed(slot, side).is_empty()
+                    && (slot::reaches(slot, side) || self.has_place())
+            }
+            None => false,
+        }
+    }
+
+    /// Whether a side of a pair is to be read: not where there is no connection to it, and not while a whole frame or a
+    /// bad one of that side waits to be taken.
     pub fn wants(&self, pair: u64, side: Side) -> bool
         ensures { result ≡ wants pair side self.now }
     {
@@ -115,6 +151,13 @@ impl Filter {
         ensures { result.now ≡ self.now.closes }
     {
         &self.closed
+    }
+
+    /// The pairs whose connection to the agent behind the last step gave back, rising.
+    pub fn parts(&self) -> &[u64]
+        ensures { result.now ≡ self.now.parts }
+    {
+        &self.parted
     }
 
     /// Whether the pair is open.
@@ -143,10 +186,18 @@ impl Filter {
         }
     }
 
+    // Whether one pair more may have a connection to the agent behind.
+    fn has_place(&self) -> bool
+        ensures { result ≡ has_place self.now }
+    {
+        count_links(&self.slots) < MOST_LINKS
+    }
+
     // A pair joins. Where too many are open it is closed at once.
     fn join(&mut self) -> Result<(), AllocError>
         requires last { self.old.last_pair < 2 ^ 64 - 1 }
         requires closes { self.old.closes ≡ [] }
+        requires parts { self.old.parts ≡ [] }
         ensures { OnOk result (self.new ≡ step self.old Joined) }
     {
         if self.slots.len() < MOST_PAIRS {
@@ -160,6 +211,7 @@ impl Filter {
     fn admit(&mut self) -> Result<(), AllocError>
         requires last { self.old.last_pair < 2 ^ 64 - 1 }
         requires closes { self.old.closes ≡ [] }
+        requires parts { self.old.parts ≡ [] }
         ensures { OnOk result (self.new ≡ joined true self.old) }
     {
         let number = self.last + 1;
@@ -172,6 +224,7 @@ impl Filter {
     fn turn_away(&mut self) -> Result<(), AllocError>
         requires last { self.old.last_pair < 2 ^ 64 - 1 }
         requires closes { self.old.closes ≡ [] }
+        requires parts { self.old.parts ≡ [] }
         ensures { OnOk result (self.new ≡ joined false self.old) }
     {
         let number = self.last + 1;
@@ -183,6 +236,7 @@ impl Filter {
     // An event of a pair happened: nothing, where it isn't open.
     fn tell(&mut self, pair: u64, event: &FilterEvent<'_>) -> Result<(), AllocError>
         requires closes { self.old.closes ≡ [] }
+        requires parts { self.old.parts ≡ [] }
         requires fits { (found : Pair) → find_pair pair self.old.pairs ≡ Some found → FitsPair (happening event.now) found }
         ensures { OnOk result
             (self.new ≡ at_pair (find_pair pair self.old.pairs) pair (happening event.now) self.old) }
@@ -190,14 +244,44 @@ impl Filter {
         match place_of(&self.slots, pair) {
             Some(place) => {
                 let slot = &mut self.slots[place];
+                let was_linked = slot.is_linked;
                 match slot::tell(self.alloc, slot, &self.listed, event)? {
-                    true => Ok(()),
+                    true => note_parted(&mut self.parted, pair, was_linked, slot.is_linked),
                     false => close(&mut self.slots, &mut self.closed, place),
                 }
             }
             None => Ok(()),
         }
     }
+}
+
+// How many of the slots have a connection to the agent behind.
+fn count_linked(slots: &[Slot]) -> usize
+    ensures { result ≡ count_by (λ slot. slot.is_linked) slots.now }
+{
+    slots.iter().filter(|slot| slot.is_linked).count()
+}
+
+// How many of their pairs have one.
+fn count_links(slots: &[Slot]) -> usize
+    ensures { result ≡ links (pairs_of slots.now) }
+{
+    count_linked(slots)
+}
+
+// Notes the pair of this number where it gave its connection back.
+fn note_parted(
+    noted: &mut Vec<u64>,
+    number: u64,
+    was_linked: bool,
+    is_linked: bool,
+) -> Result<(), AllocError>
+    ensures { OnOk result (noted.new.items ≡ noted.old.items ++ parted number was_linked is_linked) }
+{
+    if was_linked && !is_linked {
+        noted.push(number)?;
+    }
+    Ok(())
 }
 
 // Closes the pair at this place. What it sent and is owed is wiped.

@@ -1,15 +1,15 @@
 //! One open pair.
 
-ghost use Rattle.std.specs.Prelude.{◌≡◌, ◌≤◌, IfOk, OnOk, length, is_some};
+ghost use Rattle.std.specs.Prelude.{◌≡◌, ◌≤◌, ◌&&◌, IfOk, OnOk, length, is_some, true};
 ghost use Rattle.wire_text.specs.Bounds.{longest_body};
 ghost use Rattle.wire_text.specs.Frames.{Whole, front, front_body};
 ghost use Rattle.agent_msg.specs.ReplyReading.{reply_of};
 ghost use Rattle.filter_model.specs.declared.waits.Waits.TheVariants as waiting;
-ghost use Rattle.filter_model.specs.Pairs.{change_half, half_of, heard_more, new_pair, sent_some, wants_half};
-ghost use Rattle.filter_model.specs.Looking.{answered, client_looked, fate_of, looked, reply_for, taken_as, upstream_looked, without_front};
+ghost use Rattle.filter_model.specs.Pairs.{change_half, half_of, heard_more, is_none, is_quiet, is_through, kept, new_pair, reaches, sent_some, wants_half};
+ghost use Rattle.filter_model.specs.Looking.{and_then, answered, client_looked, fate_of, looked, reply_for, taken_as, upstream_looked, without_front};
 ghost use Rattle.filter_model.specs.Filters.{told};
 ghost use Rattle.filter_core.specs.Happenings.{happening};
-ghost use Rattle.filter_core.specs.Slots.{FitsPair, Leaves, blobs_of, is_free, is_none, is_quiet, numbered_of, owes_reply, pair_of};
+ghost use Rattle.filter_core.specs.Slots.{FitsPair, Leaves, blobs_of, is_free, numbered_of, owes_reply, pair_of};
 
 use crate::FilterEvent;
 use crate::buffers::Buffers;
@@ -28,6 +28,10 @@ pub struct Slot {
     pub client: Buffers,
     pub upstream: Buffers,
     pub waits: Waits,
+    // There is a connection to the agent behind.
+    pub is_linked: bool,
+    // A bind was forwarded.
+    is_bound: bool,
 }
 
 /// A pair at which nothing has happened. Takes no memory.
@@ -39,6 +43,8 @@ pub fn new(alloc: Global, number: u64) -> Slot
         client: Buffers::new(alloc),
         upstream: Buffers::new(alloc),
         waits: Waits::Nothing,
+        is_linked: false,
+        is_bound: false,
     }
 }
 
@@ -52,13 +58,23 @@ pub fn owed(slot: &Slot, side: Side) -> &[u8]
     }
 }
 
-/// Whether a side is to be read.
+/// Whether there is a connection to a side.
+pub fn reaches(slot: &Slot, side: Side) -> bool
+    ensures { result ≡ reaches side (pair_of slot.now) }
+{
+    match side {
+        Side::Client => true,
+        Side::Upstream => slot.is_linked,
+    }
+}
+
+/// Whether there is a connection to a side, and it is to be read.
 pub fn wants(slot: &Slot, side: Side) -> bool
-    ensures { result ≡ wants_half (half_of side (pair_of slot.now)) }
+    ensures { result ≡ (reaches side (pair_of slot.now) && wants_half (half_of side (pair_of slot.now))) }
 {
     match side {
         Side::Client => slot.client.wants(),
-        Side::Upstream => slot.upstream.wants(),
+        Side::Upstream => slot.is_linked && slot.upstream.wants(),
     }
 }
 
@@ -105,6 +121,10 @@ fn take(
     match fate {
         Waits::Nothing => slot.client.owe_failure()?,
         Waits::OnList | Waits::OnReply => slot.upstream.owe(body)?,
+        Waits::OnBind => {
+            slot.upstream.owe(body)?;
+            slot.is_bound = true;
+        }
     }
     slot.waits = fate;
     slot.client.take(body_len);
@@ -127,7 +147,7 @@ fn is_quiet(waits: Waits) -> bool
 {
     match waits {
         Waits::Nothing => true,
-        Waits::OnList | Waits::OnReply => false,
+        Waits::OnList | Waits::OnBind | Waits::OnReply => false,
     }
 }
 
@@ -182,7 +202,7 @@ fn owe_reply(
     match slot.waits {
         Waits::Nothing => Ok(false),
         Waits::OnList => owe_cut(alloc, &mut slot.client, listed, answer),
-        Waits::OnReply => {
+        Waits::OnBind | Waits::OnReply => {
             slot.client.owe(answer)?;
             Ok(true)
         }
@@ -234,15 +254,56 @@ fn look_at_upstream(
 
 // Looks at both sides, the client's first; tells whether the pair stays open.
 #[tactic(auto, using(crate::proofs::LookLemmas::then_stops, crate::proofs::LookLemmas::then_goes))]
-fn look(alloc: Global, slot: &mut Slot, listed: &BTreeSet<Vec<u8>>) -> Result<bool, AllocError>
+fn look_at_both(
+    alloc: Global,
+    slot: &mut Slot,
+    listed: &BTreeSet<Vec<u8>>,
+) -> Result<bool, AllocError>
     ensures looked { IfOk result (λ stays. Leaves stays (pair_of slot.new)
-        (looked (blobs_of listed.now) (pair_of slot.old))) }
+        (and_then (client_looked (blobs_of listed.now) (pair_of slot.old)) (upstream_looked (blobs_of listed.now)))) }
     ensures number { slot.new.number ≡ slot.old.number }
 {
     if !look_at_client(alloc, slot, listed)? {
         return Ok(false);
     }
     look_at_upstream(alloc, slot, listed)
+}
+
+// Whether nothing is under way with the agent behind.
+fn is_through(slot: &Slot) -> bool
+    ensures { result ≡ is_through (pair_of slot.now) }
+{
+    is_quiet(slot.waits) && is_none(slot.upstream.heard()) && is_none(slot.upstream.owed())
+}
+
+// Gives the connection to the agent behind back where nothing is under way and no bind was ever forwarded.
+fn give_back(slot: &mut Slot)
+    ensures pair { pair_of slot.new ≡ kept (pair_of slot.old) }
+    ensures number { slot.new.number ≡ slot.old.number }
+{
+    slot.is_linked = slot.is_linked && (slot.is_bound || !is_through(slot));
+}
+
+// Looks at both sides, and gives a connection back that isn't needed; tells whether the pair stays open.
+#[tactic(auto, using(crate::proofs::LookLemmas::back_leaves))]
+fn look(alloc: Global, slot: &mut Slot, listed: &BTreeSet<Vec<u8>>) -> Result<bool, AllocError>
+    ensures looked { IfOk result (λ stays. Leaves stays (pair_of slot.new)
+        (looked (blobs_of listed.now) (pair_of slot.old))) }
+    ensures number { slot.new.number ≡ slot.old.number }
+{
+    let stays = look_at_both(alloc, slot, listed)?;
+    give_back(slot);
+    Ok(stays)
+}
+
+// The pair was connected to the agent behind; tells that it stays open.
+fn link(slot: &mut Slot) -> bool
+    ensures pair { pair_of slot.new ≡ record (pair_of slot.old) { is_linked = true } }
+    ensures number { slot.new.number ≡ slot.old.number }
+    ensures stays { result ≡ true }
+{
+    slot.is_linked = true;
+    true
 }
 
 // A side sent this piece; tells whether the pair stays open.
@@ -292,6 +353,7 @@ pub fn tell(
 {
     match *event {
         FilterEvent::Joined => look(alloc, slot, listed),
+        FilterEvent::Connected { .. } => Ok(link(slot)),
         FilterEvent::Heard { side, piece, .. } => hear(alloc, slot, listed, side, piece),
         FilterEvent::Took { side, count, .. } => sent(alloc, slot, listed, side, count),
         FilterEvent::Ended { .. } => Ok(false),

@@ -12,6 +12,8 @@ use Rattle.world_ports.specs.declared.answers.WorldFault.{WorldFault}
 use Rattle.world_ports.specs.declared.answers.WorldFault.TheVariants.{Failed, Memory}
 use Rattle.world_ports.specs.declared.answers.Wrote.{Wrote}
 use Rattle.world_ports.specs.declared.answers.Wrote.TheVariants as wrote
+use Rattle.pair_ports.specs.declared.entry.Linked.{Linked}
+use Rattle.pair_ports.specs.declared.entry.Linked.TheVariants as linked
 use Rattle.pair_ports.specs.declared.entry.PairEntry.{PairEntry}
 use Rattle.pair_ports.specs.declared.entry.PairEntry.TheVariants as entry
 use Rattle.pair_ports.specs.declared.entry.PairReady.{PairReady}
@@ -19,13 +21,13 @@ use Rattle.pair_ports.specs.declared.side.Side.{Side}
 use Rattle.pair_ports.specs.declared.side.Side.TheVariants.{Client, Upstream}
 use Rattle.filter_model.specs.declared.thing.Thing.{Thing}
 use Rattle.filter_model.specs.declared.thing.Thing.TheVariants.{Accept, Read, Write}
-use Rattle.filter_model.specs.Filters.{State, find_pair}
-use Rattle.filter_model.specs.Fairness.{EachIsFair, if_any, is_service, is_waiting, waits_on}
+use Rattle.filter_model.specs.Filters.{State, find_pair, is_reached}
+use Rattle.filter_model.specs.Fairness.{EachIsFair, if_any, is_service, waits_on}
 use Rattle.filter_model.specs.Lines.{dropped, first_servable, has_thing, is_next, is_of, is_servable, is_thing, queued, queued_all, queued_by, queued_if, queued_pair, same_side, same_thing, sent_back}
 use Rattle.std.proofs.lemmas.Bool.{eqb-true}
 use Rattle.std.proofs.Common.{◌⊎◌, inl, inr}
 use Rattle.std.proofs.lemmas.List.Folds.{list_any-append}
-use Rattle.filter_model.specs.Answered.{Reading, Due, Binding, Closing, Free, Nothing, after_accept, after_bind, after_close, after_poll, after_read, after_write, only_if}
+use Rattle.filter_model.specs.Answered.{Reading, Due, Binding, Closing, Free, Nothing, Parting, after_accept, after_bind, after_close, after_connect, after_disconnect, after_poll, after_read, after_write, only_if}
 use Rattle.filter_model.proofs.JournalLemmas.{only_some, read_apart, then_some}
 use Rattle.filter_model.specs.LegalPairs.{allowed, allowed_at, first_reading, read_on}
 
@@ -197,10 +199,9 @@ more_if false other thing new line is = is
 
 more_pair : (other thing : Thing) (pair : ℕ) (line : List Thing) → Stands other thing line → Stands other thing (queued_pair pair line)
 more_pair other thing pair line is =
-    more other thing (Write pair Upstream) (queued (Read pair Upstream) (queued (Write pair Client) (queued (Read pair Client) line)))
-    (more other thing (Read pair Upstream) (queued (Write pair Client) (queued (Read pair Client) line))
+    more other thing (Write pair Upstream) (queued (Write pair Client) (queued (Read pair Client) line))
     (more other thing (Write pair Client) (queued (Read pair Client) line)
-    (more other thing (Read pair Client) line is)))
+    (more other thing (Read pair Client) line is))
 
 more_of : (other thing : Thing) (state : State) (pair : Option ℕ) (side : Side) (readable writable : Bool) (line : List Thing) → Stands other thing line
     → Stands other thing (queued_by state pair side readable writable line)
@@ -246,6 +247,13 @@ module _ (other thing : Thing) (state : State) (line : List Thing) (is : Stands 
   accept-ahead (Err Failed) apart has = dropped-ahead Accept has
   accept-ahead (Err Memory) apart has = is.1
 
+  connect-ahead : (pair : ℕ) (answer : Result Linked WorldFault) → same_thing other (Write pair Upstream) ≡ false
+      → IsAhead other thing (after_connect pair state line answer).line
+  connect-ahead pair (Ok linked.Made) apart has = sent-ahead other thing (Write pair Upstream) line apart is.1 has
+  connect-ahead pair (Ok linked.NotNow) apart has = dropped-ahead (Write pair Upstream) has
+  connect-ahead pair (Err Failed) apart has = dropped-ahead (Write pair Upstream) has
+  connect-ahead pair (Err Memory) apart has = is.1
+
   read-ahead : (pair : ℕ) (side : Side) (bytes : List ℕ) (answer : Result Got WorldFault) → same_thing other (Read pair side) ≡ false
       → IsAhead other thing (after_read pair side bytes state line answer).line
   read-ahead pair side bytes (Ok (got.Bytes n)) apart has = sent-ahead other thing (Read pair side) line apart is.1 has
@@ -261,9 +269,13 @@ module _ (other thing : Thing) (state : State) (line : List Thing) (is : Stands 
   write-ahead pair side (Err Failed) apart has = dropped-ahead (Write pair side) has
   write-ahead pair side (Err Memory) apart has = is.1
 
-  close-ahead : {E : Type 0} (pair : ℕ) (later : List ℕ) (answer : Result Unit E) → IsAhead other thing (after_close pair later state line answer).line
-  close-ahead pair later (Ok done) has = left-ahead (λ (x : Thing). not (is_of pair x)) other thing line is.1 has
-  close-ahead pair later (Err want) has = is.1
+  close-ahead : {E : Type 0} (pair : ℕ) (later parts : List ℕ) (answer : Result Unit E) → IsAhead other thing (after_close pair later parts state line answer).line
+  close-ahead pair later parts (Ok done) has = left-ahead (λ (x : Thing). not (is_of pair x)) other thing line is.1 has
+  close-ahead pair later parts (Err want) has = is.1
+
+  part-ahead : {E : Type 0} (pair : ℕ) (later : List ℕ) (answer : Result Unit E) → IsAhead other thing (after_disconnect pair later state line answer).line
+  part-ahead pair later (Ok done) has = (more other thing (Write pair Upstream) line is).1
+  part-ahead pair later (Err want) has = is.1
 
   led : (test : Bool) (reading to : Reading) → only_if test reading ≡ Some to → IsAhead other thing reading.line → IsAhead other thing to.line
   led test reading to legal holds = subst (OfLine (IsAhead other thing)) (only_some test reading to legal).1 holds
@@ -272,32 +284,49 @@ module _ (other thing : Thing) (state : State) (line : List Thing) (is : Stands 
   free-ahead (entry.Bind path upstream answer) to legal unserved = cc
   free-ahead (entry.Poll items answer) to legal unserved = led _ (after_poll items state line answer) to legal (poll-ahead items answer)
   free-ahead (entry.Accept answer) to legal unserved = led _ (after_accept state line answer) to legal (accept-ahead answer unserved)
+  free-ahead (entry.Connect pair answer) to legal unserved = led _ (after_connect pair state line answer) to legal (connect-ahead pair answer unserved)
   free-ahead (entry.Read pair side room bytes answer) to legal unserved =
       led _ (after_read pair side bytes state line answer) to legal (read-ahead pair side bytes answer unserved)
   free-ahead (entry.Write pair side offered answer) to legal unserved =
       led _ (after_write pair side state line answer) to legal (write-ahead pair side answer unserved)
+  free-ahead (entry.Disconnect pair answer) to legal unserved = cc
   free-ahead (entry.Close pair answer) to legal unserved = cc
 
   bind-only : (path upstream : List ℕ) (next : PairEntry) (to : Reading) → allowed_at (Binding path upstream) state line next ≡ Some to → IsAhead other thing to.line
   bind-only path upstream (entry.Bind one another answer) to legal = led _ (after_bind answer state line) to legal (bind-ahead answer)
   bind-only path upstream (entry.Poll items answer) to legal = cc
   bind-only path upstream (entry.Accept answer) to legal = cc
+  bind-only path upstream (entry.Connect pair answer) to legal = cc
   bind-only path upstream (entry.Read pair side room bytes answer) to legal = cc
   bind-only path upstream (entry.Write pair side offered answer) to legal = cc
+  bind-only path upstream (entry.Disconnect pair answer) to legal = cc
   bind-only path upstream (entry.Close pair answer) to legal = cc
 
-  close-only : (number : ℕ) (later : List ℕ) (next : PairEntry) (to : Reading) → allowed_at (Closing number later) state line next ≡ Some to → IsAhead other thing to.line
-  close-only number later (entry.Bind one another answer) to legal = cc
-  close-only number later (entry.Poll items answer) to legal = cc
-  close-only number later (entry.Accept answer) to legal = cc
-  close-only number later (entry.Read pair side room bytes answer) to legal = cc
-  close-only number later (entry.Write pair side offered answer) to legal = cc
-  close-only number later (entry.Close pair answer) to legal = led _ (after_close number later state line answer) to legal (close-ahead number later answer)
+  close-only : (number : ℕ) (later parts : List ℕ) (next : PairEntry) (to : Reading) → allowed_at (Closing number later parts) state line next ≡ Some to → IsAhead other thing to.line
+  close-only number later parts (entry.Bind one another answer) to legal = cc
+  close-only number later parts (entry.Poll items answer) to legal = cc
+  close-only number later parts (entry.Accept answer) to legal = cc
+  close-only number later parts (entry.Connect pair answer) to legal = cc
+  close-only number later parts (entry.Read pair side room bytes answer) to legal = cc
+  close-only number later parts (entry.Write pair side offered answer) to legal = cc
+  close-only number later parts (entry.Disconnect pair answer) to legal = cc
+  close-only number later parts (entry.Close pair answer) to legal = led _ (after_close number later parts state line answer) to legal (close-ahead number later parts answer)
+
+  part-only : (number : ℕ) (later : List ℕ) (next : PairEntry) (to : Reading) → allowed_at (Parting number later) state line next ≡ Some to → IsAhead other thing to.line
+  part-only number later (entry.Bind one another answer) to legal = cc
+  part-only number later (entry.Poll items answer) to legal = cc
+  part-only number later (entry.Accept answer) to legal = cc
+  part-only number later (entry.Connect pair answer) to legal = cc
+  part-only number later (entry.Read pair side room bytes answer) to legal = cc
+  part-only number later (entry.Write pair side offered answer) to legal = cc
+  part-only number later (entry.Disconnect pair answer) to legal = led _ (after_disconnect number later state line answer) to legal (part-ahead number later answer)
+  part-only number later (entry.Close pair answer) to legal = cc
 
   stays-ahead : (due : Due) (next : PairEntry) (to : Reading) → allowed_at due state line next ≡ Some to → is_service other next ≡ false → IsAhead other thing to.line
   stays-ahead (Binding path upstream) next to legal unserved = bind-only path upstream next to legal
   stays-ahead Free next to legal unserved = free-ahead next to legal unserved
-  stays-ahead (Closing pair later) next to legal unserved = close-only pair later next to legal
+  stays-ahead (Closing pair later parts) next to legal unserved = close-only pair later parts next to legal
+  stays-ahead (Parting pair later) next to legal unserved = part-only pair later next to legal
   stays-ahead Nothing next to legal unserved = cc
 
 -- ---- a service
@@ -321,6 +350,13 @@ module _ (state : State) (line : List Thing) where
   after_accept-leaves (Ok accepted.NotNow) other apart = inr (λ has. gone other Accept line)
   after_accept-leaves (Err Failed) other apart = inr (λ has. gone other Accept line)
   after_accept-leaves (Err Memory) other apart = inl refl
+
+  after_connect-leaves : (pair : ℕ) (answer : Result Linked WorldFault) (other : Thing) → same_thing other (Write pair Upstream) ≡ false
+      → Overtakes other (Write pair Upstream) (after_connect pair state line answer)
+  after_connect-leaves pair (Ok linked.Made) other apart = inr (sent-last other (Write pair Upstream) line apart)
+  after_connect-leaves pair (Ok linked.NotNow) other apart = inr (λ has. gone other (Write pair Upstream) line)
+  after_connect-leaves pair (Err Failed) other apart = inr (λ has. gone other (Write pair Upstream) line)
+  after_connect-leaves pair (Err Memory) other apart = inl refl
 
   after_read-leaves : (pair : ℕ) (side : Side) (bytes : List ℕ) (answer : Result Got WorldFault) (other : Thing) → same_thing other (Read pair side) ≡ false
       → Overtakes other (Read pair side) (after_read pair side bytes state line answer)
@@ -349,46 +385,65 @@ module _ (state : State) (line : List Thing) where
   free-leaves thing (entry.Poll items answer) to legal served = true_false (sym served)
   free-leaves thing (entry.Accept answer) to legal served =
       left_there (is_next state line Accept) _ thing Accept (after_accept state line answer) to served refl legal (after_accept-leaves answer)
+  free-leaves thing (entry.Connect pair answer) to legal served =
+      left_there (is_next state line (Write pair Upstream)) _ thing (Write pair Upstream) (after_connect pair state line answer) to served refl legal
+      (after_connect-leaves pair answer)
   free-leaves thing (entry.Read pair side room bytes answer) to legal served =
       left_there (is_next state line (Read pair side)) _ thing (Read pair side) (after_read pair side bytes state line answer) to served refl legal
       (after_read-leaves pair side bytes answer)
   free-leaves thing (entry.Write pair side offered answer) to legal served =
       left_there (is_next state line (Write pair side)) _ thing (Write pair side) (after_write pair side state line answer) to served refl legal
       (after_write-leaves pair side answer)
+  free-leaves thing (entry.Disconnect pair answer) to legal served = cc
   free-leaves thing (entry.Close pair answer) to legal served = cc
 
   bind-serves : (path upstream : List ℕ) (thing : Thing) (next : PairEntry) (to : Reading) → allowed_at (Binding path upstream) state line next ≡ Some to → is_service thing next ≡ true → ⊥
   bind-serves path upstream thing (entry.Bind one another answer) to legal served = true_false (sym served)
   bind-serves path upstream thing (entry.Poll items answer) to legal served = cc
   bind-serves path upstream thing (entry.Accept answer) to legal served = cc
+  bind-serves path upstream thing (entry.Connect pair answer) to legal served = cc
   bind-serves path upstream thing (entry.Read pair side room bytes answer) to legal served = cc
   bind-serves path upstream thing (entry.Write pair side offered answer) to legal served = cc
+  bind-serves path upstream thing (entry.Disconnect pair answer) to legal served = cc
   bind-serves path upstream thing (entry.Close pair answer) to legal served = cc
 
-  close-serves : (number : ℕ) (later : List ℕ) (thing : Thing) (next : PairEntry) (to : Reading) → allowed_at (Closing number later) state line next ≡ Some to → is_service thing next ≡ true → ⊥
-  close-serves number later thing (entry.Bind one another answer) to legal served = cc
-  close-serves number later thing (entry.Poll items answer) to legal served = cc
-  close-serves number later thing (entry.Accept answer) to legal served = cc
-  close-serves number later thing (entry.Read pair side room bytes answer) to legal served = cc
-  close-serves number later thing (entry.Write pair side offered answer) to legal served = cc
-  close-serves number later thing (entry.Close pair answer) to legal served = true_false (sym served)
+  close-serves : (number : ℕ) (later parts : List ℕ) (thing : Thing) (next : PairEntry) (to : Reading) → allowed_at (Closing number later parts) state line next ≡ Some to → is_service thing next ≡ true → ⊥
+  close-serves number later parts thing (entry.Bind one another answer) to legal served = cc
+  close-serves number later parts thing (entry.Poll items answer) to legal served = cc
+  close-serves number later parts thing (entry.Accept answer) to legal served = cc
+  close-serves number later parts thing (entry.Connect pair answer) to legal served = cc
+  close-serves number later parts thing (entry.Read pair side room bytes answer) to legal served = cc
+  close-serves number later parts thing (entry.Write pair side offered answer) to legal served = cc
+  close-serves number later parts thing (entry.Disconnect pair answer) to legal served = cc
+  close-serves number later parts thing (entry.Close pair answer) to legal served = true_false (sym served)
+
+  part-serves : (number : ℕ) (later : List ℕ) (thing : Thing) (next : PairEntry) (to : Reading) → allowed_at (Parting number later) state line next ≡ Some to → is_service thing next ≡ true → ⊥
+  part-serves number later thing (entry.Bind one another answer) to legal served = cc
+  part-serves number later thing (entry.Poll items answer) to legal served = cc
+  part-serves number later thing (entry.Accept answer) to legal served = cc
+  part-serves number later thing (entry.Connect pair answer) to legal served = cc
+  part-serves number later thing (entry.Read pair side room bytes answer) to legal served = cc
+  part-serves number later thing (entry.Write pair side offered answer) to legal served = cc
+  part-serves number later thing (entry.Disconnect pair answer) to legal served = true_false (sym served)
+  part-serves number later thing (entry.Close pair answer) to legal served = cc
 
   serves-leaves : (due : Due) (thing : Thing) (next : PairEntry) (to : Reading) → allowed_at due state line next ≡ Some to → is_service thing next ≡ true → Leaves thing to
   serves-leaves (Binding path upstream) thing next to legal served = absurd (bind-serves path upstream thing next to legal served)
   serves-leaves Free thing next to legal served = free-leaves thing next to legal served
-  serves-leaves (Closing pair later) thing next to legal served = absurd (close-serves pair later thing next to legal served)
+  serves-leaves (Closing pair later parts) thing next to legal served = absurd (close-serves pair later parts thing next to legal served)
+  serves-leaves (Parting pair later) thing next to legal served = absurd (part-serves pair later thing next to legal served)
   serves-leaves Nothing thing next to legal served = cc
 
 -- ---- all calls
 
-waits-now : (other : Thing) (reading : Reading) (calls : List PairEntry) → waits_on other reading calls ≡ true → is_waiting other reading ≡ true
-waits-now other reading [] waits = waits
-waits-now other reading (next ∷ later) waits = (two (is_waiting other reading) _ waits).0
+waits-now : (other : Thing) (reading : Reading) (calls : List PairEntry) → waits_on other reading calls ≡ true → has_thing other reading.line ≡ true
+waits-now other reading [] waits = (two (has_thing other reading.line) (is_servable reading.state other) waits).0
+waits-now other reading (next ∷ later) waits = (two (has_thing other reading.line) _ waits).0
 
 waits-then : (other : Thing) (reading to : Reading) (next : PairEntry) (later : List PairEntry) → waits_on other reading (next ∷ later) ≡ true
     → allowed reading next ≡ Some to → waits_on other to later ≡ true
 waits-then other reading to next later waits legal =
-    ap (if_any (λ (after : Reading). waits_on other after later)) (sym legal) ∙ (two (is_waiting other reading) (if_any (λ (after : Reading). waits_on other after later) (allowed reading next)) waits).1
+    ap (if_any (λ (after : Reading). waits_on other after later)) (sym legal) ∙ (two (has_thing other reading.line) (if_any (λ (after : Reading). waits_on other after later) (allowed reading next)) waits).1
 
 served_or : (served : Bool) (rest : Bool) → (served ≡ false → rest ≡ true) → (served || rest) ≡ true
 served_or true rest later = refl
@@ -404,8 +459,8 @@ between-served thing other reading to [] after last apart first waits legal agai
 between-served thing other reading to (next ∷ between) after last apart first waits legal again =
     let one = then_some (λ (r : Reading). read_on r (between ++ last ∷ after)) (allowed reading next) to legal in
     let later = waits-then other reading one.0 next between waits one.1 in
-    let here = (two (has_thing other reading.line) (is_servable reading.state other) (waits-now other reading (next ∷ between) waits)).0 in
-    let there = (two (has_thing other one.0.line) (is_servable one.0.state other) (waits-now other one.0 between later)).0 in
+    let here = waits-now other reading (next ∷ between) waits in
+    let there = waits-now other one.0 between later in
     served_or (is_service other next) (list_any (is_service other) between) (λ unserved.
     between-served thing other one.0 to between after last apart
     (stays-ahead other thing reading.state reading.line (here, first) reading.due next one.0 one.1 unserved there) later one.2 again)
@@ -436,7 +491,7 @@ overtaken : (thing other : Thing) (reading to : Reading) (between after : List P
     → waits_on other reading between ≡ true → read_on reading (between ++ last ∷ after) ≡ Some to → ahead other thing reading.line ≡ true
 overtaken thing other reading to between after last (inl over) waits legal = absurd (nothing-comes reading to between last after over legal)
 overtaken thing other reading to between after last (inr first) waits legal =
-    first (two (has_thing other reading.line) (is_servable reading.state other) (waits-now other reading between waits)).0
+    first (waits-now other reading between waits)
 
 pub each_is_fair : EachIsFair
 each_is_fair listed path upstream calls to legal = λ thing other before between after first last reading twice apart reached waits.

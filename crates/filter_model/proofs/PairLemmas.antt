@@ -1,13 +1,14 @@
 -- A pair stays exact, whatever it hears, sends and takes.
-use Rattle.std.proofs.Common.{◌≡◌, ◌<◌, ℕ, Bool, true, false, List, [], ◌∷◌, ◌++◌, take, drop, map, cond, All, refl, sym, ap, subst, ◌∙◌, append_assoc, append-nil, Option, Some, None, Result, Ok, Err}
-use Rattle.std.specs.List.{filter, flat_map}
+use Rattle.std.proofs.Common.{◌≡◌, ◌<◌, ℕ, Bool, true, false, List, [], ◌∷◌, ◌++◌, length, arith, take, drop, map, cond, All, ◌&&◌, ◌||◌, not, refl, sym, ap, subst, ◌∙◌, append_assoc, append-nil, Option, Some, None, Result, Ok, Err}
+use Rattle.std.specs.List.{filter, flat_map, list_any}
 use Rattle.std.proofs.lemmas.List.{take-append-drop}
+use Rattle.std.proofs.lemmas.List.Folds.{list_any-append}
 use Rattle.std.proofs.lemmas.Option.{none-some, same_Some}
 use Rattle.std.proofs.lemmas.List.Concat.{flat_map-append}
 use Rattle.std.proofs.lemmas.List.Elements.{All-cons, All-head, All-nil, All-push, All-append, All-drop, filter-append}
 use Rattle.wire_text.specs.Wire.{IsBytes, string}
 use Rattle.wire_text.specs.Frames.{Front, Whole, Bad, More, IsBody, frames, front, front_body, after_front}
-use Rattle.wire_text.proofs.FrontLemmas.{IsBody-front_body, front_is_string}
+use Rattle.wire_text.proofs.FrontLemmas.{IsBody-front_body, front_is_string, whole_within}
 use Rattle.wire_text.proofs.SplitLemmas.{frames-append}
 use Rattle.agent_msg.specs.Reading.{request_of}
 use Rattle.agent_msg.specs.ReplyReading.{AgentReply, Failure, Success, Identities, Signature, reply_of}
@@ -18,11 +19,11 @@ use Rattle.agent_msg.specs.declared.agent_reply.ReplyFault.{ReplyFault}
 use Rattle.pair_ports.specs.declared.side.Side.{Side}
 use Rattle.pair_ports.specs.declared.side.Side.TheVariants.{Client, Upstream}
 use Rattle.wire_text.specs.Bounds.{longest_body}
-use Rattle.filter_model.specs.declared.waits.Waits.TheVariants.{Nothing, OnList, OnReply}
+use Rattle.filter_model.specs.declared.waits.Waits.TheVariants.{Nothing, OnList, OnBind, OnReply}
 use Rattle.filter_model.specs.declared.waits.Waits.{Waits}
-use Rattle.filter_model.specs.Pairs.{Pair, change_half, half_of, heard_more, owes_more, sent_some}
-use Rattle.filter_model.specs.Looking.{Looked, and_then, and_then_if, answered, cut_reply, is_listed, only_listed, waits_by, waits_for, client_front, client_looked, client_owed, client_waits, fate_of, looked, nothing_left, reply_for, taken_as, upstream_front, upstream_looked, upstream_waits, without_front}
-use Rattle.filter_model.specs.Watching.{Exchange, IsExact, IsExchange, IsPending, IsPendingFor, IsReplied, Watched, answers, bodies, IsCut, IsReplyTo, change_stream, is_forwarded, may_pass, with_heard, with_sent}
+use Rattle.filter_model.specs.Pairs.{Pair, change_half, half_of, heard_more, is_none, is_quiet, is_through, kept, owes_more, reaches, sent_some}
+use Rattle.filter_model.specs.Looking.{Looked, and_then, and_then_if, answered, cut_reply, given_back, is_listed, only_listed, waits_by, waits_for, client_front, client_looked, client_owed, client_waits, fate_of, looked, nothing_left, reply_for, taken_as, upstream_front, upstream_looked, upstream_waits, without_front}
+use Rattle.filter_model.specs.Watching.{Exchange, IsApart, IsExact, IsExchange, IsPending, IsPendingFor, IsReplied, Watched, answers, bodies, IsCut, IsReplyTo, change_stream, binds, is_bind, is_forwarded, may_pass, with_heard, with_sent}
 
 -- ---- lists
 
@@ -54,7 +55,32 @@ filter-left f xs x fails = filter-append f xs (x ∷ []) ∙ ap (λ b. filter f 
 abbrev is_asked : Waits → Bool
 is_asked Nothing = false
 is_asked OnList = true
+is_asked OnBind = true
 is_asked OnReply = true
+
+-- whether the reply to a bind is waited for
+abbrev is_binding : Waits → Bool
+is_binding Nothing = false
+is_binding OnList = false
+is_binding OnBind = true
+is_binding OnReply = false
+
+binds-asked : (listed : List (List ℕ)) (request : Result ClientRequest MsgFault) → binds request ≡ is_binding (waits_for listed request)
+binds-asked listed (Ok ListIdentities) = refl
+binds-asked listed (Ok (Sign signing)) = by_test (is_listed signing.blob listed)
+  where
+    by_test : (test : Bool) → false ≡ is_binding (waits_by test)
+    by_test true = refl
+    by_test false = refl
+binds-asked listed (Ok (Bind bind)) = refl
+binds-asked listed (Ok (Add addition)) = refl
+binds-asked listed (Ok (Remove blob)) = refl
+binds-asked listed (Ok RemoveAll) = refl
+binds-asked listed (Ok (Lock passphrase)) = refl
+binds-asked listed (Ok (Unlock passphrase)) = refl
+binds-asked listed (Ok (OtherExtension name)) = refl
+binds-asked listed (Ok (Unsupported number)) = refl
+binds-asked listed (Err fault) = refl
 
 passes-asked : (listed : List (List ℕ)) (request : Result ClientRequest MsgFault) → may_pass listed request ≡ is_asked (waits_for listed request)
 passes-asked listed (Ok ListIdentities) = refl
@@ -100,6 +126,24 @@ reply-is listed (Err fault) answer reply is = absurd (none-some reply is)
 
 passed : (listed : List (List ℕ)) (body : List ℕ) (fate : Waits) → fate_of listed body ≡ fate → is_forwarded listed body ≡ is_asked fate
 passed listed body fate is = passes-asked listed (request_of body) ∙ ap is_asked is
+
+bound_by : (listed : List (List ℕ)) (body : List ℕ) (fate : Waits) → fate_of listed body ≡ fate → is_bind body ≡ is_binding fate
+bound_by listed body fate is = binds-asked listed (request_of body) ∙ ap is_binding is
+
+or-false : (here : Bool) → (here || false) ≡ here
+or-false true = refl
+or-false false = refl
+
+or-true : (here : Bool) → (here || true) ≡ true
+or-true true = refl
+or-true false = refl
+
+-- a test of one more
+any-push : (f : List ℕ → Bool) (xs : List (List ℕ)) (x : List ℕ) → list_any f (xs ++ x ∷ []) ≡ (list_any f xs || f x)
+any-push f xs x = list_any-append f xs (x ∷ []) ∙ ap (λ b. list_any f xs || b) (or-false (f x))
+
+true-false : {A : Type 0} (b : Bool) → b ≡ true → b ≡ false → A
+true-false b holds fails = let bad : true ≡ false = sym holds ∙ fails in cc
 
 -- what is pending is waited for as its body wants it
 abbrev pub AreFated : Waits → List (List ℕ) → List (List ℕ) → Type 0
@@ -167,6 +211,13 @@ module _ (listed : List (List ℕ)) (watched : Watched) (holds : Holds listed wa
         are_answers = subst (All (IsBody longest_body)) (sym (flat-push (λ x. x.answers) e.exchanges refused ∙ append-nil (answers e.exchanges))) e.are_answers;
         each = All-push (IsExchange listed) e.exchanges refused e.each (subst (λ b. IsReplied b listed refused) (sym (passed listed body Nothing fate)) (record { unanswered = refl; reply = refl }));
         last = none_left;
+        bound = e.bound ∙ sym (any-push is_bind e.taken body ∙ ap (λ b. list_any is_bind e.taken || b) (bound_by listed body Nothing fate) ∙ or-false (list_any is_bind e.taken));
+        apart = λ unlinked. record {
+          unheard = (e.apart unlinked).unheard;
+          whole = (e.apart unlinked).whole ∙ ap frames none;
+          unbound = ap (list_any is_bind) (map-push (λ x. x.body) e.exchanges refused) ∙ any-push is_bind (bodies e.exchanges) body
+              ∙ ap (λ b. list_any is_bind (bodies e.exchanges) || b) (bound_by listed body Nothing fate) ∙ or-false (list_any is_bind (bodies e.exchanges)) ∙ (e.apart unlinked).unbound;
+        };
       };
       fated = All-nil (λ other. fate_of listed other ≡ pair.waits);
       client_bytes = All-drop (λ byte. byte < 256) _ _ holds.client_bytes;
@@ -177,9 +228,9 @@ module _ (listed : List (List ℕ)) (watched : Watched) (holds : Holds listed wa
         none_left = subst (λ waits. IsPending waits listed []) (sym quiet) refl
 
     -- one that is forwarded, and what is waited for then
-    forwarded-holds : (waits : Waits) → is_asked waits ≡ true → fate_of listed body ≡ waits → IsPending waits listed (body ∷ [])
-        → Holds listed (left_at (record cut { upstream = owes_more (string body) pair.upstream; waits = waits }) watched)
-    forwarded-holds waits asks fate last = record {
+    forwarded-holds : (waits : Waits) (bound : Bool) → is_asked waits ≡ true → fate_of listed body ≡ waits → bound ≡ (pair.is_bound || is_binding waits) → IsPending waits listed (body ∷ [])
+        → Holds listed (left_at (record cut { upstream = owes_more (string body) pair.upstream; waits = waits; is_bound = bound }) watched)
+    forwarded-holds waits bound asks fate binding last = record {
       exact = record {
         taken = e.taken ++ body ∷ [];
         exchanges = e.exchanges;
@@ -194,6 +245,12 @@ module _ (listed : List (List ℕ)) (watched : Watched) (holds : Holds listed wa
         are_answers = e.are_answers;
         each = e.each;
         last = last;
+        bound = binding ∙ ap (λ b. b || is_binding waits) e.bound ∙ sym (any-push is_bind e.taken body ∙ ap (λ b. list_any is_bind e.taken || b) (bound_by listed body waits fate));
+        apart = λ unlinked. record {
+          unheard = (e.apart unlinked).unheard;
+          whole = ap (λ l. l ++ string body) ((e.apart unlinked).whole ∙ ap frames none) ∙ sym (append-nil (string body));
+          unbound = (e.apart unlinked).unbound;
+        };
       };
       fated = All-cons (λ other. fate_of listed other ≡ waits) body [] fate (All-nil (λ other. fate_of listed other ≡ waits));
       client_bytes = All-drop (λ byte. byte < 256) _ _ holds.client_bytes;
@@ -202,8 +259,9 @@ module _ (listed : List (List ℕ)) (watched : Watched) (holds : Holds listed wa
 
     taken-holds : (fate : Waits) → fate_of listed body ≡ fate → Holds listed (left_at (taken_as fate body cut) watched)
     taken-holds Nothing is = refused-holds is
-    taken-holds OnList is = forwarded-holds OnList refl is (record { body = body; only = refl; passed = passed listed body _ is })
-    taken-holds OnReply is = forwarded-holds OnReply refl is (record { body = body; only = refl; passed = passed listed body _ is })
+    taken-holds OnList is = forwarded-holds OnList pair.is_bound refl is (sym (or-false pair.is_bound)) (record { body = body; only = refl; passed = passed listed body _ is })
+    taken-holds OnBind is = forwarded-holds OnBind true refl is (sym (or-true pair.is_bound)) (record { body = body; only = refl; passed = passed listed body _ is })
+    taken-holds OnReply is = forwarded-holds OnReply pair.is_bound refl is (sym (or-false pair.is_bound)) (record { body = body; only = refl; passed = passed listed body _ is })
 
   client_front-holds : (answer : Front) → front longest_body pair.client.heard ≡ answer → pair.waits ≡ Nothing
       → Holds listed (left_at (client_front answer listed pair).pair watched)
@@ -219,6 +277,7 @@ module _ (listed : List (List ℕ)) (watched : Watched) (holds : Holds listed wa
   client_waits-holds : (waits : Waits) → pair.waits ≡ waits → Holds listed (left_at (client_waits waits listed pair).pair watched)
   client_waits-holds Nothing quiet = client_owed-holds pair.client.owed pair.upstream.owed quiet
   client_waits-holds OnList is = holds
+  client_waits-holds OnBind is = holds
   client_waits-holds OnReply is = holds
 
   pub client_looked-holds : Holds listed (left_at (client_looked listed pair).pair watched)
@@ -241,7 +300,14 @@ module _ (listed : List (List ℕ)) (watched : Watched) (holds : Holds listed wa
     replied reply = record { body = awaits.body; answers = answer ∷ []; reply = reply }
 
     abbrev after_reply : List ℕ → Pair
-    after_reply reply = record { client = owes_more reply pair.client; upstream = without_front body_len pair.upstream; waits = Nothing }
+    after_reply reply = record pair { client = owes_more reply pair.client; upstream = without_front body_len pair.upstream; waits = Nothing }
+
+    -- it came over a connection
+    unlinked-none : {A : Type 0} → pair.is_linked ≡ false → A
+    unlinked-none unlinked =
+        let within = whole_within longest_body pair.upstream.heard body_len found in
+        let none = ap length (e.apart unlinked).unheard in
+        absurd (omega (arith, within, none))
 
     replied-holds : (reply : List ℕ) → reply_for waits listed answer ≡ Some reply → Holds listed (left_at (after_reply reply) watched)
     replied-holds reply is = record {
@@ -261,6 +327,8 @@ module _ (listed : List (List ℕ)) (watched : Watched) (holds : Holds listed wa
             (subst (λ b. IsReplied b listed (replied reply)) (sym (passed listed awaits.body waits fated ∙ asks))
             (record { answer = answer; answered = refl; reply = reply-is listed (request_of awaits.body) answer reply (ap (λ w. reply_for w listed answer) fated ∙ is) }));
         last = refl;
+        bound = e.bound;
+        apart = λ unlinked. unlinked-none unlinked;
       };
       fated = All-nil (λ other. fate_of listed other ≡ Nothing);
       client_bytes = holds.client_bytes;
@@ -287,6 +355,8 @@ module _ (listed : List (List ℕ)) (watched : Watched) (holds : Holds listed wa
   upstream_waits-holds Nothing is = subst (λ p. Holds listed (left_at p watched)) (sym (nothing_left-same pair.upstream.heard pair)) holds
   upstream_waits-holds OnList is =
       upstream_front-holds OnList is refl (subst (λ waits. IsPending waits listed e.pending) is e.last) (front longest_body pair.upstream.heard) refl
+  upstream_waits-holds OnBind is =
+      upstream_front-holds OnBind is refl (subst (λ waits. IsPending waits listed e.pending) is e.last) (front longest_body pair.upstream.heard) refl
   upstream_waits-holds OnReply is =
       upstream_front-holds OnReply is refl (subst (λ waits. IsPending waits listed e.pending) is e.last) (front longest_body pair.upstream.heard) refl
 
@@ -303,14 +373,112 @@ and_then-holds listed watched first holds = by_open first.is_open
     by_open true = upstream_looked-holds listed (left_at first.pair watched) holds
     by_open false = holds
 
+none-is : (bytes : List ℕ) → is_none bytes ≡ true → bytes ≡ []
+none-is [] is = refl
+none-is (byte ∷ bytes) is = cc
+
+quiet-is : (waits : Waits) → is_quiet waits ≡ true → waits ≡ Nothing
+quiet-is Nothing is = refl
+quiet-is OnList is = cc
+quiet-is OnBind is = cc
+quiet-is OnReply is = cc
+
+both-true : (here there : Bool) → (here && there) ≡ true → (here ≡ true) × (there ≡ true)
+both-true true there is = (refl, is)
+both-true false there is = cc
+
+neither : (here there : Bool) → (here || not there) ≡ false → (here ≡ false) × (there ≡ true)
+neither true there is = cc
+neither false true is = (refl, refl)
+neither false false is = cc
+
+-- a connection that isn't needed is given back
+module _ (listed : List (List ℕ)) (watched : Watched) (holds : Holds listed watched) where
+  abbrev here : Pair
+  here = watched.pair
+
+  abbrev known : IsExact listed watched
+  known = holds.exact
+
+  -- nothing is under way, and no bind was ever forwarded
+  spare-apart : here.is_bound ≡ false → is_through here ≡ true → IsApart here known.exchanges known.pending
+  spare-apart unbound through =
+      let quiet = both-true (is_quiet here.waits) (is_none here.upstream.heard && is_none here.upstream.owed) through in
+      let empty = both-true (is_none here.upstream.heard) (is_none here.upstream.owed) quiet.1 in
+      let done : known.pending ≡ [] = subst (λ waits. IsPending waits listed known.pending) (quiet-is here.waits quiet.0) known.last in
+      let all : known.taken ≡ bodies known.exchanges = known.parts ∙ ap (λ l. bodies known.exchanges ++ l) done ∙ append-nil (bodies known.exchanges) in
+      record {
+        unheard = none-is here.upstream.heard empty.0;
+        whole = none-is here.upstream.owed empty.1 ∙ sym (ap frames done);
+        unbound = ap (list_any is_bind) (sym all) ∙ sym known.bound ∙ unbound;
+      }
+
+  kept-apart : (linked : Bool) → here.is_linked ≡ linked → (linked && (here.is_bound || not (is_through here))) ≡ false → IsApart here known.exchanges known.pending
+  kept-apart false is unlinked = known.apart is
+  kept-apart true is unlinked =
+      let both = neither here.is_bound (is_through here) unlinked in
+      spare-apart both.0 both.1
+
+  kept-holds : Holds listed (left_at (kept here) watched)
+  kept-holds = record {
+    exact = record {
+      taken = known.taken;
+      exchanges = known.exchanges;
+      pending = known.pending;
+      parts = known.parts;
+      from_client = known.from_client;
+      from_upstream = known.from_upstream;
+      to_upstream = known.to_upstream;
+      to_client = known.to_client;
+      are_bodies = known.are_bodies;
+      are_answers = known.are_answers;
+      each = known.each;
+      last = known.last;
+      bound = known.bound;
+      apart = λ unlinked. apart_of (kept-apart here.is_linked refl unlinked);
+    };
+    fated = holds.fated;
+    client_bytes = holds.client_bytes;
+    upstream_bytes = holds.upstream_bytes;
+  }
+    where
+      apart_of : IsApart here known.exchanges known.pending → IsApart (kept here) known.exchanges known.pending
+      apart_of is = record { unheard = is.unheard; whole = is.whole; unbound = is.unbound }
+
 pub looked-holds : (listed : List (List ℕ)) (watched : Watched) → Holds listed watched → Holds listed (left_at (looked listed watched.pair).pair watched)
 looked-holds listed watched holds =
-    and_then-holds listed watched (client_looked listed watched.pair) (client_looked-holds listed watched holds)
+    let first = and_then (client_looked listed watched.pair) (upstream_looked listed) in
+    kept-holds listed (left_at first.pair watched)
+    (and_then-holds listed watched (client_looked listed watched.pair) (client_looked-holds listed watched holds))
+
+-- a connection was made
+pub linked-holds : (listed : List (List ℕ)) (watched : Watched) → Holds listed watched → Holds listed (left_at (record watched.pair { is_linked = true }) watched)
+linked-holds listed watched holds = record {
+  exact = record {
+    taken = holds.exact.taken;
+    exchanges = holds.exact.exchanges;
+    pending = holds.exact.pending;
+    parts = holds.exact.parts;
+    from_client = holds.exact.from_client;
+    from_upstream = holds.exact.from_upstream;
+    to_upstream = holds.exact.to_upstream;
+    to_client = holds.exact.to_client;
+    are_bodies = holds.exact.are_bodies;
+    are_answers = holds.exact.are_answers;
+    each = holds.exact.each;
+    last = holds.exact.last;
+    bound = holds.exact.bound;
+    apart = λ unlinked. true-false true refl unlinked;
+  };
+  fated = holds.fated;
+  client_bytes = holds.client_bytes;
+  upstream_bytes = holds.upstream_bytes;
+}
 
 -- bytes came
-pub heard-holds : (listed : List (List ℕ)) (watched : Watched) (side : Side) (piece : List ℕ) → IsBytes piece → Holds listed watched
+pub heard-holds : (listed : List (List ℕ)) (watched : Watched) (side : Side) (piece : List ℕ) → IsBytes piece → reaches side watched.pair ≡ true → Holds listed watched
     → Holds listed (left_at (change_half side (heard_more piece) watched.pair) (change_stream side (with_heard piece) watched))
-heard-holds listed watched Client piece bytes holds = record {
+heard-holds listed watched Client piece bytes reached holds = record {
   exact = record {
     taken = holds.exact.taken;
     exchanges = holds.exact.exchanges;
@@ -324,12 +492,18 @@ heard-holds listed watched Client piece bytes holds = record {
     are_answers = holds.exact.are_answers;
     each = holds.exact.each;
     last = holds.exact.last;
+    bound = holds.exact.bound;
+    apart = λ unlinked. record {
+      unheard = (holds.exact.apart unlinked).unheard;
+      whole = (holds.exact.apart unlinked).whole;
+      unbound = (holds.exact.apart unlinked).unbound;
+    };
   };
   fated = holds.fated;
   client_bytes = All-append (λ byte. byte < 256) _ _ holds.client_bytes bytes;
   upstream_bytes = holds.upstream_bytes;
 }
-heard-holds listed watched Upstream piece bytes holds = record {
+heard-holds listed watched Upstream piece bytes reached holds = record {
   exact = record {
     taken = holds.exact.taken;
     exchanges = holds.exact.exchanges;
@@ -343,6 +517,8 @@ heard-holds listed watched Upstream piece bytes holds = record {
     are_answers = holds.exact.are_answers;
     each = holds.exact.each;
     last = holds.exact.last;
+    bound = holds.exact.bound;
+    apart = λ unlinked. true-false watched.pair.is_linked reached unlinked;
   };
   fated = holds.fated;
   client_bytes = holds.client_bytes;
@@ -353,9 +529,9 @@ heard-holds listed watched Upstream piece bytes holds = record {
 sent-same : (sent owed : List ℕ) (count : ℕ) → (sent ++ take count owed) ++ drop count owed ≡ sent ++ owed
 sent-same sent owed count = append_assoc sent (take count owed) (drop count owed) ∙ ap (λ l. sent ++ l) (take-append-drop count owed)
 
-pub took-holds : (listed : List (List ℕ)) (watched : Watched) (side : Side) (count : ℕ) → Holds listed watched
+pub took-holds : (listed : List (List ℕ)) (watched : Watched) (side : Side) (count : ℕ) → reaches side watched.pair ≡ true → Holds listed watched
     → Holds listed (left_at (change_half side (sent_some count) watched.pair) (change_stream side (with_sent (take count (half_of side watched.pair).owed)) watched))
-took-holds listed watched Client count holds = record {
+took-holds listed watched Client count reached holds = record {
   exact = record {
     taken = holds.exact.taken;
     exchanges = holds.exact.exchanges;
@@ -369,12 +545,18 @@ took-holds listed watched Client count holds = record {
     are_answers = holds.exact.are_answers;
     each = holds.exact.each;
     last = holds.exact.last;
+    bound = holds.exact.bound;
+    apart = λ unlinked. record {
+      unheard = (holds.exact.apart unlinked).unheard;
+      whole = (holds.exact.apart unlinked).whole;
+      unbound = (holds.exact.apart unlinked).unbound;
+    };
   };
   fated = holds.fated;
   client_bytes = holds.client_bytes;
   upstream_bytes = holds.upstream_bytes;
 }
-took-holds listed watched Upstream count holds = record {
+took-holds listed watched Upstream count reached holds = record {
   exact = record {
     taken = holds.exact.taken;
     exchanges = holds.exact.exchanges;
@@ -388,6 +570,8 @@ took-holds listed watched Upstream count holds = record {
     are_answers = holds.exact.are_answers;
     each = holds.exact.each;
     last = holds.exact.last;
+    bound = holds.exact.bound;
+    apart = λ unlinked. true-false watched.pair.is_linked reached unlinked;
   };
   fated = holds.fated;
   client_bytes = holds.client_bytes;

@@ -2,7 +2,7 @@
 use Rattle.std.proofs.Common.{◌≡◌, ◌∙◌, ◌++◌, ◌∷◌, ◌&&◌, ◌==◌, ◌<◌, ◌≤◌, ◌^◌, ◌-◌, ℕ, suc, Bool, true, false, List, [], All, Option, Some, None, Result, Ok, Err, length, take, refl, sym, ap, subst, arith, append_assoc, append-nil, if◌then◌else◌, nat_lt}
 use Rattle.std.specs.List.{flat_map}
 use Rattle.std.specs.Option.{IfSome}
-use Rattle.std.specs.Prelude.{IsSome}
+use Rattle.std.specs.Prelude.{◌||◌, IsSome, IsTrue, not}
 use Rattle.std.specs.Str.{bytes_eq}
 use Rattle.std.specs.declared.alloc.AllocError.{AllocError}
 use Rattle.std.specs.Cmp.Lexicographic.{bytes_decides}
@@ -21,6 +21,8 @@ use Rattle.world_ports.specs.declared.answers.Wrote.{Wrote}
 use Rattle.world_ports.specs.declared.answers.Wrote.TheVariants as wrote
 use Rattle.world_ports.specs.Worlds.{read_room}
 use Rattle.wire_text.specs.Wire.{IsBytes}
+use Rattle.pair_ports.specs.declared.entry.Linked.{Linked}
+use Rattle.pair_ports.specs.declared.entry.Linked.TheVariants as linked
 use Rattle.pair_ports.specs.declared.entry.PairEntry.{PairEntry}
 use Rattle.pair_ports.specs.declared.entry.PairEntry.TheVariants as entry
 use Rattle.pair_ports.specs.declared.entry.PairReady.{PairReady}
@@ -28,16 +30,18 @@ use Rattle.pair_ports.specs.declared.side.Side.{Side}
 use Rattle.pair_ports.specs.declared.side.Side.TheVariants.{Client, Upstream}
 use Rattle.filter_model.specs.declared.thing.Thing.{Thing}
 use Rattle.filter_model.specs.declared.thing.Thing.TheVariants.{Accept, Read, Write}
-use Rattle.filter_model.specs.Pairs.{Pair, is_some_bytes}
-use Rattle.filter_model.specs.Filters.{AllFit, Ended, Happening, Heard, Joined, State, Took, find_pair, owed_by, owed_of, run, step, wants_by}
+use Rattle.filter_model.specs.Pairs.{Pair, half_of, is_some_bytes, reaches, wants_half}
+use Rattle.filter_model.specs.Filters.{AllFit, Connected, Ended, Happening, Heard, Joined, State, Took, can_send, find_pair, has_place, is_reached, owed_by, owed_of, reached_by, run, sends_by, step, wants, wants_by}
 use Rattle.filter_model.specs.Lines.{first_servable, is_idle, is_next, is_servable, is_thing, same_side}
-use Rattle.filter_model.specs.Answered.{Due, Binding, Closing, Free, Nothing, Reading, after_accept, after_bind, after_close, after_poll, after_read, after_write}
+use Rattle.filter_model.specs.Answered.{Due, Binding, Closing, Free, Nothing, Parting, Reading, after_accept, after_bind, after_close, after_connect, after_disconnect, after_poll, after_read, after_write}
 use Rattle.filter_model.specs.LegalPairs.{allowed, allowed_at, first_reading, read_on}
 use Rattle.filter_model.specs.Possible.{are_bytes, is_got, is_numbered, is_piece, is_taken}
+use Rattle.filter_model.specs.Places.{AreFew}
 use Rattle.filter_model.specs.Watching.{IsExact, IsInRange, Stream, Watched, new_watched, no_stream, watch, watch_if, watch_open, watched_of, watched_on}
 use Rattle.filter_model.specs.Brought.{EachPasses, IsPassed, events_brought, events_of, read_by, stream_by, written_by}
 use Rattle.filter_model.proofs.FairLemmas.{same_is, two}
 use Rattle.filter_model.proofs.JournalLemmas.{only_some, then_some}
+use Rattle.filter_model.proofs.FewLemmas.{each_holds_few}
 use Rattle.filter_model.proofs.WatchLemmas.{Good, GoodAt, each_is_exact, new-holds, run-good}
 
 -- ---- what can be served
@@ -52,13 +56,17 @@ next-servable state thing [] next = cc
 next-servable state thing (first ∷ line) next =
     next_by (is_servable state first) state thing first line refl next (next-servable state thing line)
 
-wanted_is_open : (found : Option Pair) (side : Side) → wants_by found side ≡ true → IsSome found
-wanted_is_open None side wanted = cc
-wanted_is_open (Some pair) side wanted = refl
+wanted_is_reached : (found : Option Pair) (side : Side) → wants_by found side ≡ true → reached_by found side ≡ true
+wanted_is_reached None side wanted = cc
+wanted_is_reached (Some pair) side wanted = (two (reaches side pair) (wants_half (half_of side pair)) wanted).0
 
-owed_is_open : (found : Option Pair) (side : Side) → is_some_bytes (owed_by found side) ≡ true → IsSome found
-owed_is_open None side owed = cc
-owed_is_open (Some pair) side owed = refl
+reached_is_open : (found : Option Pair) (side : Side) → reached_by found side ≡ true → IsSome found
+reached_is_open None side reached = cc
+reached_is_open (Some pair) side reached = refl
+
+sent_is_open : (found : Option Pair) (side : Side) (place : Bool) → sends_by found side place ≡ true → IsSome found
+sent_is_open None side place sends = cc
+sent_is_open (Some pair) side place sends = refl
 
 -- ---- answers that may come
 
@@ -129,6 +137,11 @@ module _ (listed : List (List ℕ)) (watched : Watched) where
   took-open (Some pair) number Upstream Client count is = nothing-more watched.upstream
   took-open (Some pair) number Upstream Upstream count is = more-sent (take count pair.upstream.owed) watched.upstream
 
+  linked-open : (found : Option Pair) (number : ℕ) (side : Side) → stream_of side (watch_open found listed (Connected number) watched) ≡ stream_of side watched
+  linked-open None number side = refl
+  linked-open (Some pair) number Client = refl
+  linked-open (Some pair) number Upstream = refl
+
   ended-open : (found : Option Pair) (number : ℕ) (side : Side) → stream_of side (watch_open found listed (Ended number) watched) ≡ stream_of side watched
   ended-open None number side = refl
   ended-open (Some pair) number Client = refl
@@ -158,6 +171,11 @@ module _ (state : State) (number other : ℕ) (is_open : IsSome (find_pair other
       took-open state.listed watched (find_pair number state.pairs) other side there count (own_open same)
       ∙ ap (λ (n : ℕ). with_more [] (if same_side side there then take count (owed_of n there state) else []) (stream_of side watched)) (eqb-true number other same)
   took-watch false side there count watched same good = nothing-more (stream_at side watched)
+
+  linked-watch : (test : Bool) (side : Side) (watched : Option Watched) → stream_at side (watch_if test state number (Connected other) watched) ≡ stream_at side watched
+  linked-watch true side None = refl
+  linked-watch true side (Some watched) = linked-open state.listed watched (find_pair number state.pairs) other side
+  linked-watch false side watched = refl
 
   ended-watch : (test : Bool) (side : Side) (watched : Option Watched) → stream_at side (watch_if test state number (Ended other) watched) ≡ stream_at side watched
   ended-watch true side None = refl
@@ -220,9 +238,13 @@ module _ (state : State) (line : List Thing) where
   bind-brings path upstream (Ok done) = record { fit = tt; range = All-nil _; leads = refl; streams = λ number side watched good. nothing-more (stream_at side watched) }
   bind-brings path upstream (Err fault) = record { fit = tt; range = All-nil _; leads = refl; streams = λ number side watched good. nothing-more (stream_at side watched) }
 
-  close-brings : {E : Type 0} (pair number : ℕ) (later : List ℕ) (answer : Result Unit E) (told : Result Unit AllocError) → Brings state (entry.Close pair told) (after_close number later state line answer).state
-  close-brings pair number later (Ok done) told = record { fit = tt; range = All-nil _; leads = refl; streams = λ number side watched good. nothing-more (stream_at side watched) }
-  close-brings pair number later (Err want) told = record { fit = tt; range = All-nil _; leads = refl; streams = λ number side watched good. nothing-more (stream_at side watched) }
+  part-brings : {E : Type 0} (pair number : ℕ) (later : List ℕ) (answer : Result Unit E) (told : Result Unit AllocError) → Brings state (entry.Disconnect pair told) (after_disconnect number later state line answer).state
+  part-brings pair number later (Ok done) told = record { fit = tt; range = All-nil _; leads = refl; streams = λ number side watched good. nothing-more (stream_at side watched) }
+  part-brings pair number later (Err want) told = record { fit = tt; range = All-nil _; leads = refl; streams = λ number side watched good. nothing-more (stream_at side watched) }
+
+  close-brings : {E : Type 0} (pair number : ℕ) (later gone : List ℕ) (answer : Result Unit E) (told : Result Unit AllocError) → Brings state (entry.Close pair told) (after_close number later gone state line answer).state
+  close-brings pair number later gone (Ok done) told = record { fit = tt; range = All-nil _; leads = refl; streams = λ number side watched good. nothing-more (stream_at side watched) }
+  close-brings pair number later gone (Err want) told = record { fit = tt; range = All-nil _; leads = refl; streams = λ number side watched good. nothing-more (stream_at side watched) }
 
   -- no bytes, and no event
   read-quiet : (pair : ℕ) (there : Side) (number : ℕ) (side : Side) (watched : Option Watched)
@@ -243,38 +265,57 @@ module _ (state : State) (line : List Thing) where
       ≡ with_more [] (if (number == pair) && same_side side there then [] else []) (stream_at side watched)
   write-ends pair there is_open number side watched = ended-watch state number pair is_open (number == pair) side watched ∙ write-quiet pair there number side watched
 
-  read-brings : (pair : ℕ) (there : Side) (room : ℕ) (bytes : List ℕ) (answer : Result Got WorldFault) → IsSome (find_pair pair state.pairs) → is_got room bytes answer ≡ true
+  connect-brings : (pair : ℕ) (answer : Result Linked WorldFault) → IsTrue (can_send pair Upstream state) → IsTrue (not (is_reached pair Upstream state)) → IsSome (find_pair pair state.pairs)
+      → Brings state (entry.Connect pair answer) (after_connect pair state line answer).state
+  connect-brings pair (Ok linked.Made) sends apart is_open = record {
+    fit = ((sends, apart), tt);
+    range = one_in_range (Connected pair) tt;
+    leads = refl;
+    streams = λ number side watched good.
+        linked-watch state number pair is_open (number == pair) side watched ∙ nothing-more (stream_at side watched);
+  }
+  connect-brings pair (Ok linked.NotNow) sends apart is_open = record { fit = tt; range = All-nil _; leads = refl; streams = λ number side watched good. nothing-more (stream_at side watched) }
+  connect-brings pair (Err Failed) sends apart is_open = record {
+    fit = (is_open, tt);
+    range = one_in_range (Ended pair) tt;
+    leads = refl;
+    streams = λ number side watched good.
+        ended-watch state number pair is_open (number == pair) side watched ∙ nothing-more (stream_at side watched);
+  }
+  connect-brings pair (Err Memory) sends apart is_open = record { fit = tt; range = All-nil _; leads = refl; streams = λ number side watched good. nothing-more (stream_at side watched) }
+
+  read-brings : (pair : ℕ) (there : Side) (room : ℕ) (bytes : List ℕ) (answer : Result Got WorldFault) → is_reached pair there state ≡ true → IsSome (find_pair pair state.pairs) → is_got room bytes answer ≡ true
       → Brings state (entry.Read pair there room bytes answer) (after_read pair there bytes state line answer).state
-  read-brings pair there room bytes (Ok (got.Bytes n)) is_open may =
+  read-brings pair there room bytes (Ok (got.Bytes n)) reached is_open may =
       let parts = two (n == length bytes) (is_piece n room && are_bytes bytes) may in
       let later = two (is_piece n room) (are_bytes bytes) parts.1 in
       let some = (piece_is n room later.0).0 in
       record {
-        fit = ((is_open, subst (λ (m : ℕ). 0 < m) (eqb-true n (length bytes) parts.0) some), tt);
+        fit = ((reached, subst (λ (m : ℕ). 0 < m) (eqb-true n (length bytes) parts.0) some), tt);
         range = one_in_range (Heard pair there bytes) (bytes_are bytes later.1);
         leads = refl;
         streams = λ number side watched good. heard-watch state number pair is_open (number == pair) side there bytes watched refl good;
       }
-  read-brings pair there room bytes (Ok got.End) is_open may = record { fit = (is_open, tt); range = one_in_range (Ended pair) tt; leads = refl; streams = λ number side watched good. read-ends pair there is_open number side watched }
-  read-brings pair there room bytes (Ok got.NotNow) is_open may = record { fit = tt; range = All-nil _; leads = refl; streams = λ number side watched good. read-quiet pair there number side watched }
-  read-brings pair there room bytes (Err Failed) is_open may = record { fit = (is_open, tt); range = one_in_range (Ended pair) tt; leads = refl; streams = λ number side watched good. read-ends pair there is_open number side watched }
-  read-brings pair there room bytes (Err Memory) is_open may = record { fit = tt; range = All-nil _; leads = refl; streams = λ number side watched good. read-quiet pair there number side watched }
+  read-brings pair there room bytes (Ok got.End) reached is_open may = record { fit = (is_open, tt); range = one_in_range (Ended pair) tt; leads = refl; streams = λ number side watched good. read-ends pair there is_open number side watched }
+  read-brings pair there room bytes (Ok got.NotNow) reached is_open may = record { fit = tt; range = All-nil _; leads = refl; streams = λ number side watched good. read-quiet pair there number side watched }
+  read-brings pair there room bytes (Err Failed) reached is_open may = record { fit = (is_open, tt); range = one_in_range (Ended pair) tt; leads = refl; streams = λ number side watched good. read-ends pair there is_open number side watched }
+  read-brings pair there room bytes (Err Memory) reached is_open may = record { fit = tt; range = All-nil _; leads = refl; streams = λ number side watched good. read-quiet pair there number side watched }
 
-  write-brings : (pair : ℕ) (there : Side) (offered : List ℕ) (answer : Result Wrote WorldFault) → IsSome (find_pair pair state.pairs) → offered ≡ owed_of pair there state → is_taken offered answer ≡ true
+  write-brings : (pair : ℕ) (there : Side) (offered : List ℕ) (answer : Result Wrote WorldFault) → is_reached pair there state ≡ true → IsSome (find_pair pair state.pairs) → offered ≡ owed_of pair there state → is_taken offered answer ≡ true
       → Brings state (entry.Write pair there offered answer) (after_write pair there state line answer).state
-  write-brings pair there offered (Ok (wrote.Took n)) is_open owed may =
+  write-brings pair there offered (Ok (wrote.Took n)) reached is_open owed may =
       let piece = piece_is n (length offered) may in
       record {
-        fit = ((piece.0, subst (λ (bytes : List ℕ). n ≤ length bytes) owed piece.1), tt);
+        fit = ((reached, (piece.0, subst (λ (bytes : List ℕ). n ≤ length bytes) owed piece.1)), tt);
         range = one_in_range (Took pair there n) tt;
         leads = refl;
         streams = λ number side watched good.
             took-watch state number pair is_open (number == pair) side there n watched refl good
             ∙ ap (λ (bytes : List ℕ). with_more [] (if (number == pair) && same_side side there then take n bytes else []) (stream_at side watched)) (sym owed);
       }
-  write-brings pair there offered (Ok wrote.NotNow) is_open owed may = record { fit = tt; range = All-nil _; leads = refl; streams = λ number side watched good. write-quiet pair there number side watched }
-  write-brings pair there offered (Err Failed) is_open owed may = record { fit = (is_open, tt); range = one_in_range (Ended pair) tt; leads = refl; streams = λ number side watched good. write-ends pair there is_open number side watched }
-  write-brings pair there offered (Err Memory) is_open owed may = record { fit = tt; range = All-nil _; leads = refl; streams = λ number side watched good. write-quiet pair there number side watched }
+  write-brings pair there offered (Ok wrote.NotNow) reached is_open owed may = record { fit = tt; range = All-nil _; leads = refl; streams = λ number side watched good. write-quiet pair there number side watched }
+  write-brings pair there offered (Err Failed) reached is_open owed may = record { fit = (is_open, tt); range = one_in_range (Ended pair) tt; leads = refl; streams = λ number side watched good. write-ends pair there is_open number side watched }
+  write-brings pair there offered (Err Memory) reached is_open owed may = record { fit = tt; range = All-nil _; leads = refl; streams = λ number side watched good. write-quiet pair there number side watched }
 
   lands : (next : PairEntry) (reading to : Reading) → reading ≡ to → Brings state next reading.state → Brings state next to.state
   lands next reading to same brings = subst (λ (r : Reading). Brings state next r.state) same brings
@@ -287,23 +328,35 @@ module _ (state : State) (line : List Thing) where
       let passed = only_some (is_next state line Accept && is_numbered state.last_pair answer) (after_accept state line answer) to legal in
       let next = (two (is_next state line Accept) (is_numbered state.last_pair answer) passed.0).0 in
       lands (entry.Accept answer) (after_accept state line answer) to passed.1 (accept-brings answer (next-servable state Accept line next))
+  free-brings (entry.Connect pair answer) to legal =
+      let thing = Write pair Upstream in
+      let apart = not (is_reached pair Upstream state) in
+      let passed = only_some (is_next state line thing && apart) (after_connect pair state line answer) to legal in
+      let parts = two (is_next state line thing) apart passed.0 in
+      let sends = next-servable state thing line parts.0 in
+      lands (entry.Connect pair answer) (after_connect pair state line answer) to passed.1
+      (connect-brings pair answer sends parts.1 (sent_is_open (find_pair pair state.pairs) Upstream (has_place state) sends))
   free-brings (entry.Read pair side room bytes answer) to legal =
       let thing = Read pair side in
       let tests = (room == read_room) && is_got room bytes answer in
       let passed = only_some (is_next state line thing && tests) (after_read pair side bytes state line answer) to legal in
       let parts = two (is_next state line thing) tests passed.0 in
+      let reached = wanted_is_reached (find_pair pair state.pairs) side (next-servable state thing line parts.0) in
       lands (entry.Read pair side room bytes answer) (after_read pair side bytes state line answer) to passed.1
-      (read-brings pair side room bytes answer (wanted_is_open (find_pair pair state.pairs) side (next-servable state thing line parts.0))
+      (read-brings pair side room bytes answer reached (reached_is_open (find_pair pair state.pairs) side reached)
       (two (room == read_room) (is_got room bytes answer) parts.1).1)
   free-brings (entry.Write pair side offered answer) to legal =
       let thing = Write pair side in
-      let tests = bytes_eq offered (owed_of pair side state) && is_taken offered answer in
+      let offers = bytes_eq offered (owed_of pair side state) && is_taken offered answer in
+      let tests = is_reached pair side state && offers in
       let passed = only_some (is_next state line thing && tests) (after_write pair side state line answer) to legal in
       let parts = two (is_next state line thing) tests passed.0 in
-      let more = two (bytes_eq offered (owed_of pair side state)) (is_taken offered answer) parts.1 in
+      let there = two (is_reached pair side state) offers parts.1 in
+      let more = two (bytes_eq offered (owed_of pair side state)) (is_taken offered answer) there.1 in
       lands (entry.Write pair side offered answer) (after_write pair side state line answer) to passed.1
-      (write-brings pair side offered answer (owed_is_open (find_pair pair state.pairs) side (next-servable state thing line parts.0))
+      (write-brings pair side offered answer there.0 (reached_is_open (find_pair pair state.pairs) side there.0)
       ((bytes_decides offered (owed_of pair side state)).0 more.0) more.1)
+  free-brings (entry.Disconnect pair answer) to legal = cc
   free-brings (entry.Close pair answer) to legal = cc
 
   binding-brings : (path upstream : List ℕ) (next : PairEntry) (to : Reading) → allowed_at (Binding path upstream) state line next ≡ Some to → Brings state next to.state
@@ -311,24 +364,41 @@ module _ (state : State) (line : List Thing) where
       lands (entry.Bind one another answer) (after_bind answer state line) to (only_some (bytes_eq one path && bytes_eq another upstream) (after_bind answer state line) to legal).1 (bind-brings one another answer)
   binding-brings path upstream (entry.Poll items answer) to legal = cc
   binding-brings path upstream (entry.Accept answer) to legal = cc
+  binding-brings path upstream (entry.Connect pair answer) to legal = cc
   binding-brings path upstream (entry.Read pair side room bytes answer) to legal = cc
   binding-brings path upstream (entry.Write pair side offered answer) to legal = cc
+  binding-brings path upstream (entry.Disconnect pair answer) to legal = cc
   binding-brings path upstream (entry.Close pair answer) to legal = cc
 
-  closing-brings : (number : ℕ) (later : List ℕ) (next : PairEntry) (to : Reading) → allowed_at (Closing number later) state line next ≡ Some to → Brings state next to.state
-  closing-brings number later (entry.Bind one another answer) to legal = cc
-  closing-brings number later (entry.Poll items answer) to legal = cc
-  closing-brings number later (entry.Accept answer) to legal = cc
-  closing-brings number later (entry.Read pair side room bytes answer) to legal = cc
-  closing-brings number later (entry.Write pair side offered answer) to legal = cc
-  closing-brings number later (entry.Close pair answer) to legal =
-      lands (entry.Close pair answer) (after_close number later state line answer) to (only_some (pair == number) (after_close number later state line answer) to legal).1
-      (close-brings pair number later answer answer)
+  closing-brings : (number : ℕ) (later gone : List ℕ) (next : PairEntry) (to : Reading) → allowed_at (Closing number later gone) state line next ≡ Some to → Brings state next to.state
+  closing-brings number later gone (entry.Bind one another answer) to legal = cc
+  closing-brings number later gone (entry.Poll items answer) to legal = cc
+  closing-brings number later gone (entry.Accept answer) to legal = cc
+  closing-brings number later gone (entry.Connect pair answer) to legal = cc
+  closing-brings number later gone (entry.Read pair side room bytes answer) to legal = cc
+  closing-brings number later gone (entry.Write pair side offered answer) to legal = cc
+  closing-brings number later gone (entry.Disconnect pair answer) to legal = cc
+  closing-brings number later gone (entry.Close pair answer) to legal =
+      lands (entry.Close pair answer) (after_close number later gone state line answer) to (only_some (pair == number) (after_close number later gone state line answer) to legal).1
+      (close-brings pair number later gone answer answer)
+
+  parting-brings : (number : ℕ) (later : List ℕ) (next : PairEntry) (to : Reading) → allowed_at (Parting number later) state line next ≡ Some to → Brings state next to.state
+  parting-brings number later (entry.Bind one another answer) to legal = cc
+  parting-brings number later (entry.Poll items answer) to legal = cc
+  parting-brings number later (entry.Accept answer) to legal = cc
+  parting-brings number later (entry.Connect pair answer) to legal = cc
+  parting-brings number later (entry.Read pair side room bytes answer) to legal = cc
+  parting-brings number later (entry.Write pair side offered answer) to legal = cc
+  parting-brings number later (entry.Disconnect pair answer) to legal =
+      lands (entry.Disconnect pair answer) (after_disconnect number later state line answer) to (only_some (pair == number) (after_disconnect number later state line answer) to legal).1
+      (part-brings pair number later answer answer)
+  parting-brings number later (entry.Close pair answer) to legal = cc
 
   brings : (due : Due) (next : PairEntry) (to : Reading) → allowed_at due state line next ≡ Some to → Brings state next to.state
   brings (Binding path upstream) next to legal = binding-brings path upstream next to legal
   brings Free next to legal = free-brings next to legal
-  brings (Closing pair later) next to legal = closing-brings pair later next to legal
+  brings (Closing pair later gone) next to legal = closing-brings pair later gone next to legal
+  brings (Parting pair later) next to legal = parting-brings pair later next to legal
   brings Nothing next to legal = cc
 
 -- ---- all calls
@@ -378,7 +448,7 @@ calls-bring from to (next ∷ calls) legal =
       streams = λ number side watched good.
           let between = watched_on number from.state watched (events_of next) in
           let after = run from.state (events_of next) in
-          let good_then = run-good number from.state watched (events_of next) first.range good in
+          let good_then = run-good number from.state watched (events_of next) first.range first.fit good in
           ap (stream_at side) (watched-append number from.state watched (events_of next) (events_brought calls))
           ∙ ap (λ (s : State). stream_at side (watched_on number s between (events_brought calls))) (sym first.leads)
           ∙ rest.streams number side between (subst (λ (s : State). GoodAt number s between) (sym first.leads) good_then)
@@ -404,6 +474,7 @@ each_passes listed path upstream calls to legal =
     record {
       fit = bring.fit;
       state = bring.leads;
+      few = subst AreFew (sym bring.leads) (each_holds_few listed (events_brought calls) bring.fit);
       each = λ number. passed listed calls number (watched_of number listed (events_brought calls))
           (each_is_exact listed (events_brought calls) number bring.range bring.fit) (λ side. bring.streams number side None refl);
     }

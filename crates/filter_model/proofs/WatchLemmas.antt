@@ -5,10 +5,12 @@ use Rattle.std.proofs.lemmas.Bool.{cases_eq, eqb-true}
 use Rattle.std.proofs.lemmas.Bool.Decides.{nat_tests}
 use Rattle.std.proofs.lemmas.List.Elements.{All-nil, All-head, All-tail}
 use Rattle.std.proofs.lemmas.Option.{none-some, same_Some}
-use Rattle.filter_model.specs.Pairs.{Pair, new_pair}
-use Rattle.filter_model.specs.Filters.{Ended, Happening, Heard, Joined, Numbered, State, Took, at_pair, find_pair, first_state, joined, most_pairs, put_pair, remove_pair, run, settled, step, told}
+use Rattle.std.specs.Prelude.{IsTrue}
+use Rattle.pair_ports.specs.declared.side.Side.{Side}
+use Rattle.filter_model.specs.Pairs.{Pair, new_pair, reaches}
+use Rattle.filter_model.specs.Filters.{AllFit, Connected, Ended, Fits, Happening, Heard, Joined, Numbered, State, Took, at_pair, find_pair, first_state, is_reached, joined, most_pairs, put_pair, reached_by, remove_pair, run, settled, step, told}
 use Rattle.filter_model.specs.Watching.{EachIsExact, IsExact, IsInRange, Watched, new_watched, streamed, watch, watch_if, watch_old, watch_open, watched_of, watched_on}
-use Rattle.filter_model.proofs.PairLemmas.{Holds, heard-holds, left_at, looked-holds, took-holds}
+use Rattle.filter_model.proofs.PairLemmas.{Holds, heard-holds, left_at, linked-holds, looked-holds, took-holds}
 
 -- ---- pairs by their numbers
 
@@ -72,61 +74,72 @@ new-holds listed = record {
     are_answers = All-nil _;
     each = All-nil _;
     last = refl;
+    bound = refl;
+    apart = λ unlinked. record { unheard = refl; whole = refl; unbound = refl };
   };
   fated = All-nil _;
   client_bytes = All-nil _;
   upstream_bytes = All-nil _;
 }
 
+-- bytes of an event move over a connection of this pair
+abbrev Reaches : Happening → Pair → Type 0
+Reaches Joined pair = Unit {0}
+Reaches (Connected number) pair = Unit {0}
+Reaches (Heard number side piece) pair = reaches side pair ≡ true
+Reaches (Took number side count) pair = reaches side pair ≡ true
+Reaches (Ended number) pair = Unit {0}
+
 -- an event of this very pair
-told-holds : (event : Happening) (listed : List (List ℕ)) (watched : Watched) → IsInRange event → Holds listed watched
+told-holds : (event : Happening) (listed : List (List ℕ)) (watched : Watched) → IsInRange event → Reaches event watched.pair → Holds listed watched
     → Holds listed (left_at (told event listed watched.pair).pair (streamed event watched.pair watched))
-told-holds Joined listed watched range holds = looked-holds listed watched holds
-told-holds (Heard number side piece) listed watched range holds = looked-holds listed _ (heard-holds listed watched side piece range holds)
-told-holds (Took number side count) listed watched range holds = looked-holds listed _ (took-holds listed watched side count holds)
-told-holds (Ended number) listed watched range holds = holds
+told-holds Joined listed watched range reached holds = looked-holds listed watched holds
+told-holds (Connected number) listed watched range reached holds = linked-holds listed watched holds
+told-holds (Heard number side piece) listed watched range reached holds = looked-holds listed _ (heard-holds listed watched side piece range reached holds)
+told-holds (Took number side count) listed watched range reached holds = looked-holds listed _ (took-holds listed watched side count reached holds)
+told-holds (Ended number) listed watched range reached holds = holds
 
 -- what the filter finds after it
 found-settled : (open_yet : Bool) (number : ℕ) (after was : Pair) (state : State) → find_pair number state.pairs ≡ Some was
-    → (pair : Pair) → find_pair number (settled open_yet number after state).pairs ≡ Some pair → after ≡ pair
+    → (pair : Pair) → find_pair number (settled open_yet number was after state).pairs ≡ Some pair → after ≡ pair
 found-settled true number after was state found pair is = same_Some _ _ (sym (found-put number after was state.pairs found) ∙ is)
 found-settled false number after was state found pair is = absurd (none-some _ (sym (gone-remove number state.pairs) ∙ is))
 
-kept-settled : (open_yet : Bool) (number other : ℕ) (after : Pair) (state : State) → (number == other) ≡ false
-    → find_pair number (settled open_yet other after state).pairs ≡ find_pair number state.pairs
-kept-settled true number other after state apart = kept-put number other after state.pairs apart
-kept-settled false number other after state apart = kept-remove number other state.pairs apart
+kept-settled : (open_yet : Bool) (number other : ℕ) (was after : Pair) (state : State) → (number == other) ≡ false
+    → find_pair number (settled open_yet other was after state).pairs ≡ find_pair number state.pairs
+kept-settled true number other was after state apart = kept-put number other after state.pairs apart
+kept-settled false number other was after state apart = kept-remove number other state.pairs apart
 
 kept-at : (found : Option Pair) (number other : ℕ) (event : Happening) (state : State) → (number == other) ≡ false
     → find_pair number (at_pair found other event state).pairs ≡ find_pair number state.pairs
 kept-at None number other event state apart = refl
-kept-at (Some pair) number other event state apart = kept-settled (told event state.listed pair).is_open number other (told event state.listed pair).pair state apart
+kept-at (Some pair) number other event state apart = kept-settled (told event state.listed pair).is_open number other pair (told event state.listed pair).pair state apart
 
-last-settled : (open_yet : Bool) (number : ℕ) (after : Pair) (state : State) → (settled open_yet number after state).last_pair ≡ state.last_pair
-last-settled true number after state = refl
-last-settled false number after state = refl
+last-settled : (open_yet : Bool) (number : ℕ) (was after : Pair) (state : State) → (settled open_yet number was after state).last_pair ≡ state.last_pair
+last-settled true number was after state = refl
+last-settled false number was after state = refl
 
 pub last-at : (found : Option Pair) (number : ℕ) (event : Happening) (state : State) → (at_pair found number event state).last_pair ≡ state.last_pair
 last-at None number event state = refl
-last-at (Some pair) number event state = last-settled (told event state.listed pair).is_open number (told event state.listed pair).pair state
+last-at (Some pair) number event state = last-settled (told event state.listed pair).is_open number pair (told event state.listed pair).pair state
 
-listed-settled : (open_yet : Bool) (number : ℕ) (after : Pair) (state : State) → (settled open_yet number after state).listed ≡ state.listed
-listed-settled true number after state = refl
-listed-settled false number after state = refl
+listed-settled : (open_yet : Bool) (number : ℕ) (was after : Pair) (state : State) → (settled open_yet number was after state).listed ≡ state.listed
+listed-settled true number was after state = refl
+listed-settled false number was after state = refl
 
 listed-at : (found : Option Pair) (number : ℕ) (event : Happening) (state : State) → (at_pair found number event state).listed ≡ state.listed
 listed-at None number event state = refl
-listed-at (Some pair) number event state = listed-settled (told event state.listed pair).is_open number (told event state.listed pair).pair state
+listed-at (Some pair) number event state = listed-settled (told event state.listed pair).is_open number pair (told event state.listed pair).pair state
 
 -- an event of a pair keeps what is known of it good
-module _ (number : ℕ) (event : Happening) (state : State) (range : IsInRange event) where
+module _ (number : ℕ) (event : Happening) (state : State) (range : IsInRange event) (reached : (pair : Pair) → find_pair number state.pairs ≡ Some pair → Reaches event pair) where
   own-open : (found : Option Pair) → find_pair number state.pairs ≡ found → (watched : Watched) → IsWatched state.listed found watched
       → IsWatched state.listed (find_pair number (at_pair found number event state).pairs) (watch_open found state.listed event watched)
   own-open None found watched is = record { holds = is.holds; same = λ pair open_yet. absurd (none-some _ (sym found ∙ open_yet)) }
   own-open (Some pair) found watched is =
       let here : watched.pair ≡ pair = is.same pair refl in
       record {
-        holds = subst (λ p. Holds state.listed (left_at (told event state.listed p).pair (streamed event p watched))) here (told-holds event state.listed watched range is.holds);
+        holds = subst (λ p. Holds state.listed (left_at (told event state.listed p).pair (streamed event p watched))) here (told-holds event state.listed watched range (subst (Reaches event) (sym here) (reached pair found)) is.holds);
         same = found-settled (told event state.listed pair).is_open number (told event state.listed pair).pair pair state found;
       }
 
@@ -158,10 +171,11 @@ other-good number other event state watched apart good =
 
 -- by whether it is this pair's
 told-good : (same : Bool) (number other : ℕ) (event : Happening) (state : State) (watched : Option Watched) → (number == other) ≡ same → IsInRange event
-    → GoodAt number state watched → GoodAt number (at_pair (find_pair other state.pairs) other event state) (watch_if same state number event watched)
-told-good true number other event state watched is range good =
-    subst (λ n. GoodAt number (at_pair (find_pair n state.pairs) n event state) (watch_old state number event watched)) (eqb-true number other is) (own number event state range watched good)
-told-good false number other event state watched is range good = other-good number other event state watched is good
+    → ((pair : Pair) → find_pair other state.pairs ≡ Some pair → Reaches event pair) → GoodAt number state watched → GoodAt number (at_pair (find_pair other state.pairs) other event state) (watch_if same state number event watched)
+told-good true number other event state watched is range reached good =
+    subst (λ n. GoodAt number (at_pair (find_pair n state.pairs) n event state) (watch_old state number event watched)) (eqb-true number other is)
+    (own number event state range (λ pair found. reached pair (ap (λ n. find_pair n state.pairs) (sym (eqb-true number other is)) ∙ found)) watched good)
+told-good false number other event state watched is range reached good = other-good number other event state watched is good
 
 -- ---- a pair joins
 
@@ -212,21 +226,29 @@ joined-good false room number state watched is good =
 
 -- ---- all events
 
-step-good : (number : ℕ) (state : State) (event : Happening) (watched : Option Watched) → IsInRange event → GoodAt number state watched
-    → GoodAt number (step state event) (watch state number watched event)
-step-good number state Joined watched range good = joined-good (number == suc state.last_pair) (nat_lt (length state.pairs) most_pairs) number state watched refl good
-step-good number state (Heard other side piece) watched range good = told-good (number == other) number other (Heard other side piece) state watched refl range good
-step-good number state (Took other side count) watched range good = told-good (number == other) number other (Took other side count) state watched refl range good
-step-good number state (Ended other) watched range good = told-good (number == other) number other (Ended other) state watched refl range good
+reached_is : (number : ℕ) (side : Side) (state : State) → IsTrue (is_reached number side state) → (pair : Pair) → find_pair number state.pairs ≡ Some pair → reaches side pair ≡ true
+reached_is number side state is pair found = ap (λ f. reached_by f side) (sym found) ∙ is
 
-pub run-good : (number : ℕ) (state : State) (watched : Option Watched) (events : List Happening) → All IsInRange events → GoodAt number state watched
+step-good : (number : ℕ) (state : State) (event : Happening) (watched : Option Watched) → IsInRange event → Fits event state → GoodAt number state watched
+    → GoodAt number (step state event) (watch state number watched event)
+step-good number state Joined watched range fits good = joined-good (number == suc state.last_pair) (nat_lt (length state.pairs) most_pairs) number state watched refl good
+step-good number state (Connected other) watched range fits good = told-good (number == other) number other (Connected other) state watched refl range (λ pair found. tt) good
+step-good number state (Heard other side piece) watched range fits good =
+    told-good (number == other) number other (Heard other side piece) state watched refl range (reached_is other side state fits.0) good
+step-good number state (Took other side count) watched range fits good =
+    told-good (number == other) number other (Took other side count) state watched refl range (reached_is other side state fits.0) good
+step-good number state (Ended other) watched range fits good = told-good (number == other) number other (Ended other) state watched refl range (λ pair found. tt) good
+
+pub run-good : (number : ℕ) (state : State) (watched : Option Watched) (events : List Happening) → All IsInRange events → AllFit state events → GoodAt number state watched
     → GoodAt number (run state events) (watched_on number state watched events)
-run-good number state watched [] range good = good
-run-good number state watched (event ∷ later) range good =
-    run-good number (step state event) (watch state number watched event) later (All-tail IsInRange event later range) (step-good number state event watched (All-head IsInRange event later range) good)
+run-good number state watched [] range fit good = good
+run-good number state watched (event ∷ later) range fit good =
+    run-good number (step state event) (watch state number watched event) later (All-tail IsInRange event later range) fit.1
+    (step-good number state event watched (All-head IsInRange event later range) fit.0 good)
 
 listed-step : (state : State) (event : Happening) → (step state event).listed ≡ state.listed
 listed-step state Joined = listed-joined (nat_lt (length state.pairs) most_pairs) state
+listed-step state (Connected other) = listed-at (find_pair other state.pairs) other (Connected other) state
 listed-step state (Heard other side piece) = listed-at (find_pair other state.pairs) other (Heard other side piece) state
 listed-step state (Took other side count) = listed-at (find_pair other state.pairs) other (Took other side count) state
 listed-step state (Ended other) = listed-at (find_pair other state.pairs) other (Ended other) state
@@ -243,4 +265,4 @@ pub each_is_exact : EachIsExact
 each_is_exact listed events number range fit =
     good-exact listed number (run (first_state listed) events).last_pair (find_pair number (run (first_state listed) events).pairs) _
     (subst (λ l. Good l number (run (first_state listed) events).last_pair (find_pair number (run (first_state listed) events).pairs) (watched_of number listed events)) (listed-run (first_state listed) events)
-    (run-good number (first_state listed) None events range refl))
+    (run-good number (first_state listed) None events range fit refl))

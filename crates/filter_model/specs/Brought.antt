@@ -10,14 +10,17 @@ use Rattle.world_ports.specs.declared.answers.WorldFault.{WorldFault}
 use Rattle.world_ports.specs.declared.answers.WorldFault.TheVariants.{Failed, Memory}
 use Rattle.world_ports.specs.declared.answers.Wrote.{Wrote}
 use Rattle.world_ports.specs.declared.answers.Wrote.TheVariants as wrote
+use Rattle.pair_ports.specs.declared.entry.Linked.{Linked}
+use Rattle.pair_ports.specs.declared.entry.Linked.TheVariants as linked
 use Rattle.pair_ports.specs.declared.entry.PairEntry.{PairEntry}
 use Rattle.pair_ports.specs.declared.entry.PairEntry.TheVariants as entry
 use Rattle.pair_ports.specs.declared.side.Side.{Side}
 use Rattle.pair_ports.specs.declared.side.Side.TheVariants.{Client, Upstream}
 use Rattle.filter_model.specs.Answered.{Reading}
-use Rattle.filter_model.specs.Filters.{AllFit, Ended, Happening, Heard, Joined, Took, first_state, run}
+use Rattle.filter_model.specs.Filters.{AllFit, Connected, Ended, Happening, Heard, Joined, Took, first_state, run}
 use Rattle.filter_model.specs.LegalPairs.{first_reading, read_on}
 use Rattle.filter_model.specs.Lines.{same_side}
+use Rattle.filter_model.specs.Places.{AreFew}
 use Rattle.filter_model.specs.Watching.{IsExact, Stream, Watched}
 
 -- ---- events
@@ -27,6 +30,13 @@ abbrev pub joined_by : Result Accepted WorldFault → List Happening
 joined_by (Ok (accepted.Port number)) = Joined ∷ []
 joined_by (Ok accepted.NotNow) = []
 joined_by (Err fault) = []
+
+-- a pair was connected; a connection that the outside refused ends it
+abbrev pub connected_by : ℕ → Result Linked WorldFault → List Happening
+connected_by pair (Ok linked.Made) = Connected pair ∷ []
+connected_by pair (Ok linked.NotNow) = []
+connected_by pair (Err Failed) = Ended pair ∷ []
+connected_by pair (Err Memory) = []
 
 -- bytes came, or the end; a read that the outside refused ends the pair
 abbrev pub heard_by : ℕ → Side → List ℕ → Result Got WorldFault → List Happening
@@ -48,8 +58,10 @@ abbrev pub events_of : PairEntry → List Happening
 events_of (entry.Bind path upstream answer) = []
 events_of (entry.Poll items answer) = []
 events_of (entry.Accept answer) = joined_by answer
+events_of (entry.Connect pair answer) = connected_by pair answer
 events_of (entry.Read pair side room bytes answer) = heard_by pair side bytes answer
 events_of (entry.Write pair side offered answer) = took_by pair side answer
+events_of (entry.Disconnect pair answer) = []
 events_of (entry.Close pair answer) = []
 
 -- what calls bring
@@ -76,9 +88,11 @@ abbrev pub read_by : ℕ → Side → PairEntry → List ℕ
 read_by number side (entry.Bind path upstream answer) = []
 read_by number side (entry.Poll items answer) = []
 read_by number side (entry.Accept answer) = []
+read_by number side (entry.Connect pair answer) = []
 read_by number side (entry.Read pair other room bytes answer) =
     if (number == pair) && same_side side other then bytes_got bytes answer else []
 read_by number side (entry.Write pair other offered answer) = []
+read_by number side (entry.Disconnect pair answer) = []
 read_by number side (entry.Close pair answer) = []
 
 -- what a call wrote to this side of the pair of this number
@@ -86,9 +100,11 @@ abbrev pub written_by : ℕ → Side → PairEntry → List ℕ
 written_by number side (entry.Bind path upstream answer) = []
 written_by number side (entry.Poll items answer) = []
 written_by number side (entry.Accept answer) = []
+written_by number side (entry.Connect pair answer) = []
 written_by number side (entry.Read pair other room bytes answer) = []
 written_by number side (entry.Write pair other offered answer) =
     if (number == pair) && same_side side other then bytes_taken offered answer else []
+written_by number side (entry.Disconnect pair answer) = []
 written_by number side (entry.Close pair answer) = []
 
 -- all that calls read from this side of the pair of this number, and all that they wrote to it
@@ -108,11 +124,13 @@ pub record IsPassed (listed : List (List ℕ)) (calls : List PairEntry) (number 
   pub upstream : watched.upstream ≡ stream_by number Upstream calls
   pub exact : IsExact listed watched
 
--- the events that calls bring may come, they lead to the state that the calls lead to, and each pair is exact
+-- the events that calls bring may come, they lead to the state that the calls lead to, each pair is exact, and there are
+-- few connections to the agent behind
 pub record Passes (listed : List (List ℕ)) (calls : List PairEntry) (to : Reading) : Type 0 where
   pub fit : AllFit (first_state listed) (events_brought calls)
   pub state : to.state ≡ run (first_state listed) (events_brought calls)
   pub each : (number : ℕ) → IsPassed listed calls number
+  pub few : AreFew to.state
 
 -- the law
 abbrev pub EachPasses : Type 0

@@ -3,6 +3,7 @@ pub mod Looking
 pub mod Filters
 pub mod Rows
 pub mod Watching
+pub mod Places
 pub mod Lines
 pub mod Answered
 pub mod Possible

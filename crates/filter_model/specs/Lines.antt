@@ -6,8 +6,7 @@ use Rattle.pair_ports.specs.declared.side.Side.{Side}
 use Rattle.pair_ports.specs.declared.side.Side.TheVariants.{Client, Upstream}
 use Rattle.filter_model.specs.declared.thing.Thing.{Thing}
 use Rattle.filter_model.specs.declared.thing.Thing.TheVariants.{Accept, Read, Write}
-use Rattle.filter_model.specs.Pairs.{is_some_bytes}
-use Rattle.filter_model.specs.Filters.{State, find_pair, owed_of, wants}
+use Rattle.filter_model.specs.Filters.{State, can_send, find_pair, wants}
 
 -- ---- things
 
@@ -63,10 +62,9 @@ abbrev pub queued_if : Bool → Thing → List Thing → List Thing
 queued_if true thing line = queued thing line
 queued_if false thing line = line
 
--- both directions of both sides of a pair
+-- both directions of a new pair's client, and what it is to send to the agent behind
 abbrev pub queued_pair : ℕ → List Thing → List Thing
-queued_pair pair line =
-    queued (Write pair Upstream) (queued (Read pair Upstream) (queued (Write pair Client) (queued (Read pair Client) line)))
+queued_pair pair line = queued (Write pair Upstream) (queued (Write pair Client) (queued (Read pair Client) line))
 
 -- what a poll's item makes ready: what is told of a pair that isn't open is passed over
 abbrev pub queued_by : State → Option ℕ → Side → Bool → Bool → List Thing → List Thing
@@ -83,11 +81,12 @@ queued_all state (item ∷ items) line =
 
 -- ---- what can be served
 
--- the door while numbers are left, a side that is to be read, and one that is owed bytes
+-- the door while numbers are left, a side that is to be read, and one that is owed bytes, with a connection to it or a
+-- place for one
 abbrev pub is_servable : State → Thing → Bool
 is_servable state Accept = nat_lt state.last_pair (2 ^ 64 - 1)
 is_servable state (Read pair side) = wants pair side state
-is_servable state (Write pair side) = is_some_bytes (owed_of pair side state)
+is_servable state (Write pair side) = can_send pair side state
 
 -- the first thing of the line that can be served
 abbrev pub first_servable : State → List Thing → Option Thing

@@ -11,11 +11,12 @@ use Rattle.agent_msg.specs.Requests.{ClientRequest, ListIdentities, Sign, Add, R
 use Rattle.agent_msg.specs.declared.fault.MsgFault.{MsgFault}
 use Rattle.agent_msg.specs.declared.agent_reply.ReplyFault.{ReplyFault}
 use Rattle.wire_text.specs.Bounds.{longest_body}
-use Rattle.filter_model.specs.declared.waits.Waits.TheVariants.{Nothing, OnList, OnReply}
+use Rattle.filter_model.specs.declared.waits.Waits.TheVariants.{Nothing, OnList, OnBind, OnReply}
 use Rattle.filter_model.specs.declared.waits.Waits.{Waits}
-use Rattle.filter_model.specs.Pairs.{Half, Pair, owes_more}
+use Rattle.filter_model.specs.Pairs.{Half, Pair, kept, owes_more}
 
--- the pair that a look leaves, and whether it stays open; one that doesn't is as it was just before its end
+-- the pair that a look leaves, and whether it stays open; one that doesn't is as it was just before its end, but for a
+-- connection that is given back
 pub record Looked : Type 0 where
   pub pair : Pair
   pub is_open : Bool
@@ -53,7 +54,7 @@ waits_by false = Nothing
 abbrev pub waits_for : List (List ℕ) → Result ClientRequest MsgFault → Waits
 waits_for listed (Ok ListIdentities) = OnList
 waits_for listed (Ok (Sign signing)) = waits_by (is_listed signing.blob listed)
-waits_for listed (Ok (Bind bind)) = OnReply
+waits_for listed (Ok (Bind bind)) = OnBind
 waits_for listed (Ok (Add addition)) = Nothing
 waits_for listed (Ok (Remove blob)) = Nothing
 waits_for listed (Ok RemoveAll) = Nothing
@@ -73,6 +74,11 @@ fate_of listed body = waits_for listed (request_of body)
 abbrev pub taken_as : Waits → List ℕ → Pair → Pair
 taken_as Nothing body pair = record pair { client = owes_more failure pair.client }
 taken_as OnList body pair = record pair { upstream = owes_more (string body) pair.upstream; waits = OnList }
+taken_as OnBind body pair = record pair {
+  upstream = owes_more (string body) pair.upstream;
+  waits = OnBind;
+  is_bound = true;
+}
 taken_as OnReply body pair = record pair { upstream = owes_more (string body) pair.upstream; waits = OnReply }
 
 -- the first frame, with a body of this length, leaves what was heard
@@ -97,6 +103,7 @@ client_owed (byte ∷ bytes) owed listed pair = stays pair
 abbrev pub client_waits : Waits → List (List ℕ) → Pair → Looked
 client_waits Nothing listed pair = client_owed pair.client.owed pair.upstream.owed listed pair
 client_waits OnList listed pair = stays pair
+client_waits OnBind listed pair = stays pair
 client_waits OnReply listed pair = stays pair
 
 -- a look at what the client sent
@@ -121,6 +128,7 @@ cut_reply listed (Err fault) = None
 abbrev pub reply_for : Waits → List (List ℕ) → List ℕ → Option (List ℕ)
 reply_for Nothing listed answer = None
 reply_for OnList listed answer = cut_reply listed (reply_of answer)
+reply_for OnBind listed answer = Some (string answer)
 reply_for OnReply listed answer = Some (string answer)
 
 -- nothing may be left behind the answer
@@ -131,7 +139,7 @@ nothing_left (byte ∷ bytes) pair = ends pair
 -- the answer's frame is taken, and the client is owed the reply
 abbrev pub answered : Option (List ℕ) → ℕ → Pair → Looked
 answered None body_len pair = ends pair
-answered (Some reply) body_len pair = nothing_left (after_front body_len pair.upstream.heard) (record {
+answered (Some reply) body_len pair = nothing_left (after_front body_len pair.upstream.heard) (record pair {
   client = owes_more reply pair.client;
   upstream = without_front body_len pair.upstream;
   waits = Nothing;
@@ -148,6 +156,7 @@ upstream_front More listed pair = stays pair
 abbrev pub upstream_waits : Waits → List (List ℕ) → Pair → Looked
 upstream_waits Nothing listed pair = nothing_left pair.upstream.heard pair
 upstream_waits OnList listed pair = upstream_front (front longest_body pair.upstream.heard) listed pair
+upstream_waits OnBind listed pair = upstream_front (front longest_body pair.upstream.heard) listed pair
 upstream_waits OnReply listed pair = upstream_front (front longest_body pair.upstream.heard) listed pair
 
 -- a look at what upstream sent
@@ -156,6 +165,10 @@ upstream_looked listed pair = upstream_waits pair.waits listed pair
 
 -- ---- both
 
+-- what the looks leave: a connection to the agent behind that isn't needed is given back
+abbrev pub given_back : Looked → Looked
+given_back after = record after { pair = kept after.pair }
+
 -- a look at what the client sent, and then at what upstream sent
 abbrev pub looked : List (List ℕ) → Pair → Looked
-looked listed pair = and_then (client_looked listed pair) (upstream_looked listed)
+looked listed pair = given_back (and_then (client_looked listed pair) (upstream_looked listed))

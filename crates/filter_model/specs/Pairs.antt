@@ -1,30 +1,33 @@
--- A client and its connection to the agent behind the filter: a pair, what its sides sent and are owed (ours).
-use Rattle.std.specs.Prelude.{ℕ, Bool, true, false, List, [], ◌++◌, length, drop, nat_lt}
+-- A client and, at times, its connection to the agent behind the filter: a pair, what its sides sent and are owed (ours).
+use Rattle.std.specs.Prelude.{ℕ, Bool, true, false, List, [], ◌∷◌, ◌++◌, ◌&&◌, ◌||◌, not, length, drop, nat_lt}
 use Rattle.wire_text.specs.Bounds.{longest_body}
 use Rattle.wire_text.specs.Frames.{Front, front, Whole, Bad, More}
 use Rattle.pair_ports.specs.declared.side.Side.{Side}
 use Rattle.pair_ports.specs.declared.side.Side.TheVariants.{Client, Upstream}
 use Rattle.filter_model.specs.declared.waits.Waits.{Waits}
-use Rattle.filter_model.specs.declared.waits.Waits.TheVariants.{Nothing}
+use Rattle.filter_model.specs.declared.waits.Waits.TheVariants.{Nothing, OnList, OnBind, OnReply}
 
 -- what was heard from a side and not taken, and what the side is owed
 pub record Half : Type 0 where
   pub heard : List ℕ
   pub owed : List ℕ
 
--- an open pair, or one that is about to be closed
+-- an open pair, or one that is about to be closed; whether it has a connection to the agent behind, and whether a bind
+-- was ever forwarded
 pub record Pair : Type 0 where
   pub client : Half
   pub upstream : Half
   pub waits : Waits
+  pub is_linked : Bool
+  pub is_bound : Bool
 
 -- nothing was heard, and nothing is owed
 abbrev pub empty_half : Half
 empty_half = record { heard = []; owed = [] }
 
--- a pair of which nothing was heard, which is owed nothing and waits for nothing
+-- a pair of which nothing was heard, which is owed nothing, waits for nothing, and has no connection to the agent behind
 abbrev pub new_pair : Pair
-new_pair = record { client = empty_half; upstream = empty_half; waits = Nothing }
+new_pair = record { client = empty_half; upstream = empty_half; waits = Nothing; is_linked = false; is_bound = false }
 
 -- one half of a pair
 abbrev pub half_of : Side → Pair → Half
@@ -61,3 +64,28 @@ is_more More = true
 -- a half is to be read while no whole and no bad frame stands there
 abbrev pub wants_half : Half → Bool
 wants_half half = is_more (front longest_body half.heard)
+
+-- the side can be reached: there is a connection to it
+abbrev pub reaches : Side → Pair → Bool
+reaches Client pair = true
+reaches Upstream pair = pair.is_linked
+
+-- there are no bytes
+abbrev pub is_none : List ℕ → Bool
+is_none [] = true
+is_none (byte ∷ bytes) = false
+
+-- nothing is waited for
+abbrev pub is_quiet : Waits → Bool
+is_quiet Nothing = true
+is_quiet OnList = false
+is_quiet OnBind = false
+is_quiet OnReply = false
+
+-- nothing is under way with the agent behind: no reply is waited for, nothing was heard, and nothing is owed
+abbrev pub is_through : Pair → Bool
+is_through pair = is_quiet pair.waits && (is_none pair.upstream.heard && is_none pair.upstream.owed)
+
+-- the pair, its connection to the agent behind given back where nothing is under way and no bind was ever forwarded
+abbrev pub kept : Pair → Pair
+kept pair = record pair { is_linked = pair.is_linked && (pair.is_bound || not (is_through pair)) }

@@ -1,8 +1,9 @@
 -- Literal rows of the filter (ours). The numbers are written out, so that a wrong definition can't agree with itself.
-use Rattle.std.specs.Prelude.{ℕ, List, [], ◌∷◌, ◌++◌, replicate, codes}
+use Rattle.std.specs.Prelude.{ℕ, true, List, [], ◌∷◌, ◌++◌, length, replicate, codes}
 use Rattle.pair_ports.specs.declared.side.Side.{Side}
-use Rattle.pair_ports.specs.declared.side.Side.TheVariants.{Client}
-use Rattle.filter_model.specs.Filters.{Happening, Heard, Joined, State, Took, first_state, owed_of, run}
+use Rattle.pair_ports.specs.declared.side.Side.TheVariants.{Client, Upstream}
+use Rattle.filter_model.specs.Pairs.{new_pair}
+use Rattle.filter_model.specs.Filters.{Connected, Happening, Heard, Joined, State, Took, first_state, owed_of, run}
 
 -- the blob of a key with a public tag of 32 equal bytes
 abbrev pub blob : ℕ → List ℕ
@@ -53,3 +54,16 @@ three = Heard 1 Client (sign 18 ++ (remove_all ++ sign 17))
 -- the client takes what it is owed
 abbrev pub took_reply : Happening
 took_reply = Took 1 Client 5
+
+-- the client asks this, and it is sent to the agent behind
+abbrev pub asks : List ℕ → List Happening
+asks request = Heard 1 Client request ∷ Connected 1 ∷ Took 1 Upstream (length request) ∷ []
+
+-- a state in which so many pairs have a connection to the agent behind, and one has none
+abbrev pub linked : ℕ → State
+linked count = record (first_state []) {
+  pairs = record { number = 1; pair = new_pair } ∷ replicate count (record {
+    number = 2;
+    pair = record new_pair { is_linked = true };
+  });
+}

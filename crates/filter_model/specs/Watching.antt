@@ -14,10 +14,10 @@ use Rattle.agent_msg.specs.declared.agent_reply.ReplyFault.{ReplyFault}
 use Rattle.pair_ports.specs.declared.side.Side.{Side}
 use Rattle.pair_ports.specs.declared.side.Side.TheVariants.{Client, Upstream}
 use Rattle.wire_text.specs.Bounds.{longest_body}
-use Rattle.filter_model.specs.declared.waits.Waits.TheVariants.{Nothing, OnList, OnReply}
+use Rattle.filter_model.specs.declared.waits.Waits.TheVariants.{Nothing, OnList, OnBind, OnReply}
 use Rattle.filter_model.specs.declared.waits.Waits.{Waits}
 use Rattle.filter_model.specs.Pairs.{Pair, half_of, new_pair}
-use Rattle.filter_model.specs.Filters.{AllFit, Ended, Happening, Heard, Joined, State, Took, find_pair, first_state, step, told}
+use Rattle.filter_model.specs.Filters.{AllFit, Connected, Ended, Happening, Heard, Joined, State, Took, find_pair, first_state, step, told}
 
 -- ---- what a pair ever did
 
@@ -56,6 +56,7 @@ with_sent bytes stream = record stream { sent = stream.sent ++ bytes }
 -- what an event of this pair adds to its streams
 abbrev pub streamed : Happening → Pair → Watched → Watched
 streamed Joined pair watched = watched
+streamed (Connected number) pair watched = watched
 streamed (Heard number side piece) pair watched = change_stream side (with_heard piece) watched
 streamed (Took number side count) pair watched =
     change_stream side (with_sent (take count (half_of side pair).owed)) watched
@@ -80,6 +81,7 @@ watch_if false state number event watched = watched
 -- what is known of the pair of this number, with one more event in this state
 abbrev pub watch : State → ℕ → Option Watched → Happening → Option Watched
 watch state number watched Joined = if number == suc state.last_pair then Some new_watched else watched
+watch state number watched (Connected other) = watch_if (number == other) state number (Connected other) watched
 watch state number watched (Heard other side piece) = watch_if (number == other) state number (Heard other side piece) watched
 watch state number watched (Took other side count) = watch_if (number == other) state number (Took other side count) watched
 watch state number watched (Ended other) = watch_if (number == other) state number (Ended other) watched
@@ -113,6 +115,24 @@ may_pass listed (Err fault) = false
 -- the body is a request that may pass
 abbrev pub is_forwarded : List (List ℕ) → List ℕ → Bool
 is_forwarded listed body = may_pass listed (request_of body)
+
+-- it is a bind
+abbrev pub binds : Result ClientRequest MsgFault → Bool
+binds (Ok ListIdentities) = false
+binds (Ok (Sign signing)) = false
+binds (Ok (Bind bind)) = true
+binds (Ok (Add addition)) = false
+binds (Ok (Remove blob)) = false
+binds (Ok RemoveAll) = false
+binds (Ok (Lock passphrase)) = false
+binds (Ok (Unlock passphrase)) = false
+binds (Ok (OtherExtension name)) = false
+binds (Ok (Unsupported number)) = false
+binds (Err fault) = false
+
+-- the body is a bind
+abbrev pub is_bind : List ℕ → Bool
+is_bind body = binds (request_of body)
 
 -- a list of identities without those whose keys aren't listed, and FAILURE as it is
 abbrev pub IsCut : List (List ℕ) → Result AgentReply ReplyFault → List ℕ → Type 0
@@ -173,6 +193,7 @@ pub record IsPendingFor (listed : List (List ℕ)) (pending : List (List ℕ)) :
 abbrev pub IsPending : Waits → List (List ℕ) → List (List ℕ) → Type 0
 IsPending Nothing listed pending = pending ≡ []
 IsPending OnList listed pending = IsPendingFor listed pending
+IsPending OnBind listed pending = IsPendingFor listed pending
 IsPending OnReply listed pending = IsPendingFor listed pending
 
 -- the bodies that were taken, with those that aren't replied to
@@ -187,8 +208,16 @@ answers exchanges = flat_map (λ exchange. exchange.answers) exchanges
 abbrev pub replies : List Exchange → List ℕ
 replies exchanges = flat_map (λ exchange. exchange.reply) exchanges
 
+-- what holds while a pair has no connection to the agent behind: a body that waits for its reply is owed whole, none that
+-- was sent is unanswered, and no bind was ever sent
+pub record IsApart (pair : Pair) (exchanges : List Exchange) (pending : List (List ℕ)) : Type 0 where
+  pub unheard : pair.upstream.heard ≡ []
+  pub whole : pair.upstream.owed ≡ frames pending
+  pub unbound : list_any is_bind (bodies exchanges) ≡ false
+
 -- what a pair sent and is owed: upstream the frames of the taken bodies that are forwarded, and the client a reply to
--- each body in order, but for the last at most
+-- each body in order, but for the last at most. A connection to the agent behind begins and is given back between two
+-- frames, and once a bind was sent on it, no other one is made
 pub record IsExact (listed : List (List ℕ)) (watched : Watched) : Type 0 where
   pub taken : List (List ℕ)
   pub exchanges : List Exchange
@@ -202,10 +231,13 @@ pub record IsExact (listed : List (List ℕ)) (watched : Watched) : Type 0 where
   pub are_answers : All (IsBody longest_body) (answers exchanges)
   pub each : All (IsExchange listed) exchanges
   pub last : IsPending watched.pair.waits listed pending
+  pub bound : watched.pair.is_bound ≡ list_any is_bind taken
+  pub apart : watched.pair.is_linked ≡ false → IsApart watched.pair exchanges pending
 
 -- the pieces of an event are bytes
 abbrev pub IsInRange : Happening → Type 0
 IsInRange Joined = Unit {0}
+IsInRange (Connected number) = Unit {0}
 IsInRange (Heard number side piece) = IsBytes piece
 IsInRange (Took number side count) = Unit {0}
 IsInRange (Ended number) = Unit {0}

@@ -2,6 +2,7 @@
 
 ghost use Rattle.filter_model.specs.Brought.{EachPasses};
 ghost use Rattle.filter_model.specs.Fairness.{EachIsFair};
+ghost use Rattle.filter_model.specs.Places.{EachHoldsFew};
 ghost use Rattle.filter_model.specs.Watching.{EachIsExact};
 
 /// After all events that fit, each pair that was ever open was owed exactly what its client's requests on listed keys
@@ -10,12 +11,18 @@ pub fn exact()
     ensures exact { EachIsExact }
 {}
 
+/// After all events that fit, there are 64 connections to the agent behind at most, and none that isn't needed.
+pub fn places()
+    ensures places { EachHoldsFew }
+{}
+
 /// Whatever calls may come, the bytes that they move are those of exact pairs.
 pub fn passes()
     ensures passes { EachPasses }
 {}
 
-/// Whatever calls may come, what is ready and can be served is served between two services of anything else.
+/// Whatever calls may come, between two services of one thing each other thing is served that is ready all the while
+/// and can be served before the second.
 pub fn fair()
     ensures fair { EachIsFair }
 {}

@@ -7,9 +7,10 @@ mod rows;
 mod thing;
 mod waits;
 
-pub use laws::{exact, fair, passes};
+pub use laws::{exact, fair, passes, places};
 pub use rows::{
-    a_list_is_cut, journals_are_legal, only_listed_keys_are_used, others_are_kept_in_order,
+    a_list_is_cut, connections_are_few, journals_are_legal, only_listed_keys_are_used,
+    others_are_kept_in_order,
 };
 pub use thing::Thing;
 pub use waits::Waits;

@@ -3,14 +3,14 @@
 
 ghost use Rattle.std.specs.Prelude.{◌≡◌, [], ◌∷◌, ◌++◌, length, false, true};
 ghost use Rattle.pair_ports.specs.declared.side.Side.TheVariants.{Client, Upstream};
-ghost use Rattle.filter_model.specs.Filters.{Ended, Heard, Joined, Took, wants};
-ghost use Rattle.filter_model.specs.Rows.{after, bind, failed, list, one_listed, owed, remove_all, sign, three, took_reply, two_listed};
-ghost use Rattle.filter_model.specs.PairRows.{accept_none, close_of, is_legal, joins, poll_door, poll_nothing, read_failed, read_none, read_of, write_of};
+ghost use Rattle.filter_model.specs.Filters.{Heard, Took, can_send, has_place, is_reached, wants};
+ghost use Rattle.filter_model.specs.Rows.{after, asks, bind, failed, linked, list, one_listed, owed, remove_all, sign, three, took_reply, two_listed};
+ghost use Rattle.filter_model.specs.PairRows.{accept_none, asks_list, close_of, connect_failed, connect_made, connect_none, disconnect_of, is_legal, joins, poll_door, poll_nothing, poll_reply, read_none, read_of, write_of};
 
 /// A list is forwarded, and its reply is cut to the keys that are listed.
 pub fn a_list_is_cut()
     ensures forwarded { owed Upstream (Heard 1 Client list ∷ []) ≡ list }
-    ensures cut { owed Client (Heard 1 Client list ∷ Took 1 Upstream 5 ∷ Heard 1 Upstream two_listed ∷ []) ≡ one_listed }
+    ensures cut { owed Client (asks list ++ Heard 1 Upstream two_listed ∷ []) ≡ one_listed }
 {}
 
 /// Requests are served one at a time, and only those on listed keys are forwarded.
@@ -34,18 +34,40 @@ pub fn others_are_kept_in_order()
     ensures whole { wants 1 Client (after (Heard 1 Client (list ++ list) ∷ [])) ≡ false }
 {}
 
-/// Journals: what is ready is served in its turn and before a poll, and pairs are closed at once.
+/// The connection to the agent behind is given back behind a reply, unless a bind was sent on it, answered by whatever.
+/// There are 64 at most.
+pub fn connections_are_few()
+    ensures waiting { can_send 1 Upstream (after (Heard 1 Client list ∷ [])) ≡ true }
+    ensures refused { can_send 1 Upstream (after (Heard 1 Client remove_all ∷ [])) ≡ false }
+    ensures linked { is_reached 1 Upstream (after (asks list)) ≡ true }
+    ensures under_way { (after (asks list)).parts ≡ [] }
+    ensures given_back { (after (asks list ++ Heard 1 Upstream failed ∷ [])).parts ≡ 1 ∷ [] }
+    ensures gone { is_reached 1 Upstream (after (asks list ++ Heard 1 Upstream failed ∷ [])) ≡ false }
+    ensures bound { (after (asks bind ++ Heard 1 Upstream failed ∷ [])).parts ≡ [] }
+    ensures stays { is_reached 1 Upstream (after (asks bind ++ Heard 1 Upstream failed ∷ [])) ≡ true }
+    ensures last_place { has_place (linked 63) ≡ true }
+    ensures full { has_place (linked 64) ≡ false }
+{}
+
+/// Journals: what is ready is served in its turn and before a poll, pairs are closed at once, and so are connections that
+/// are given back.
 pub fn journals_are_legal()
     ensures unbound { is_legal (poll_door ∷ []) ≡ false }
-    ensures joined { is_legal (joins (read_none Client ∷ read_none Upstream ∷ accept_none ∷ poll_nothing ∷ [])) ≡ true }
-    ensures unread { is_legal (joins (read_none Client ∷ poll_nothing ∷ [])) ≡ false }
+    ensures joined { is_legal (joins (read_none Client ∷ accept_none ∷ poll_nothing ∷ [])) ≡ true }
+    ensures unread { is_legal (joins (poll_nothing ∷ [])) ≡ false }
     ensures out_of_turn { is_legal (joins (accept_none ∷ [])) ≡ false }
-    ensures asked { is_legal (joins (read_of Client 5 list ∷ read_none Upstream ∷ write_of Upstream 5 list ∷ accept_none
-        ∷ read_none Client ∷ poll_nothing ∷ [])) ≡ true }
-    ensures other { is_legal (joins (read_of Client 5 list ∷ read_none Upstream
+    ensures asked { is_legal (joins (asks_list (poll_nothing ∷ []))) ≡ true }
+    ensures unconnected { is_legal (joins (read_of Client 5 list ∷ write_of Upstream 5 list ∷ [])) ≡ false }
+    ensures needless { is_legal (joins (connect_made ∷ [])) ≡ false }
+    ensures other { is_legal (joins (read_of Client 5 list ∷ connect_made ∷ accept_none ∷ read_none Client
         ∷ write_of Upstream 4 (0 ∷ 0 ∷ 0 ∷ 1 ∷ []) ∷ [])) ≡ false }
-    ensures ended { is_legal (joins (read_of Client 5 list ∷ read_failed Upstream ∷ close_of 1 ∷ accept_none
+    ensures no_place { is_legal (joins (read_of Client 5 list ∷ connect_none ∷ accept_none ∷ read_none Client
         ∷ poll_nothing ∷ [])) ≡ true }
-    ensures left_open { is_legal (joins (read_of Client 5 list ∷ read_failed Upstream ∷ accept_none ∷ [])) ≡ false }
-    ensures unasked { is_legal (joins (read_none Client ∷ read_of Upstream 1 (0 ∷ []) ∷ close_of 1 ∷ [])) ≡ true }
+    ensures answered { is_legal (joins (asks_list (poll_reply ∷ read_of Upstream 5 failed ∷ disconnect_of 1
+        ∷ write_of Client 5 failed ∷ poll_nothing ∷ []))) ≡ true }
+    ensures held { is_legal (joins (asks_list (poll_reply ∷ read_of Upstream 5 failed ∷ write_of Client 5 failed ∷ [])))
+        ≡ false }
+    ensures ended { is_legal (joins (read_of Client 5 list ∷ connect_failed ∷ close_of 1 ∷ accept_none
+        ∷ poll_nothing ∷ [])) ≡ true }
+    ensures left_open { is_legal (joins (read_of Client 5 list ∷ connect_failed ∷ accept_none ∷ [])) ≡ false }
 {}

@@ -1,6 +1,7 @@
 use pair_ports::Side;
 
-/// What can be served: the door, or one direction of one side of a pair.
+/// What can be served: the door, or one direction of one side of a pair. To write to the agent behind is to connect to
+/// it first, where the pair has no connection.
 #[derive(Clone, Copy, Debug, PartialEq, Eq)]
 pub enum Thing {
     Accept,

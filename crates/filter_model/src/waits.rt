@@ -5,6 +5,8 @@ pub enum Waits {
     Nothing,
     /// The list of keys.
     OnList,
+    /// The reply to a bind.
+    OnBind,
     /// Another reply.
     OnReply,
 }

@@ -3,16 +3,13 @@
 //! filter_top is the program; here are its words, its file and its sockets, and what it says on standard error.
 #![tactic(auto)]
 
-mod trouble;
-
-use crate::trouble::Trouble;
 use filter_top::{FilterStatus, filter_main};
-use real_edge::RealFiles;
+use real_edge::{RealFiles, is_memory};
 use std::alloc::AllocGlobal;
 use std::env;
 use std::env::Env;
 use std::fs::{File, Files};
-use std::io::{Error, ErrorKind};
+use std::io::Error;
 use std::net::Net;
 use std::process::ExitCode;
 use std::sync::Wait;
@@ -21,9 +18,10 @@ use unix_pairs::UnixPairs;
 
 // The status where a call of the system failed.
 fn status_of(error: &Error, otherwise: FilterStatus) -> FilterStatus {
-    match error.kind() {
-        ErrorKind::OutOfMemory => FilterStatus::Memory,
-        _ => otherwise,
+    if is_memory(error) {
+        FilterStatus::Memory
+    } else {
+        otherwise
     }
 }
 
@@ -59,8 +57,8 @@ fn main(rt: HostRuntime) -> ExitCode {
         Ok(status) => status,
         Err(status) => status,
     };
-    if let Some(trouble) = Trouble::of(status) {
-        let _ = eprintln!(rt; "filter_proxy: {trouble}");
+    if status != FilterStatus::Done {
+        let _ = eprintln!(rt; "filter_proxy: {status}");
     }
     ExitCode::from(status.code())
 }

@@ -8,6 +8,10 @@ pub const LISTED: &str =
 /// SSH_AGENTC_REQUEST_IDENTITIES.
 pub const LIST: &str = "000000010b";
 
+/// SSH_AGENTC_EXTENSION "session-bind@openssh.com" with a host key that can't be read.
+pub const BIND: &str = "0000002b1b0000001873657373696f6e2d62696e64406f70656e7373682e636f6d\
+    0000000109000000000000000000";
+
 /// SSH_AGENTC_REMOVE_ALL_IDENTITIES.
 pub const REMOVE_ALL: &str = "0000000113";
 

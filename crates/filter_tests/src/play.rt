@@ -1,6 +1,6 @@
 //! Runs of the filter. What owns files and pairs has no exit: at each their drops would be proved once more.
 use crate::fixtures::LISTED;
-use filter_top::{FilterStatus, PairEntry, Side, filter_main};
+use filter_top::{FilterStatus, Linked, PairEntry, Side, filter_main};
 use pair_script::{PairCue, PairScript};
 use plain_lists::Bytes;
 use std::alloc::{AllocError, Global};
@@ -43,7 +43,8 @@ fn name_of(side: Side) -> &'static str {
     }
 }
 
-// What one call did outside, as a line, or nothing: bytes that a side took, and a pair that was closed.
+// What one call did outside, as a line, or nothing: a connection to the agent behind that was made or given back, bytes
+// that a side took, and a pair that was closed.
 fn deed_of(alloc: Global, entry: &PairEntry) -> Result<String, AllocError> {
     match entry {
         PairEntry::Write {
@@ -57,6 +58,11 @@ fn deed_of(alloc: Global, entry: &PairEntry) -> Result<String, AllocError> {
             let text = hex::encode(alloc, taken)?;
             format!(in alloc; "{} {} {}\n", *pair, name_of(*side), text.as_str())
         }
+        PairEntry::Connect {
+            pair,
+            answer: Ok(Linked::Made),
+        } => format!(in alloc; "connect {}\n", *pair),
+        PairEntry::Disconnect { pair, .. } => format!(in alloc; "part {}\n", *pair),
         PairEntry::Close { pair, .. } => format!(in alloc; "close {}\n", *pair),
         _ => Ok(String::new(alloc)),
     }
@@ -72,7 +78,8 @@ fn deeds_of(alloc: Global, journal: &[PairEntry]) -> Result<String, AllocError> 
 }
 
 /// What the filter does over pairs that play these turns, where the list has the first key alone. The call of this number
-/// fails, none where it is 0. A deed is a line: `PAIR SIDE BYTES` for bytes that a side took, or `close PAIR`.
+/// fails, none where it is 0. A deed is a line: `PAIR SIDE BYTES` for bytes that a
+/// side took, `connect PAIR`, `part PAIR` or `close PAIR`.
 #[derive(Clone, Copy)]
 pub struct Run<'a> {
     pub failing: u64,

@@ -1,5 +1,5 @@
 //! Whole runs, whose deeds are written out by hand.
-use crate::fixtures::{BOTH, LIST, REMOVE_ALL, SIGN_FIRST, SIGN_SECOND, SIGNED};
+use crate::fixtures::{BIND, BOTH, LIST, REMOVE_ALL, SIGN_FIRST, SIGN_SECOND, SIGNED};
 use crate::play::{Run, plays, sends};
 use filter_top::{FilterStatus, Side};
 use pair_script::PairCue;
@@ -8,10 +8,10 @@ use std::alloc::Global;
 use std::test::*;
 
 /// A request for the list arrives upstream.
-const ASKED: &str = "1 upstream 000000010b\n";
+const ASKED: &str = "connect 1\n1 upstream 000000010b\n";
 
-/// And the client is told of the first key alone.
-const ANSWERED: &str = "1 upstream 000000010b\n\
+/// And the client is told of the first key alone, when the connection was given back.
+const ANSWERED: &str = "connect 1\n1 upstream 000000010b\npart 1\n\
     1 client 000000500c00000001\
     00000040000000186b657965642d736861323536406578616d706c652e636f6d\
     000000201111111111111111111111111111111111111111111111111111111111111111000000036f6e65\n";
@@ -40,8 +40,8 @@ fn a_list_is_cut_to_the_listed_keys(rt: HostRuntime) -> Result<(), Fail> {
     Ok(())
 }
 
-// The calls of that run are a bind, a wait, an accept, two reads and an accept that find nothing; a wait, the read of the
-// request, its write, a read that finds nothing; a wait, the read of the answer, its write, a read that finds nothing; and
+// The calls of that run are a bind, a wait, an accept, a read and an accept that find nothing; a wait, the read of the
+// request, the connect, a read that finds nothing, the write of the request; a wait, the read of the answer, its write; and
 // the last wait.
 #[test]
 fn each_failing_call_has_its_end(rt: HostRuntime) -> Result<(), Fail> {
@@ -51,15 +51,24 @@ fn each_failing_call_has_its_end(rt: HostRuntime) -> Result<(), Fail> {
         (2, FilterStatus::PollFault, ""),
         (3, FilterStatus::Done, ""),
         (4, FilterStatus::Done, "close 1\n"),
-        (5, FilterStatus::Done, "close 1\n"),
-        (6, FilterStatus::Done, ANSWERED),
-        (7, FilterStatus::PollFault, ""),
+        (5, FilterStatus::Done, ANSWERED),
+        (6, FilterStatus::PollFault, ""),
+        (7, FilterStatus::Done, "close 1\n"),
         (8, FilterStatus::Done, "close 1\n"),
-        (9, FilterStatus::Done, "close 1\n"),
-        (10, FilterStatus::Done, "1 upstream 000000010b\nclose 1\n"),
+        (9, FilterStatus::Done, "connect 1\nclose 1\n"),
+        (10, FilterStatus::Done, "connect 1\nclose 1\n"),
         (11, FilterStatus::PollFault, ASKED),
-        (12, FilterStatus::Done, "1 upstream 000000010b\nclose 1\n"),
-        (13, FilterStatus::Done, "1 upstream 000000010b\nclose 1\n"),
+        (
+            12,
+            FilterStatus::Done,
+            "connect 1\n1 upstream 000000010b\nclose 1\n",
+        ),
+        (
+            13,
+            FilterStatus::Done,
+            "connect 1\n1 upstream 000000010b\npart 1\nclose 1\n",
+        ),
+        (14, FilterStatus::PollFault, ANSWERED),
     ];
     for (failing, status, deeds) in cases {
         let run = Run {
@@ -105,10 +114,10 @@ fn other_keys_are_refused_and_nothing_overtakes(rt: HostRuntime) -> Result<(), F
     let run = Run {
         failing: 0,
         status: FilterStatus::Done,
-        deeds: "1 client 0000000105\n1 client 0000000105\n\
+        deeds: "1 client 0000000105\n1 client 0000000105\nconnect 1\n\
             1 upstream 000000500d00000040000000186b657965642d736861323536406578616d706c652e636f6d\
             0000002011111111111111111111111111111111111111111111111111111111111111110000000361626300000000\n\
-            1 client 000000070e000000027367\n",
+            part 1\n1 client 000000070e000000027367\n",
         label: "three requests in a piece",
     };
     plays(&rt, alloc, turns, &run);
@@ -131,7 +140,7 @@ fn a_pair_is_closed_where_its_agent_leaves(rt: HostRuntime) -> Result<(), Fail> 
     let run = Run {
         failing: 0,
         status: FilterStatus::Done,
-        deeds: "1 upstream 000000500d00000040000000186b657965642d736861323536406578616d706c652e636f6d\
+        deeds: "connect 1\n1 upstream 000000500d00000040000000186b657965642d736861323536406578616d706c652e636f6d\
             0000002011111111111111111111111111111111111111111111111111111111111111110000000361626300000000\n\
             close 1\n",
         label: "an agent that leaves",
@@ -159,35 +168,67 @@ fn pairs_are_served_in_their_turn(rt: HostRuntime) -> Result<(), Fail> {
     let run = Run {
         failing: 0,
         status: FilterStatus::Done,
-        deeds: "1 upstream 000000010b\n\
-            2 client 0000000105\n\
+        deeds: "connect 1\n2 client 0000000105\nconnect 3\n1 upstream 000000010b\n\
             3 upstream 000000500d00000040000000186b657965642d736861323536406578616d706c652e636f6d\
             0000002011111111111111111111111111111111111111111111111111111111111111110000000361626300000000\n\
-            3 client 000000070e000000027367\n\
-            1 client 0000000105\n",
+            part 3\n3 client 000000070e000000027367\n\
+            part 1\n1 client 0000000105\n",
         label: "three pairs",
     };
     plays(&rt, alloc, turns, &run);
     Ok(())
 }
 
-// The agent of the second pair sends what nobody asked for, and the third one's client a length over the bound.
+// The agent of the second pair sends more than was asked for, and the third one's client a length over the bound.
 #[test]
 fn a_pair_alone_is_closed(rt: HostRuntime) -> Result<(), Fail> {
     let alloc = rt.alloc();
     let turns = vec![in alloc;
         vec![in alloc; PairCue::Connect, PairCue::Connect, PairCue::Connect]?,
         vec![in alloc;
-            sends(alloc, 2, Side::Upstream, "00")?,
+            sends(alloc, 2, Side::Client, LIST)?,
             sends(alloc, 3, Side::Client, "00040001")?,
             sends(alloc, 1, Side::Client, REMOVE_ALL)?,
         ]?,
+        vec![in alloc; sends(alloc, 2, Side::Upstream, "000000010500")?]?,
     ]?;
     let run = Run {
         failing: 0,
         status: FilterStatus::Done,
-        deeds: "close 2\nclose 3\n1 client 0000000105\n",
+        deeds: "connect 2\nclose 3\n1 client 0000000105\n2 upstream 000000010b\nclose 2\n",
         label: "two that break the rules",
+    };
+    plays(&rt, alloc, turns, &run);
+    Ok(())
+}
+
+// The agent behind of the first pair takes so many bytes more, and a connection while it takes any.
+fn place(count: u32) -> PairCue {
+    PairCue::Room {
+        pair: 1,
+        side: Side::Upstream,
+        count,
+    }
+}
+
+// The agent behind has no place at first, and refuses the bind.
+#[test]
+fn who_finds_no_place_waits_and_who_is_bound_stays(rt: HostRuntime) -> Result<(), Fail> {
+    let alloc = rt.alloc();
+    let turns = vec![in alloc;
+        vec![in alloc; PairCue::Connect, place(0)]?,
+        vec![in alloc; sends(alloc, 1, Side::Client, BIND)?]?,
+        vec![in alloc; place(100)]?,
+        vec![in alloc; sends(alloc, 1, Side::Upstream, "0000000105")?]?,
+        vec![in alloc; sends(alloc, 1, Side::Client, LIST)?]?,
+    ]?;
+    let run = Run {
+        failing: 0,
+        status: FilterStatus::Done,
+        deeds: "connect 1\n1 upstream 0000002b1b0000001873657373696f6e2d62696e64406f70656e7373682e636f6d\
+            0000000109000000000000000000\n\
+            1 client 0000000105\n1 upstream 000000010b\n",
+        label: "a bind that waits",
     };
     plays(&rt, alloc, turns, &run);
     Ok(())

@@ -1,7 +1,7 @@
 -- What each call leaves of a reading, by its answer.
 use Rattle.std.proofs.Common.{◌≡◌, ◌∙◌, ℕ, suc, All, nat_lt, ◌≤◌, ◌+◌, ◌-◌, ◌^◌, ◌<◌, Bool, true, false, List, [], ◌∷◌, length, drop, get_or, Option, Some, None, Result, Ok, refl, sym, ap, not, ◌&&◌, ◌==◌, if◌then◌else◌, add-one, arith}
 use Rattle.std.proofs.Math.Seq.{drop-cons}
-use Rattle.std.specs.Prelude.{IsSome, is_some}
+use Rattle.std.specs.Prelude.{IsSome, IsTrue, ◌||◌, is_some}
 use Rattle.std.specs.declared.alloc.AllocError.{AllocError}
 use Rattle.std.specs.Str.{bytes_eq}
 use Rattle.std.specs.Cmp.Lexicographic.{bytes_decides}
@@ -11,16 +11,17 @@ use Rattle.world_ports.specs.declared.answers.Got.{Got}
 use Rattle.world_ports.specs.declared.answers.Polled.{Polled}
 use Rattle.world_ports.specs.declared.answers.WorldFault.{WorldFault}
 use Rattle.world_ports.specs.declared.answers.Wrote.{Wrote}
+use Rattle.pair_ports.specs.declared.entry.Linked.{Linked}
 use Rattle.pair_ports.specs.declared.entry.PairEntry.TheVariants as entry
 use Rattle.pair_ports.specs.declared.entry.PairReady.{PairReady}
 use Rattle.pair_ports.specs.declared.side.Side.{Side}
 use Rattle.pair_ports.specs.declared.side.Side.TheVariants.{Client, Upstream}
 use Rattle.filter_model.specs.declared.thing.Thing.{Thing}
 use Rattle.filter_model.specs.declared.thing.Thing.TheVariants.{Accept, Read, Write}
-use Rattle.filter_model.specs.Pairs.{Pair, is_some_bytes}
-use Rattle.filter_model.specs.Filters.{Ended, Heard, Joined, State, Took, find_pair, owed_by, owed_of, step, wants_by}
+use Rattle.filter_model.specs.Pairs.{Pair, half_of, is_some_bytes, reaches, wants_half}
+use Rattle.filter_model.specs.Filters.{Connected, Fits, Heard, Joined, State, can_send, find_pair, has_place, is_reached, owed_by, owed_of, reached_by, sends_by, step, wants_by}
 use Rattle.filter_model.specs.Lines.{first_servable, is_idle, is_next, is_servable, is_thing, same_side, same_thing}
-use Rattle.filter_model.specs.Answered.{Binding, Closing, Free, after_accept, after_bind, after_close, after_poll, after_read, after_write, at, due_of, only_if}
+use Rattle.filter_model.specs.Answered.{Binding, Closing, Free, Parting, after_accept, after_bind, after_close, after_connect, after_disconnect, after_poll, after_read, after_write, at, due_of, only_if}
 use Rattle.filter_model.specs.LegalPairs.{allowed}
 use Rattle.world_ports.specs.Worlds.{GotWithin, NumbersPort, TookWithin, read_room}
 use Rattle.world_ports.specs.declared.answers.Accepted.TheVariants as accepted
@@ -66,22 +67,52 @@ nothing_is state line none = ap (λ (o : Option Thing). not (is_some o)) none
 pub joined_fits : (state : State) (line : List Thing) → first_servable state line ≡ Some Accept → state.last_pair < 2 ^ 64 - 1
 joined_fits state line found = (Decides-ltb state.last_pair (2 ^ 64 - 1)).0 (can_serve state line Accept found)
 
-wanted_is_open : (found : Option Pair) (side : Side) → wants_by found side ≡ true → IsSome found
-wanted_is_open None side wanted = cc
-wanted_is_open (Some pair) side wanted = refl
+two : (here there : Bool) → (here && there) ≡ true → (here ≡ true) × (there ≡ true)
+two true there is = (refl, is)
+two false there is = cc
 
-owed_is_open : (found : Option Pair) (side : Side) → is_some_bytes (owed_by found side) ≡ true → IsSome found
-owed_is_open None side owed = cc
-owed_is_open (Some pair) side owed = refl
+wanted_is_reached : (found : Option Pair) (side : Side) → wants_by found side ≡ true → reached_by found side ≡ true
+wanted_is_reached None side wanted = cc
+wanted_is_reached (Some pair) side wanted = (two (reaches side pair) (wants_half (half_of side pair)) wanted).0
+
+reached_is_open : (found : Option Pair) (side : Side) → reached_by found side ≡ true → IsSome found
+reached_is_open None side reached = cc
+reached_is_open (Some pair) side reached = refl
+
+sent_is_open : (found : Option Pair) (side : Side) (place : Bool) → sends_by found side place ≡ true → IsSome found
+sent_is_open None side place sends = cc
+sent_is_open (Some pair) side place sends = refl
+
+sent_is_owed : (found : Option Pair) (side : Side) (place : Bool) → sends_by found side place ≡ true → is_some_bytes (owed_by found side) ≡ true
+sent_is_owed None side place sends = cc
+sent_is_owed (Some pair) side place sends = (two (is_some_bytes (half_of side pair).owed) (reaches side pair || place) sends).0
+
+pub read_reached : (state : State) (line : List Thing) (pair : ℕ) (side : Side) → first_servable state line ≡ Some (Read pair side) → is_reached pair side state ≡ true
+read_reached state line pair side found = wanted_is_reached (find_pair pair state.pairs) side (can_serve state line (Read pair side) found)
 
 pub read_open : (state : State) (line : List Thing) (pair : ℕ) (side : Side) → first_servable state line ≡ Some (Read pair side) → IsSome (find_pair pair state.pairs)
-read_open state line pair side found = wanted_is_open (find_pair pair state.pairs) side (can_serve state line (Read pair side) found)
+read_open state line pair side found = reached_is_open (find_pair pair state.pairs) side (read_reached state line pair side found)
 
 pub write_open : (state : State) (line : List Thing) (pair : ℕ) (side : Side) → first_servable state line ≡ Some (Write pair side) → IsSome (find_pair pair state.pairs)
-write_open state line pair side found = owed_is_open (find_pair pair state.pairs) side (can_serve state line (Write pair side) found)
+write_open state line pair side found = sent_is_open (find_pair pair state.pairs) side (has_place state) (can_serve state line (Write pair side) found)
 
 pub write_some : (state : State) (line : List Thing) (pair : ℕ) (side : Side) → first_servable state line ≡ Some (Write pair side) → 0 < length (owed_of pair side state)
-write_some state line pair side found = (Decides-ltb 0 (length (owed_of pair side state))).0 (can_serve state line (Write pair side) found)
+write_some state line pair side found =
+    (Decides-ltb 0 (length (owed_of pair side state))).0 (sent_is_owed (find_pair pair state.pairs) side (has_place state) (can_serve state line (Write pair side) found))
+
+-- what may be sent upstream where there is no connection makes one
+pub connected_fits : (state : State) (line : List Thing) (pair : ℕ) → first_servable state line ≡ Some (Write pair Upstream) → is_reached pair Upstream state ≡ false → Fits (Connected pair) state
+connected_fits state line pair found apart = (can_serve state line (Write pair Upstream) found, ap not apart)
+
+-- there always is a connection to a client
+pub unreached_upstream : (state : State) (line : List Thing) (pair : ℕ) (side : Side) → first_servable state line ≡ Some (Write pair side) → is_reached pair side state ≡ false
+    → (side ≡ Upstream)
+unreached_upstream state line pair Upstream found apart = refl
+unreached_upstream state line pair Client found apart = by_found (find_pair pair state.pairs) (write_open state line pair Client found) apart
+  where
+    by_found : (known : Option Pair) → IsSome known → reached_by known Client ≡ false → Client ≡ Upstream
+    by_found None open_yet unreached = cc
+    by_found (Some one) open_yet unreached = cc
 
 -- ---- the number of the last pair
 
@@ -90,12 +121,6 @@ last_joined state = last-joined _ state ∙ sym (add-one state.last_pair)
 
 pub last_heard : (state : State) (pair : ℕ) (side : Side) (piece : List ℕ) → (step state (Heard pair side piece)).last_pair ≡ state.last_pair
 last_heard state pair side piece = last-at (find_pair pair state.pairs) pair (Heard pair side piece) state
-
-pub last_took : (state : State) (pair : ℕ) (side : Side) (count : ℕ) → (step state (Took pair side count)).last_pair ≡ state.last_pair
-last_took state pair side count = last-at (find_pair pair state.pairs) pair (Took pair side count) state
-
-pub last_ended : (state : State) (pair : ℕ) → (step state (Ended pair)).last_pair ≡ state.last_pair
-last_ended state pair = last-at (find_pair pair state.pairs) pair (Ended pair) state
 
 -- ---- answers that may come
 
@@ -140,14 +165,31 @@ read_any state line pair side room bytes answer found is may =
     ap (λ (b : Bool). only_if b (after_read pair side bytes state line answer)) (both (is_next state line (Read pair side)) ((room == read_room) && is_got room bytes answer) (next_is state line (Read pair side) found)
     (both (room == read_room) (is_got room bytes answer) ((Decides-eqb room read_room).1 is) may))
 
-pub write_any : (state : State) (line : List Thing) (pair : ℕ) (side : Side) (offered : List ℕ) (answer : Result Wrote WorldFault) → first_servable state line ≡ Some (Write pair side) → offered ≡ owed_of pair side state → is_taken offered answer ≡ true → allowed (at state line Free) (entry.Write pair side offered answer) ≡ Some (after_write pair side state line answer)
-write_any state line pair side offered answer found is may =
-    ap (λ (b : Bool). only_if b (after_write pair side state line answer)) (both (is_next state line (Write pair side)) (bytes_eq offered (owed_of pair side state) && is_taken offered answer) (next_is state line (Write pair side) found)
-    (both (bytes_eq offered (owed_of pair side state)) (is_taken offered answer) ((bytes_decides offered (owed_of pair side state)).1 is) may))
+pub connect_any : (state : State) (line : List Thing) (pair : ℕ) (answer : Result Linked WorldFault) → first_servable state line ≡ Some (Write pair Upstream) → is_reached pair Upstream state ≡ false → allowed (at state line Free) (entry.Connect pair answer) ≡ Some (after_connect pair state line answer)
+connect_any state line pair answer found apart =
+    ap (λ (b : Bool). only_if b (after_connect pair state line answer)) (both (is_next state line (Write pair Upstream)) (not (is_reached pair Upstream state)) (next_is state line (Write pair Upstream) found) (ap not apart))
 
-pub close_any : (state : State) (line : List Thing) (pair : ℕ) (later : List ℕ) (answer : Result Unit AllocError) → allowed (at state line (Closing pair later)) (entry.Close pair answer) ≡ Some (after_close pair later state line answer)
-close_any state line pair later answer = ap (λ (b : Bool). only_if b (after_close pair later state line answer)) ((Decides-eqb pair pair).1 refl)
+pub write_any : (state : State) (line : List Thing) (pair : ℕ) (side : Side) (offered : List ℕ) (answer : Result Wrote WorldFault) → first_servable state line ≡ Some (Write pair side) → is_reached pair side state ≡ true → offered ≡ owed_of pair side state → is_taken offered answer ≡ true → allowed (at state line Free) (entry.Write pair side offered answer) ≡ Some (after_write pair side state line answer)
+write_any state line pair side offered answer found reached is may =
+    let offers = bytes_eq offered (owed_of pair side state) && is_taken offered answer in
+    ap (λ (b : Bool). only_if b (after_write pair side state line answer)) (both (is_next state line (Write pair side)) (is_reached pair side state && offers) (next_is state line (Write pair side) found)
+    (both (is_reached pair side state) offers reached
+    (both (bytes_eq offered (owed_of pair side state)) (is_taken offered answer) ((bytes_decides offered (owed_of pair side state)).1 is) may)))
+
+pub close_any : (state : State) (line : List Thing) (pair : ℕ) (later parts : List ℕ) (answer : Result Unit AllocError) → allowed (at state line (Closing pair later parts)) (entry.Close pair answer) ≡ Some (after_close pair later parts state line answer)
+close_any state line pair later parts answer = ap (λ (b : Bool). only_if b (after_close pair later parts state line answer)) ((Decides-eqb pair pair).1 refl)
+
+pub part_any : (state : State) (line : List Thing) (pair : ℕ) (later : List ℕ) (answer : Result Unit AllocError) → allowed (at state line (Parting pair later)) (entry.Disconnect pair answer) ≡ Some (after_disconnect pair later state line answer)
+part_any state line pair later answer = ap (λ (b : Bool). only_if b (after_disconnect pair later state line answer)) ((Decides-eqb pair pair).1 refl)
 
 -- what is left to close, from an index on
-pub due-drop : (pairs : List ℕ) (index : ℕ) → index < length pairs → due_of (drop index pairs) ≡ Closing (get_or pairs index 0) (drop (index + 1) pairs)
-due-drop pairs index below = ap due_of (drop-cons pairs index 0 below) ∙ ap (λ (n : ℕ). Closing (get_or pairs index 0) (drop n pairs)) (sym (add-one index))
+pub due-drop : (pairs parts : List ℕ) (index : ℕ) → index < length pairs → due_of (drop index pairs) parts ≡ Closing (get_or pairs index 0) (drop (index + 1) pairs) parts
+due-drop pairs parts index below =
+    ap (λ (l : List ℕ). due_of l parts) (drop-cons pairs index 0 below)
+    ∙ ap (λ (n : ℕ). Closing (get_or pairs index 0) (drop n pairs) parts) (sym (add-one index))
+
+-- and to give back
+pub part-drop : (pairs : List ℕ) (index : ℕ) → index < length pairs → due_of [] (drop index pairs) ≡ Parting (get_or pairs index 0) (drop (index + 1) pairs)
+part-drop pairs index below =
+    ap (due_of []) (drop-cons pairs index 0 below)
+    ∙ ap (λ (n : ℕ). Parting (get_or pairs index 0) (drop n pairs)) (sym (add-one index))

@@ -126,6 +126,16 @@ call_then (Ok done) from mid to old between new next is told later = record {
 }
 call_then (Err want) from mid to old between new next is told later = stops_later (one_call from mid old between next is told) later
 
+-- as far as it came
+pub goes_stops : {E : Type 0} (result : Result Unit E) (from to : Reading) (old new : Option (List PairEntry)) → Goes result from old new to → Stops from old new
+goes_stops (Ok done) from to old new goes = stops_there goes
+goes_stops (Err want) from to old new goes = goes
+
+-- some calls, and then others while memory suffices
+pub goes_then : {E : Type 0} (result : Result Unit E) (from mid to : Reading) (old between new : Option (List PairEntry)) → Moves from old between mid → Goes result mid between new to → Goes result from old new to
+goes_then (Ok done) from mid to old between new first later = moves_on first later
+goes_then (Err want) from mid to old between new first later = stops_later first later
+
 -- what holds, holds where memory sufficed
 pub on_ok : {T E : Type 0} {P : Type 0} (result : Result T E) → P → OnOk result P
 on_ok (Ok value) holds = holds

@@ -12,7 +12,8 @@ use Rattle.filter_model.specs.LegalPairs.{first_reading, read_on}
 use Rattle.filter_top.specs.Program.{Asked}
 
 -- the calls that were added may come, and of each pair they move exactly what the law says: the agent behind is written,
--- in order, the requests that may pass and no other, and the client one reply to each of its requests
+-- in order, the requests that may pass and no other, and the client one reply to each of its requests; and connections to
+-- the agent behind are few
 pub record PassesExactly (listed : List (List ℕ)) (asked : Asked) (old new : Option (List PairEntry)) : Type 0 where
   pub calls : List PairEntry
   pub to : Reading
@@ -20,8 +21,8 @@ pub record PassesExactly (listed : List (List ℕ)) (asked : Asked) (old new : O
   pub legal : read_on (first_reading listed asked.path asked.upstream) calls ≡ Some to
   pub passes : Passes listed calls to
 
--- between two services of one thing in the calls that were added, each other thing is served that is ready and can be
--- served all the while
+-- between two services of one thing in the calls that were added, each other thing is served that is ready all the while,
+-- and can be served before the second one
 pub record ServesFairly (listed : List (List ℕ)) (asked : Asked) (old new : Option (List PairEntry)) : Type 0 where
   pub calls : List PairEntry
   pub told : Grows old new calls

@@ -15,6 +15,6 @@ mod words;
 
 pub use filter_core::{Filter, FilterEvent};
 pub use filter_model::exact;
-pub use pair_ports::{PairEntry, PairReady, Pairs, Side};
+pub use pair_ports::{Linked, PairEntry, PairReady, Pairs, Side};
 pub use status::FilterStatus;
 pub use top::filter_main;

@@ -1,6 +1,7 @@
 // What is ready, in the order in which it is served.
 ghost use Rattle.std.specs.Prelude.{◌≡◌, [], OnOk};
-ghost use Rattle.filter_model.specs.declared.thing.Thing.TheVariants.{Accept};
+ghost use Rattle.filter_model.specs.declared.thing.Thing.TheVariants.{Accept, Write};
+ghost use Rattle.pair_ports.specs.declared.side.Side.TheVariants.{Upstream};
 ghost use Rattle.filter_model.specs.Lines.{dropped, first_servable, queued, queued_all, queued_by, queued_if, queued_pair, sent_back, without_pair};
 
 use crate::things::{can_serve, has_thing, is_of, is_same};
@@ -70,9 +71,15 @@ impl Line {
     {
         self.add(Thing::Read(pair, Side::Client))?;
         self.add(Thing::Write(pair, Side::Client))?;
-        self.add(Thing::Read(pair, Side::Upstream))?;
         self.add(Thing::Write(pair, Side::Upstream))?;
         self.send_back(Thing::Accept)
+    }
+
+    // A pair's connection to the agent behind was given back: it may have another one.
+    pub fn part(&mut self, pair: u64) -> Result<(), AllocError>
+        ensures { OnOk result (self.new ≡ queued (Write pair Upstream) self.old) }
+    {
+        self.add(Thing::Write(pair, Side::Upstream))
     }
 
     // A pair was closed.

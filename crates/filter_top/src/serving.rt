@@ -50,7 +50,7 @@ fn run<R: Wait, P: Pairs>(
     unreachable!()
 }
 
-/// Serves clients that connect at `path`, each with a connection of its own to the agent at `upstream`.
+/// Serves clients that connect at `path`, each with a connection of its own to the agent at `upstream` while it needs one.
 pub fn serve<R: Wait, P: Pairs>(
     rt: &R,
     alloc: Global,

@@ -3,24 +3,43 @@ ghost use Rattle.std.specs.Prelude.{◌≡◌};
 ghost use Rattle.filter_top.specs.Codes.{code_of};
 
 use key_file::PubFault;
+use thiserror::Error;
 
-/// How a run of the filter ended. The exit statuses are 0 to 6 in this order.
-#[derive(Clone, Copy, Debug, PartialEq, Eq)]
+/// How a run of the filter ended, in words for whoever started it. The exit statuses are 0 to 6 in this order.
+#[derive(Clone, Copy, Debug, PartialEq, Eq, Error)]
 pub enum FilterStatus {
     /// Nothing will become ready any more.
+    #[error("done")]
     Done,
     /// This line of the list, counted from 1, is no public key's.
+    #[error("line {line} of the list is refused: {}", told(.fault))]
     BadList { line: u64, fault: PubFault },
     /// The words are none that the program takes.
+    #[error("usage: filter_proxy LIST UPSTREAM PATH")]
     Usage,
     /// The socket could not be bound.
+    #[error("the socket could not be bound")]
     BindFault,
     /// Waiting for the sockets failed.
+    #[error("waiting for the sockets failed")]
     PollFault,
     /// Memory ran out. Says nothing of the outside.
+    #[error("out of memory")]
     Memory,
     /// The list could not be read, or it is too long.
+    #[error("the list could not be read, or has more than 1048576 bytes")]
     FileFault,
+}
+
+// What a line's fault is.
+fn told(fault: &PubFault) -> &'static str {
+    match fault {
+        PubFault::Words => "no public key: a line has a type, the key in base64, and a comment",
+        PubFault::Base64 => "the public key isn't base64",
+        PubFault::Key(_) => "no public key of a type that is known",
+        PubFault::OtherType => "the key is of another type than its first word",
+        PubFault::Memory => "out of memory",
+    }
 }
 
 impl FilterStatus {

@@ -62,6 +62,6 @@ pub fn can_serve(filter: &Filter, thing: Thing) -> bool
     match thing {
         Thing::Accept => filter.pairs_so_far() < u64::MAX,
         Thing::Read(pair, side) => filter.wants(pair, side),
-        Thing::Write(pair, side) => !filter.owed(pair, side).is_empty(),
+        Thing::Write(pair, side) => filter.can_send(pair, side),
     }
 }

@@ -18,13 +18,15 @@ use world_ports::Files;
 /// The program: `words` are those of the command line after the program's name, `LIST UPSTREAM PATH`.
 ///
 /// Reads the public keys of the file LIST, listens at PATH, and connects each client to an agent at UPSTREAM with a
-/// connection of its own: of its keys the client sees and uses only those of the list. With any other number of words
-/// it touches nothing. It ends only where a fault ends it, or where nothing will become ready any more.
+/// connection of its own, while it needs one: of its keys the client sees and uses only those of the list. With any
+/// other number of words it touches nothing. It ends only where a fault ends it, or where nothing will become ready any
+/// more.
 ///
 /// Of each client the agent behind is written, in order, the requests that may pass and no other, and the client one
-/// reply to each request that was taken, at most the last one missing: `passes`. Each thing that is ready and can be
-/// served is served between two services of any other: `fair`. `runs` says of each end which calls were made. The three
-/// stand where the files tell what they hold; specs/Passing.antt and Program.antt say where to read on.
+/// reply to each request that was taken, at most the last one missing; there are 64 connections to the agent behind at
+/// most, and none that isn't needed: `passes`. Between two services of one thing each other thing is served that is
+/// ready all the while and can be served before the second: `fair`. `runs` says of each end which calls were made. The
+/// three stand where the files tell what they hold; specs/Passing.antt and Program.antt say where to read on.
 pub fn filter_main<R: Wait, F: Files, P: Pairs>(
     rt: &R,
     alloc: Global,

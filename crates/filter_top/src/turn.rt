@@ -1,8 +1,9 @@
 // The parts of a turn: each makes one call on the pairs, tells the filter what came of it, and closes what that closed.
-ghost use Rattle.std.specs.Prelude.{◌≡◌, ◌≤◌, OnOk, Some, length, take, true};
-ghost use Rattle.filter_model.specs.Filters.{Fits, step};
+ghost use Rattle.std.specs.Prelude.{◌≡◌, ◌≤◌, [], OnOk, Some, false, length, take, true};
+ghost use Rattle.filter_model.specs.Filters.{Fits, is_reached, step};
 ghost use Rattle.filter_model.specs.declared.thing.Thing.TheVariants.{Accept, Read, Write};
 ghost use Rattle.filter_model.specs.Answered.{Free, after_event, at, due_of};
+ghost use Rattle.pair_ports.specs.declared.side.Side.TheVariants.{Upstream};
 ghost use Rattle.world_ports.specs.Worlds.{read_room};
 ghost use Rattle.filter_model.specs.Lines.{first_servable, is_idle};
 ghost use Rattle.filter_core.specs.Happenings.{happening};
@@ -14,7 +15,7 @@ ghost use Rattle.world_ports.specs.Causes.{Rose};
 use crate::line::Line;
 use filter_core::{Filter, FilterEvent};
 use filter_model::Thing;
-use pair_ports::{PairReady, Pairs, Side};
+use pair_ports::{Linked, PairReady, Pairs, Side};
 use std::alloc::AllocError;
 use world_ports::{Accepted, Got, Polled, WorldFault, Wrote};
 
@@ -33,8 +34,8 @@ pub enum Turn {
 
 // Closes the pairs that the last event closed.
 fn close_all<P: Pairs>(line: &mut Line, filter: &Filter, pairs: &mut P) -> Result<(), AllocError>
-    ensures legal { Goes result (at filter.now line.old (due_of filter.now.closes))
-        (P.journal pairs.old) (P.journal pairs.new) (at filter.now line.new Free) }
+    ensures legal { Goes result (at filter.now line.old (due_of filter.now.closes filter.now.parts))
+        (P.journal pairs.old) (P.journal pairs.new) (at filter.now line.new (due_of [] filter.now.parts)) }
     ensures pairs { P.last_pair pairs.new ≡ P.last_pair pairs.old }
     ensures later { P.faults pairs.old ≤ P.faults pairs.new }
 {
@@ -47,7 +48,38 @@ fn close_all<P: Pairs>(line: &mut Line, filter: &Filter, pairs: &mut P) -> Resul
     Ok(())
 }
 
-// Tells the filter of an event, and closes the pairs that this closes.
+// Gives the connections back that the last event gave back.
+fn part_all<P: Pairs>(line: &mut Line, filter: &Filter, pairs: &mut P) -> Result<(), AllocError>
+    ensures legal { Goes result (at filter.now line.old (due_of [] filter.now.parts))
+        (P.journal pairs.old) (P.journal pairs.new) (at filter.now line.new Free) }
+    ensures pairs { P.last_pair pairs.new ≡ P.last_pair pairs.old }
+    ensures later { P.faults pairs.old ≤ P.faults pairs.new }
+{
+    'parting: for pair in filter.parts() {
+        let Ok(()) = pairs.disconnect(*pair) else {
+            return Err(AllocError);
+        };
+        let Ok(()) = line.part(*pair) else {
+            return Err(AllocError);
+        };
+    }
+    Ok(())
+}
+
+// Closes what the last event closed, and then gives back what it gave back.
+fn settle<P: Pairs>(line: &mut Line, filter: &Filter, pairs: &mut P) -> Result<(), AllocError>
+    ensures legal { Goes result (at filter.now line.old (due_of filter.now.closes filter.now.parts))
+        (P.journal pairs.old) (P.journal pairs.new) (at filter.now line.new Free) }
+    ensures pairs { P.last_pair pairs.new ≡ P.last_pair pairs.old }
+    ensures later { P.faults pairs.old ≤ P.faults pairs.new }
+{
+    let Ok(()) = close_all(line, filter, pairs) else {
+        return Err(AllocError);
+    };
+    part_all(line, filter, pairs)
+}
+
+// Tells the filter of an event, closes the pairs that this closes, and gives connections back.
 fn happen<P: Pairs>(
     line: &mut Line,
     filter: &mut Filter,
@@ -64,10 +96,10 @@ fn happen<P: Pairs>(
     let Ok(()) = filter.step(event) else {
         return Err(AllocError);
     };
-    close_all(line, filter, pairs)
+    settle(line, filter, pairs)
 }
 
-// Accepts a client, whose pair is ready on both sides.
+// Accepts a client, which is ready in both directions.
 fn accept<P: Pairs>(line: &mut Line, filter: &mut Filter, pairs: &mut P) -> Result<(), AllocError>
     requires next { first_servable filter.old line.old ≡ Some Accept }
     requires pairs { P.last_pair pairs.old ≡ filter.old.last_pair }
@@ -153,6 +185,40 @@ fn read<P: Pairs>(
     }
 }
 
+// Connects a pair to the agent behind.
+fn connect<P: Pairs>(
+    line: &mut Line,
+    filter: &mut Filter,
+    pairs: &mut P,
+    pair: u64,
+) -> Result<(), AllocError>
+    requires next { first_servable filter.old line.old ≡ Some (Write pair Upstream) }
+    requires apart { is_reached pair Upstream filter.old ≡ false }
+    requires pairs { P.last_pair pairs.old ≡ filter.old.last_pair }
+    ensures legal { GoesOn result (at filter.old line.old Free)
+        (P.journal pairs.old) (P.journal pairs.new) (at filter.new line.new Free) }
+    ensures pairs { OnOk result (P.last_pair pairs.new ≡ filter.new.last_pair) }
+    ensures later { P.faults pairs.old ≤ P.faults pairs.new }
+{
+    match pairs.connect(pair) {
+        Ok(Linked::Made) => {
+            let Ok(()) = line.send_back(Thing::Write(pair, Side::Upstream)) else {
+                return Err(AllocError);
+            };
+            happen(line, filter, pairs, &FilterEvent::Connected { pair })
+        }
+        Ok(Linked::NotNow) => {
+            line.remove(Thing::Write(pair, Side::Upstream));
+            Ok(())
+        }
+        Err(WorldFault::Failed) => {
+            line.remove(Thing::Write(pair, Side::Upstream));
+            happen(line, filter, pairs, &FilterEvent::Ended { pair })
+        }
+        Err(WorldFault::Memory) => Err(AllocError),
+    }
+}
+
 // Writes to a side what it is owed.
 fn write<P: Pairs>(
     line: &mut Line,
@@ -162,6 +228,7 @@ fn write<P: Pairs>(
     side: Side,
 ) -> Result<(), AllocError>
     requires next { first_servable filter.old line.old ≡ Some (Write pair side) }
+    requires reached { is_reached pair side filter.old ≡ true }
     requires pairs { P.last_pair pairs.old ≡ filter.old.last_pair }
     ensures legal { GoesOn result (at filter.old line.old Free)
         (P.journal pairs.old) (P.journal pairs.new) (at filter.new line.new Free) }
@@ -191,6 +258,27 @@ fn write<P: Pairs>(
         }
         Err(WorldFault::Memory) => Err(AllocError),
     }
+}
+
+// Writes to a side what it is owed, once it is connected.
+fn send<P: Pairs>(
+    line: &mut Line,
+    filter: &mut Filter,
+    pairs: &mut P,
+    pair: u64,
+    side: Side,
+) -> Result<(), AllocError>
+    requires next { first_servable filter.old line.old ≡ Some (Write pair side) }
+    requires pairs { P.last_pair pairs.old ≡ filter.old.last_pair }
+    ensures legal { GoesOn result (at filter.old line.old Free)
+        (P.journal pairs.old) (P.journal pairs.new) (at filter.new line.new Free) }
+    ensures pairs { OnOk result (P.last_pair pairs.new ≡ filter.new.last_pair) }
+    ensures later { P.faults pairs.old ≤ P.faults pairs.new }
+{
+    if filter.is_reached(pair, side) {
+        return write(line, filter, pairs, pair, side);
+    }
+    connect(line, filter, pairs, pair)
 }
 
 // Waits until something is ready.
@@ -248,7 +336,7 @@ pub fn serve_next<P: Pairs>(
     match line.first(filter) {
         Some(Thing::Accept) => served(accept(line, filter, pairs)),
         Some(Thing::Read(pair, side)) => served(read(line, filter, pairs, pair, side, room)),
-        Some(Thing::Write(pair, side)) => served(write(line, filter, pairs, pair, side)),
+        Some(Thing::Write(pair, side)) => served(send(line, filter, pairs, pair, side)),
         None => poll(line, filter, pairs, ready),
     }
 }

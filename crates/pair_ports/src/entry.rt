@@ -14,6 +14,15 @@ pub struct PairReady {
     pub writable: bool,
 }
 
+/// What an attempt to connect to the agent behind found.
+#[derive(Clone, Copy, Debug, PartialEq, Eq)]
+pub enum Linked {
+    /// The connection is made.
+    Made,
+    /// The agent behind has no place for it yet.
+    NotNow,
+}
+
 /// One call on pairs: its arguments and its answer. Prints nothing, since it carries what clients sent.
 #[derive(PartialEq, Eq, Drop)]
 pub enum PairEntry {
@@ -30,6 +39,10 @@ pub enum PairEntry {
     Accept {
         answer: Result<Accepted, WorldFault>,
     },
+    Connect {
+        pair: u64,
+        answer: Result<Linked, WorldFault>,
+    },
     /// The room is the slice's length, and the bytes are those that were given.
     Read {
         pair: u64,
@@ -44,6 +57,10 @@ pub enum PairEntry {
         side: Side,
         offered: Bytes,
         answer: Result<Wrote, WorldFault>,
+    },
+    Disconnect {
+        pair: u64,
+        answer: Result<(), AllocError>,
     },
     Close {
         pair: u64,

@@ -14,6 +14,7 @@ pub enum PairCue {
     Send { pair: u64, side: Side, bytes: Bytes },
     /// The peer at a side sends no more.
     Shut { pair: u64, side: Side },
-    /// From the first of these on a side takes only as many bytes as they add up to.
+    /// From the first of these on a side takes only as many bytes as they add up to. While it takes none, it takes no
+    /// connection either.
     Room { pair: u64, side: Side, count: u32 },
 }

@@ -1,6 +1,7 @@
 // Both connections of a pair.
 ghost use Rattle.std.specs.Prelude.{◌≡◌};
 ghost use Rattle.pair_script.specs.Ends.{new_ends, side_of};
+ghost use Rattle.world_ports.specs.Script.{new_pipe};
 
 use crate::pipe::Pipe;
 use pair_ports::Side;
@@ -29,6 +30,13 @@ impl Ends {
             client: Pipe::new(alloc),
             upstream: Pipe::new(alloc),
         }
+    }
+
+    // Another connection to the agent behind begins.
+    pub fn renew(&mut self, alloc: Global)
+        ensures { self.new ≡ record self.old { upstream = new_pipe } }
+    {
+        self.upstream = Pipe::new(alloc);
     }
 
     pub fn at(&self, side: Side) -> &Pipe

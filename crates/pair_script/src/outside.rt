@@ -1,12 +1,13 @@
 // What is there around pairs in memory: clients that wait, and what the peers of each pair sent and take.
 ghost use Rattle.std.specs.Prelude.{◌≡◌, ◌+◌, ◌-◌, ◌^◌, ◌<◌, IfOk, take};
-ghost use Rattle.pair_script.specs.Ends.{end_of};
+ghost use Rattle.pair_ports.specs.declared.side.Side.TheVariants.{Upstream};
+ghost use Rattle.pair_script.specs.Ends.{end_of, next_linked};
 ghost use Rattle.world_ports.specs.Script.{next_accepted, next_got, next_wrote};
 
 use crate::PairCue;
 use crate::ends::Ends;
 use crate::pipe::Pipe;
-use pair_ports::{PairReady, Side};
+use pair_ports::{Linked, PairReady, Side};
 use std::alloc::{AllocError, Global};
 use std::collections::BTreeMap;
 use world_ports::{Accepted, Got, Wrote};
@@ -141,6 +142,16 @@ impl Outside {
         self.waiting = self.waiting.saturating_sub(1);
     }
 
+    // What a connect is answered: there is a place where there is room for a byte.
+    pub fn next_linked(&self, pair: u64) -> Linked
+        ensures { result ≡ next_linked (end_of self.now.pairs pair Upstream) }
+    {
+        match self.next_wrote(pair, Side::Upstream, 1) {
+            Wrote::Took(_) => Linked::Made,
+            Wrote::NotNow => Linked::NotNow,
+        }
+    }
+
     // What a read is answered.
     pub fn next_got(&self, pair: u64, side: Side, room: usize) -> Got
         requires { 0 < room }
@@ -190,6 +201,15 @@ impl Outside {
     {
         if let Some(ends) = self.pairs.get_mut(&pair) {
             ends.at_mut(side).fill(n);
+        }
+    }
+
+    // What the peer of the agent behind sent over the connection is lost.
+    pub fn disconnect(&mut self, pair: u64)
+        ensures { self.new ≡ record self.old { pairs = self.new.pairs } }
+    {
+        if let Some(ends) = self.pairs.get_mut(&pair) {
+            ends.renew(self.alloc);
         }
     }
 

@@ -2,7 +2,8 @@
 ghost use Rattle.std.specs.Prelude.{◌≡◌, ◌++◌, ◌∷◌, ◌<◌, ◌-◌, ◌^◌, [], IfOk, OnOk, OnErr, Some, length, take, vec_len};
 ghost use Rattle.pair_ports.specs.declared.entry.PairEntry.{PairEntry};
 ghost use Rattle.pair_ports.specs.declared.entry.PairEntry.TheVariants as entry;
-ghost use Rattle.pair_script.specs.Ends.{end_of};
+ghost use Rattle.pair_ports.specs.declared.side.Side.TheVariants.{Upstream};
+ghost use Rattle.pair_script.specs.Ends.{end_of, next_linked};
 ghost use Rattle.world_ports.specs.Journal.{Tells, got_of, is_short};
 ghost use Rattle.world_ports.specs.Memory.{FailsAsListed};
 ghost use Rattle.world_ports.specs.Script.{next_accepted, next_got, next_polled, next_wrote};
@@ -11,7 +12,7 @@ ghost use Rattle.world_ports.specs.Worlds.{GotWithin, IsCounted, KeepsRest, Numb
 use crate::PairCue;
 use crate::calls::Calls;
 use crate::outside::Outside;
-use pair_ports::{PairEntry, PairReady, Pairs, Side};
+use pair_ports::{Linked, PairEntry, PairReady, Pairs, Side};
 use plain_lists::{Bytes, PlainList};
 use std::alloc::{AllocError, Global};
 use world_ports::{Accepted, Got, Polled, WorldFault, Wrote};
@@ -145,6 +146,22 @@ impl Pairs for PairScript {
         answer
     }
 
+    fn connect(&mut self, pair: u64) -> Result<Linked, WorldFault>
+        ensures told { Tells (Some self.old.journal.items) (Some self.new.journal.items)
+            (is_short result) (entry.Connect pair result) }
+        ensures cause { IsCounted self.old.calls.failed self.new.calls.failed result }
+        ensures pairs { self.new.outside.last_pair ≡ self.old.outside.last_pair }
+        ensures fails { FailsAsListed self.old.calls result }
+        ensures answer { IfOk result (λ linked. linked ≡ next_linked (end_of self.old.outside.pairs pair Upstream)) }
+    {
+        let answer = match self.calls.begin() {
+            Ok(()) => Ok(self.outside.next_linked(pair)),
+            Err(_) => Err(WorldFault::Failed),
+        };
+        self.put(PairEntry::Connect { pair, answer })?;
+        answer
+    }
+
     fn read(&mut self, pair: u64, side: Side, room: &mut [u8]) -> Result<Got, WorldFault>
         requires { 0 < length room.old }
         ensures told { Tells (Some self.old.journal.items) (Some self.new.journal.items)
@@ -207,6 +224,15 @@ impl Pairs for PairScript {
             self.outside.fill(pair, side, n);
         }
         answer
+    }
+
+    fn disconnect(&mut self, pair: u64) -> Result<(), AllocError> {
+        self.put(PairEntry::Disconnect {
+            pair,
+            answer: Ok(()),
+        })?;
+        self.outside.disconnect(pair);
+        Ok(())
     }
 
     fn close(&mut self, pair: u64) -> Result<(), AllocError> {

@@ -1,4 +1,4 @@
-// Both connections of a pair, and their tokens.
+// The connections of a pair, and their tokens.
 use mio::Token;
 use pair_ports::Side;
 use unix_world::Port;
@@ -9,23 +9,37 @@ pub const LISTENER: Token = Token(0);
 // No pair has a number from here on: each side has a token.
 pub const PAST_LAST: u64 = 1 << 62;
 
-/// A client's connection, and the one to the agent behind.
+/// A client's connection, and at times one to the agent behind.
 #[derive(Drop)]
 pub struct Connected {
     client: Port,
-    upstream: Port,
+    upstream: Option<Port>,
 }
 
 impl Connected {
-    pub fn new(client: Port, upstream: Port) -> Connected {
-        Connected { client, upstream }
+    pub fn new(client: Port) -> Connected {
+        Connected {
+            client,
+            upstream: None,
+        }
     }
 
-    pub fn side(&mut self, side: Side) -> &mut Port {
+    /// The connection of a side, where there is one.
+    pub fn side(&mut self, side: Side) -> Option<&mut Port> {
         match side {
-            Side::Client => &mut self.client,
-            Side::Upstream => &mut self.upstream,
+            Side::Client => Some(&mut self.client),
+            Side::Upstream => self.upstream.as_mut(),
         }
+    }
+
+    /// The connection to the agent behind was made.
+    pub fn link(&mut self, upstream: Port) {
+        self.upstream = Some(upstream);
+    }
+
+    /// The connection to the agent behind is closed.
+    pub fn part(&mut self) {
+        self.upstream = None;
     }
 }
 

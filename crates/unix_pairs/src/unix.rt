@@ -6,7 +6,7 @@ ghost use Rattle.world_ports.specs.Worlds.{OnFailed, NumbersPort, GotWithin, Kee
 use crate::connected::{Connected, LISTENER, PAST_LAST, token_of};
 use mio::net::UnixStream;
 use mio::{Events, Interest, Poll};
-use pair_ports::{PairReady, Pairs, Side};
+use pair_ports::{Linked, PairReady, Pairs, Side};
 use std::alloc::{AllocError, Global};
 use std::collections::HashMap;
 use std::fs::{File, Files};
@@ -27,8 +27,8 @@ const MOST_PAIRS: usize = 128;
 ///
 /// A connection is registered for reading; for writing only once a write found no room. Between two polls each side of
 /// a pair is read once, and the listener gives a bounded number of connections; where that may leave something waiting,
-/// the next poll tells of it and doesn't wait. Who connects while as many pairs are open as may be waits. A client
-/// whose other side can't be connected is closed at once, and the next poll tells of the listener again.
+/// the next poll tells of it and doesn't wait. Who connects while as many pairs are open as may be waits. A pair for which
+/// the agent behind has no place is told of by the next poll, which waits 20 milliseconds at the most.
 #[derive(Drop)]
 pub struct UnixPairs<'a, R> {
     rt: &'a R,
@@ -44,6 +44,8 @@ pub struct UnixPairs<'a, R> {
     pub(crate) round: u64,
     // The sides of which the next poll has to tell.
     pub(crate) owed: Vec<(u64, Side)>,
+    // The pairs that found no place at the agent behind since the last poll.
+    pub(crate) waiting: Vec<u64>,
     pub(crate) last_pair: u64,
     pub(crate) faults: u64,
 }
@@ -65,6 +67,7 @@ impl<'a, R: Net> UnixPairs<'a, R> {
             inbox: vec![in alloc; 0; READ_ROOM]?,
             round: 1,
             owed: Vec::new(alloc),
+            waiting: Vec::new(alloc),
             last_pair: 0,
             faults: 0,
         })
@@ -105,6 +108,8 @@ impl<R: Files<File = File> + Net + Clock> UnixPairs<'_, R> {
         self.file = Some(BoundFile {
             path,
             lock,
+            // A filter asks nobody: no relay of it takes turns.
+            questions: String::new(self.alloc),
             device,
             inode,
         });
@@ -152,30 +157,6 @@ impl<R: Files<File = File> + Net + Clock> UnixPairs<'_, R> {
         }
     }
 
-    // The connection of a client to the agent behind. Where there is none, others may wait at the listener still.
-    fn connect(&mut self) -> io::Result<UnixStream>
-        ensures faults { self.new.faults ≡ self.old.faults }
-        ensures pairs { self.new.last_pair ≡ self.old.last_pair }
-    {
-        match UnixStream::connect(self.rt, self.upstream.as_str()) {
-            Ok(stream) => Ok(stream),
-            Err(error) => {
-                self.owe_listener();
-                Err(error)
-            }
-        }
-    }
-
-    // The next poll has to tell of the listener.
-    fn owe_listener(&mut self)
-        ensures faults { self.new.faults ≡ self.old.faults }
-        ensures pairs { self.new.last_pair ≡ self.old.last_pair }
-    {
-        if let Some(listener) = &mut self.listener {
-            listener.is_owed = true;
-        }
-    }
-
     // Makes the pair of this number. Whether a client waits.
     fn join(&mut self, number: u64) -> io::Result<bool>
         ensures faults { self.new.faults ≡ self.old.faults }
@@ -185,13 +166,9 @@ impl<R: Files<File = File> + Net + Clock> UnixPairs<'_, R> {
         let Some(client) = self.next_client()? else {
             return Ok(false);
         };
-        let upstream = self.connect()?;
-        let registry = self.poll.registry();
-        let client = Port::new(registry, token_of(number, Side::Client), client)?;
-        let upstream = Port::new(registry, token_of(number, Side::Upstream), upstream)?;
-        let connected = Connected::new(client, upstream);
+        let client = Port::new(self.poll.registry(), token_of(number, Side::Client), client)?;
         self.pairs
-            .insert(number, connected)
+            .insert(number, Connected::new(client))
             .map_err(AllocError::from)?;
         Ok(true)
     }
@@ -210,6 +187,28 @@ impl<R: Files<File = File> + Net + Clock> UnixPairs<'_, R> {
         Ok(Accepted::Port(number))
     }
 
+    // Connects the pair to the agent behind, where that has a place.
+    fn link(&mut self, pair: u64) -> io::Result<Linked>
+        ensures faults { self.new.faults ≡ self.old.faults }
+        ensures pairs { self.new.last_pair ≡ self.old.last_pair }
+    {
+        let Some(connected) = self.pairs.get_mut(&pair) else {
+            return Err(Error::from(ErrorKind::NotFound));
+        };
+        match UnixStream::connect(self.rt, self.upstream.as_str()) {
+            Ok(stream) => {
+                let token = token_of(pair, Side::Upstream);
+                connected.link(Port::new(self.poll.registry(), token, stream)?);
+                Ok(Linked::Made)
+            }
+            Err(error) if error.kind() == ErrorKind::WouldBlock => {
+                self.waiting.push(pair)?;
+                Ok(Linked::NotNow)
+            }
+            Err(error) => Err(error),
+        }
+    }
+
     fn read_from(&mut self, pair: u64, side: Side, room: &mut [u8]) -> io::Result<Got>
         requires { 0 < length room.old }
         ensures within { IfOk result (λ got. GotWithin (Ok got) (length room.old)) }
@@ -221,7 +220,9 @@ impl<R: Files<File = File> + Net + Clock> UnixPairs<'_, R> {
         let Some(connected) = self.pairs.get_mut(&pair) else {
             return Err(Error::from(ErrorKind::NotFound));
         };
-        let port = connected.side(side);
+        let Some(port) = connected.side(side) else {
+            return Err(Error::from(ErrorKind::NotConnected));
+        };
         if port.marks.asks(self.round) {
             return port.read(self.round, &mut self.inbox, room);
         }
@@ -237,12 +238,12 @@ impl<R: Files<File = File> + Net + Clock> UnixPairs<'_, R> {
         ensures faults { self.new.faults ≡ self.old.faults }
         ensures pairs { self.new.last_pair ≡ self.old.last_pair }
     {
-        match self.pairs.get_mut(&pair) {
-            Some(connected) => {
-                let port = connected.side(side);
-                port.write(self.poll.registry(), token_of(pair, side), bytes)
-            }
-            None => Err(Error::from(ErrorKind::NotFound)),
+        let Some(connected) = self.pairs.get_mut(&pair) else {
+            return Err(Error::from(ErrorKind::NotFound));
+        };
+        match connected.side(side) {
+            Some(port) => port.write(self.poll.registry(), token_of(pair, side), bytes),
+            None => Err(Error::from(ErrorKind::NotConnected)),
         }
     }
 
@@ -290,6 +291,13 @@ impl<R: Files<File = File> + Net + Clock> Pairs for UnixPairs<'_, R> {
         }
     }
 
+    fn connect(&mut self, pair: u64) -> Result<Linked, WorldFault> {
+        match self.link(pair) {
+            Ok(linked) => Ok(linked),
+            Err(error) => Err(self.fault_of(&error)),
+        }
+    }
+
     fn read(&mut self, pair: u64, side: Side, room: &mut [u8]) -> Result<Got, WorldFault> {
         match self.read_from(pair, side, room) {
             Ok(got) => Ok(got),
@@ -302,6 +310,13 @@ impl<R: Files<File = File> + Net + Clock> Pairs for UnixPairs<'_, R> {
             Ok(wrote) => Ok(wrote),
             Err(error) => Err(self.fault_of(&error)),
         }
+    }
+
+    fn disconnect(&mut self, pair: u64) -> Result<(), AllocError> {
+        if let Some(connected) = self.pairs.get_mut(&pair) {
+            connected.part();
+        }
+        Ok(())
     }
 
     fn close(&mut self, pair: u64) -> Result<(), AllocError> {

@@ -9,6 +9,9 @@ use std::io;
 use std::net::Net;
 use std::time::{Clock, Duration};
 
+// How long a pair waits for a place at the agent behind before it tries again, in milliseconds.
+const RETRY: u64 = 20;
+
 // What epoll told of: the listener, or a side of a pair.
 fn item_of(event: &mio::event::Event) -> PairReady {
     let (pair, side) = side_of(event.token());
@@ -24,6 +27,16 @@ fn item_of(event: &mio::event::Event) -> PairReady {
     }
 }
 
+// A pair may be connected to the agent behind.
+fn room_at(pair: u64) -> PairReady {
+    PairReady {
+        pair: Some(pair),
+        side: Side::Upstream,
+        readable: false,
+        writable: true,
+    }
+}
+
 // There is something to be read at a side, or a connection at the listener.
 fn ready_at(pair: Option<u64>, side: Side) -> PairReady {
     PairReady {
@@ -35,15 +48,18 @@ fn ready_at(pair: Option<u64>, side: Side) -> PairReady {
 }
 
 impl<R: Files<File = File> + Net + Clock> UnixPairs<'_, R> {
-    // How long a poll waits: not at all where it has to tell of something, and a second at the most while the listener is
-    // stuck.
-    fn most_seconds(&self) -> Option<u64> {
+    // How long a poll waits, in milliseconds: not at all where it has to tell of something, 20 at the most while a pair
+    // waits for a place at the agent behind, and a second while the listener is stuck.
+    fn most_millis(&self) -> Option<u64> {
         let listener = self.listener.as_ref();
         if !self.owed.is_empty() || listener.is_some_and(|listener| listener.is_owed) {
             return Some(0);
         }
+        if !self.waiting.is_empty() {
+            return Some(RETRY);
+        }
         if listener.is_some_and(|listener| listener.is_stuck) {
-            return Some(1);
+            return Some(1000);
         }
         None
     }
@@ -56,11 +72,12 @@ impl<R: Files<File = File> + Net + Clock> UnixPairs<'_, R> {
         for event in self.events.iter() {
             let (pair, side) = side_of(event.token());
             if let Some(connected) = self.pairs.get_mut(&pair) {
-                let port = connected.side(side);
-                if event.is_read_closed() || event.is_error() {
-                    port.marks.shut();
-                } else if event.is_readable() {
-                    port.marks.wake();
+                if let Some(port) = connected.side(side) {
+                    if event.is_read_closed() || event.is_error() {
+                        port.marks.shut();
+                    } else if event.is_readable() {
+                        port.marks.wake();
+                    }
                 }
             }
         }
@@ -78,6 +95,10 @@ impl<R: Files<File = File> + Net + Clock> UnixPairs<'_, R> {
             out.push(ready_at(Some(*pair), *side))?;
         }
         self.owed.clear();
+        for pair in self.waiting.iter() {
+            out.push(room_at(*pair))?;
+        }
+        self.waiting.clear();
         self.round = self.round.wrapping_add(1);
         if let Some(listener) = &mut self.listener {
             if listener.renew() {
@@ -92,9 +113,9 @@ impl<R: Files<File = File> + Net + Clock> UnixPairs<'_, R> {
         ensures pairs { self.new.last_pair ≡ self.old.last_pair }
     {
         out.clear();
-        let most = self.most_seconds();
+        let most = self.most_millis();
         self.poll
-            .poll(&mut self.events, most.map(Duration::from_secs))?;
+            .poll(&mut self.events, most.map(Duration::from_millis))?;
         self.note();
         self.tell(out)
     }

@@ -12,29 +12,31 @@ returns-in_default-clause-legal g c =
     let state = c.args.filter.now in
     let line = c.closing.line in
     let items = c.closes-pair-items.result.now in
+    let parts = c.args.filter.now.parts in
     let pair = get_or items c.closing.pair-index 0 in
     let later = drop (c.closing.pair-index + 1) items in
-    let due = due-drop items c.closing.pair-index c.closing-test.true in
-    let before = lands_at (at state line (due_of (drop c.closing.pair-index items))) (at state line (Closing pair later))
+    let due = due-drop items parts c.closing.pair-index c.closing-test.true in
+    let before = lands_at (at state line (due_of (drop c.closing.pair-index items) parts)) (at state line (Closing pair later parts))
     (ap (λ (d : Due). at state line d) due) c.closing.invariant.calls in
-    stops_later before (stops_short (at state line (Closing pair later)) (after_close pair later state line c.close.result)
+    stops_later before (stops_short (at state line (Closing pair later parts)) (after_close pair later parts state line c.close.result)
     (g.P.Pairs.journal c.closing.pairs) (g.P.Pairs.journal c.close.new.self) (is_err c.close.result) (entry.Close pair c.close.result)
-    (close_any state line pair later c.close.result) c.close.ensures.told)
+    (close_any state line pair later parts c.close.result) c.close.ensures.told)
 
 pub closing-preserved : goal.closing-preserved
 closing-preserved g c =
     let state = c.args.filter.now in
     let line = c.closing.line in
     let items = c.closes-pair-items.result.now in
+    let parts = c.args.filter.now.parts in
     let pair = get_or items c.closing.pair-index 0 in
     let later = drop (c.closing.pair-index + 1) items in
-    let due = due-drop items c.closing.pair-index c.closing-test.true in
-    let before = lands_at (at state line (due_of (drop c.closing.pair-index items))) (at state line (Closing pair later))
+    let due = due-drop items parts c.closing.pair-index c.closing-test.true in
+    let before = lands_at (at state line (due_of (drop c.closing.pair-index items) parts)) (at state line (Closing pair later parts))
     (ap (λ (d : Due). at state line d) due) c.closing.invariant.calls in
     record {
-      calls = moves_on before (one_call (at state line (Closing pair later)) (at state c.close-in-closing.new.self (due_of later))
+      calls = moves_on before (one_call (at state line (Closing pair later parts)) (at state c.close-in-closing.new.self (due_of later parts))
           (g.P.Pairs.journal c.closing.pairs) (g.P.Pairs.journal c.close.new.self) (entry.Close pair (Ok tt))
-          (close_any state line pair later (Ok tt) ∙ ap (λ (l : List Thing). Some (at state l (due_of later))) (sym c.close-in-closing.ensures))
+          (close_any state line pair later parts (Ok tt) ∙ ap (λ (l : List Thing). Some (at state l (due_of later parts))) (sym c.close-in-closing.ensures))
           c.in-Ok.ensures.told);
       pairs = c.close.ensures.pairs ∙ c.closing.invariant.pairs;
       later = omega (arith, c.close.ensures.cause, c.closing.invariant.later);

@@ -12,9 +12,9 @@ returns-in_default-clause-legal g c =
 
 pub returns-clause-legal : goal.returns-clause-legal
 returns-clause-legal g c =
-    subst (λ (s : State). Goes c.close_all.result (at s c.args.line.now (due_of s.closes)) (g.P.Pairs.journal c.args.pairs.now) (g.P.Pairs.journal c.close_all.new.pairs)
-    (at c.step.new.self c.close_all.new.line Free)) c.in-Ok.ensures c.close_all.ensures.legal
+    subst (λ (s : State). Goes c.settle.result (at s c.args.line.now (due_of s.closes s.parts)) (g.P.Pairs.journal c.args.pairs.now) (g.P.Pairs.journal c.settle.new.pairs)
+    (at c.step.new.self c.settle.new.line Free)) c.in-Ok.ensures c.settle.ensures.legal
 
 pub returns-clause-pairs : goal.returns-clause-pairs
 returns-clause-pairs g c =
-    on_ok c.close_all.result (c.close_all.ensures.pairs ∙ c.requires.pairs ∙ ap (λ (s : State). s.last_pair) (sym c.in-Ok.ensures))
+    on_ok c.settle.result (c.settle.ensures.pairs ∙ c.requires.pairs ∙ ap (λ (s : State). s.last_pair) (sym c.in-Ok.ensures))

@@ -11,14 +11,14 @@ use Rattle.pair_ports.specs.declared.entry.PairEntry.TheVariants as entry
 use Rattle.filter_model.specs.declared.thing.Thing.{Thing}
 use Rattle.filter_model.specs.Filters.{Ended, Heard}
 use Rattle.filter_model.specs.Answered.{Free, after_event, after_read, at}
-use Rattle.filter_top.proofs.CallLemmas.{got_is, read_any, read_open}
+use Rattle.filter_top.proofs.CallLemmas.{got_is, read_any, read_open, read_reached}
 use Rattle.filter_top.proofs.MoveLemmas.{call_then, first_call, one_call, stops_short, stops_there, told_at}
 use Rattle.filter_top.proofs.turn.read.Goals as goal
 
 pub happen-heard-requires-clause-fits : goal.happen-heard-requires-clause-fits
 happen-heard-requires-clause-fits g c =
     let within = subst (λ r. GotWithin r (length c.args.room.now)) (c.in-Ok-Bytes.is ∙ ap Ok c.in-Ok-Bytes.field-0-is) c.read.ensures.within in (
-      read_open c.args.filter.now c.args.line.now c.args.pair c.args.side c.requires.next,
+      read_reached c.args.filter.now c.args.line.now c.args.pair c.args.side c.requires.next,
       rw c.front_of-piece.ensures.front (omega (arith, length-take c.in-Ok-Bytes.n c.read.new.room, within.0, within.1)),
     )
 

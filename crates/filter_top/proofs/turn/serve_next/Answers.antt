@@ -34,12 +34,12 @@ returns-in-Some-Read-clause-cause g c = λ refused. absurd (never_refused c.read
 pub returns-in-Some-Write-clause-legal : goal.returns-in-Some-Write-clause-legal
 returns-in-Some-Write-clause-legal g c =
     let from = at c.args.filter.now c.args.line.now Free in
-    let to = at c.write.new.filter c.write.new.line Free in
-    subst (λ (t : Turn). Turns t from (g.P.Pairs.journal c.args.pairs.now) (g.P.Pairs.journal c.write.new.pairs) to) (sym c.served-in-Some-Write.ensures)
-    (served_turns c.write.result from to (g.P.Pairs.journal c.args.pairs.now) (g.P.Pairs.journal c.write.new.pairs) c.write.ensures.legal)
+    let to = at c.send.new.filter c.send.new.line Free in
+    subst (λ (t : Turn). Turns t from (g.P.Pairs.journal c.args.pairs.now) (g.P.Pairs.journal c.send.new.pairs) to) (sym c.served-in-Some-Write.ensures)
+    (served_turns c.send.result from to (g.P.Pairs.journal c.args.pairs.now) (g.P.Pairs.journal c.send.new.pairs) c.send.ensures.legal)
 
 pub returns-in-Some-Write-clause-pairs : goal.returns-in-Some-Write-clause-pairs
-returns-in-Some-Write-clause-pairs g c = served_ok c.write.result c.served-in-Some-Write.result c.served-in-Some-Write.ensures c.write.ensures.pairs
+returns-in-Some-Write-clause-pairs g c = served_ok c.send.result c.served-in-Some-Write.result c.served-in-Some-Write.ensures c.send.ensures.pairs
 
 pub returns-in-Some-Write-clause-cause : goal.returns-in-Some-Write-clause-cause
-returns-in-Some-Write-clause-cause g c = λ refused. absurd (never_refused c.write.result c.served-in-Some-Write.result c.served-in-Some-Write.ensures refused)
+returns-in-Some-Write-clause-cause g c = λ refused. absurd (never_refused c.send.result c.served-in-Some-Write.result c.served-in-Some-Write.ensures refused)

@@ -18,7 +18,7 @@ write-requires g c = rw c.owed.ensures (write_some c.args.filter.now c.args.line
 pub happen-requires-clause-fits : goal.happen-requires-clause-fits
 happen-requires-clause-fits g c =
     let within = subst (λ r. TookWithin r (length c.owed.result.now)) (c.in-Ok-Took.is ∙ ap Ok c.in-Ok-Took.field-0-is) c.write.ensures.within in
-    (within.0, rw (← c.owed.ensures) within.1)
+    (c.requires.reached, (within.0, rw (← c.owed.ensures) within.1))
 
 pub happen-requires-in-Err-Failed-clause-fits : goal.happen-requires-in-Err-Failed-clause-fits
 happen-requires-in-Err-Failed-clause-fits g c = write_open c.args.filter.now c.args.line.now c.args.pair c.args.side c.requires.next
@@ -29,7 +29,7 @@ returns-in_default-clause-legal g c =
     let line = c.args.line.now in
     let answer : Result Wrote WorldFault = Ok (wrote.Took c.in-Ok-Took.n) in
     stops_there (one_call (at state line Free) (after_write c.args.pair c.args.side state line answer) (g.P.Pairs.journal c.args.pairs.now) (g.P.Pairs.journal c.write.new.self)
-    (entry.Write c.args.pair c.args.side c.owed.result.now answer) (write_any state line c.args.pair c.args.side c.owed.result.now answer c.requires.next c.owed.ensures (taken_is c.owed.result.now c.in-Ok-Took.n
+    (entry.Write c.args.pair c.args.side c.owed.result.now answer) (write_any state line c.args.pair c.args.side c.owed.result.now answer c.requires.next c.requires.reached c.owed.ensures (taken_is c.owed.result.now c.in-Ok-Took.n
     (subst (λ r. TookWithin r (length c.owed.result.now)) (c.in-Ok-Took.is ∙ ap Ok c.in-Ok-Took.field-0-is) c.write.ensures.within)))
     (told_at (λ r. entry.Write c.args.pair c.args.side c.owed.result.now r) (g.P.Pairs.journal c.args.pairs.now) (g.P.Pairs.journal c.write.new.self)
     (c.in-Ok-Took.is ∙ ap Ok c.in-Ok-Took.field-0-is) c.write.ensures.told))
@@ -41,7 +41,7 @@ returns-in-Ok-clause-legal g c =
     let answer : Result Wrote WorldFault = Ok (wrote.Took c.in-Ok-Took.n) in
     call_then c.happen.result (at state line Free) (after_event (Took c.args.pair c.args.side c.in-Ok-Took.n) state c.send_back.new.self) (at c.happen.new.filter c.happen.new.line Free)
     (g.P.Pairs.journal c.args.pairs.now) (g.P.Pairs.journal c.write.new.self) (g.P.Pairs.journal c.happen.new.pairs) (entry.Write c.args.pair c.args.side c.owed.result.now answer)
-    (write_any state line c.args.pair c.args.side c.owed.result.now answer c.requires.next c.owed.ensures (taken_is c.owed.result.now c.in-Ok-Took.n
+    (write_any state line c.args.pair c.args.side c.owed.result.now answer c.requires.next c.requires.reached c.owed.ensures (taken_is c.owed.result.now c.in-Ok-Took.n
     (subst (λ r. TookWithin r (length c.owed.result.now)) (c.in-Ok-Took.is ∙ ap Ok c.in-Ok-Took.field-0-is) c.write.ensures.within)) ∙ ap (λ (l : List Thing). Some (after_event (Took c.args.pair c.args.side c.in-Ok-Took.n) state l)) (sym c.in-Ok.ensures))
     (told_at (λ r. entry.Write c.args.pair c.args.side c.owed.result.now r) (g.P.Pairs.journal c.args.pairs.now) (g.P.Pairs.journal c.write.new.self)
     (c.in-Ok-Took.is ∙ ap Ok c.in-Ok-Took.field-0-is) c.write.ensures.told)
@@ -53,7 +53,7 @@ returns-in-Ok-NotNow-clause-legal g c =
     let line = c.args.line.now in
     let answer : Result Wrote WorldFault = Ok wrote.NotNow in
     first_call (at state line Free) (at state c.remove.new.self Free) (g.P.Pairs.journal c.args.pairs.now) (g.P.Pairs.journal c.write.new.self)
-    (entry.Write c.args.pair c.args.side c.owed.result.now answer) (write_any state line c.args.pair c.args.side c.owed.result.now answer c.requires.next c.owed.ensures refl ∙ ap (λ (l : List Thing). Some (at state l Free)) (sym c.remove.ensures))
+    (entry.Write c.args.pair c.args.side c.owed.result.now answer) (write_any state line c.args.pair c.args.side c.owed.result.now answer c.requires.next c.requires.reached c.owed.ensures refl ∙ ap (λ (l : List Thing). Some (at state l Free)) (sym c.remove.ensures))
     (told_at (λ r. entry.Write c.args.pair c.args.side c.owed.result.now r) (g.P.Pairs.journal c.args.pairs.now) (g.P.Pairs.journal c.write.new.self)
     (c.in-Ok-NotNow.is ∙ ap Ok c.in-Ok-NotNow.field-0-is) c.write.ensures.told)
 
@@ -64,7 +64,7 @@ returns-in-Err-Failed-clause-legal g c =
     let answer : Result Wrote WorldFault = Err Failed in
     call_then c.happen-in-Err-Failed.result (at state line Free) (after_event (Ended c.args.pair) state c.remove-in-Err-Failed.new.self) (at c.happen-in-Err-Failed.new.filter c.happen-in-Err-Failed.new.line Free)
     (g.P.Pairs.journal c.args.pairs.now) (g.P.Pairs.journal c.write.new.self) (g.P.Pairs.journal c.happen-in-Err-Failed.new.pairs) (entry.Write c.args.pair c.args.side c.owed.result.now answer)
-    (write_any state line c.args.pair c.args.side c.owed.result.now answer c.requires.next c.owed.ensures refl ∙ ap (λ (l : List Thing). Some (after_event (Ended c.args.pair) state l)) (sym c.remove-in-Err-Failed.ensures))
+    (write_any state line c.args.pair c.args.side c.owed.result.now answer c.requires.next c.requires.reached c.owed.ensures refl ∙ ap (λ (l : List Thing). Some (after_event (Ended c.args.pair) state l)) (sym c.remove-in-Err-Failed.ensures))
     (told_at (λ r. entry.Write c.args.pair c.args.side c.owed.result.now r) (g.P.Pairs.journal c.args.pairs.now) (g.P.Pairs.journal c.write.new.self)
     (c.in-Err-Failed.is ∙ ap Err c.in-Err-Failed.field-0-is) c.write.ensures.told)
     c.happen-in-Err-Failed.ensures.legal
@@ -75,6 +75,6 @@ returns-in-Err-Memory-clause-legal g c =
     let line = c.args.line.now in
     let answer : Result Wrote WorldFault = Err Memory in
     stops_short (at state line Free) (after_write c.args.pair c.args.side state line answer) (g.P.Pairs.journal c.args.pairs.now) (g.P.Pairs.journal c.write.new.self) true
-    (entry.Write c.args.pair c.args.side c.owed.result.now answer) (write_any state line c.args.pair c.args.side c.owed.result.now answer c.requires.next c.owed.ensures refl)
+    (entry.Write c.args.pair c.args.side c.owed.result.now answer) (write_any state line c.args.pair c.args.side c.owed.result.now answer c.requires.next c.requires.reached c.owed.ensures refl)
     (told_at (λ r. entry.Write c.args.pair c.args.side c.owed.result.now r) (g.P.Pairs.journal c.args.pairs.now) (g.P.Pairs.journal c.write.new.self)
     (c.in-Err-Memory.is ∙ ap Err c.in-Err-Memory.field-0-is) c.write.ensures.told)

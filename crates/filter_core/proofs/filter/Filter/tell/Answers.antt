@@ -37,9 +37,9 @@ invariant_of-self-in-false c =
 pub returns-in-true : goal.returns-in-true
 returns-in-true c =
     let is = rw c.deref.ensures.value at c.in-Some.ensures in
-    rw (← c.self.view_is) (tells_open (blobs_of c.self.inside.listed) c.self.inside.slots.items c.self.inside.last c.self.inside.closed.items c.args.pair c.in-Some.place
+    rw (← c.self.view_is) (after_ok c.note_parted.result (λ noted. tells_open (blobs_of c.self.inside.listed) c.self.inside.slots.items c.self.inside.last c.self.inside.closed.items c.self.inside.parted.items c.note_parted.new.noted.items c.args.pair c.in-Some.place
     (happening c.args.event.now) c.index_mut-slot.result.now c.tell.new.slot c.in_ok-tell-in-Some.field-0 is c.index_mut-slot.ensures.value c.tell.ensures.number
-    c.in_ok-tell-in-Some.ensures.looked c.in-true.is (rw (← c.self.view_is) at c.requires.closes))
+    c.in_ok-tell-in-Some.ensures.looked c.in-true.is (rw (← c.self.view_is) at c.requires.closes) (rw (← c.self.view_is) at c.requires.parts) noted) c.note_parted.ensures)
 
 pub returns-in-false : goal.returns-in-false
 returns-in-false c =
@@ -47,9 +47,10 @@ returns-in-false c =
     let listed = blobs_of c.self.inside.listed in
     let slots = c.self.inside.slots.items in
     let last = c.self.inside.last in
+    let parts = c.self.inside.parted.items in
     rw (← c.self.view_is) (after_ok c.close.result (λ closed.
-    ap (λ (l : List Slot). state_of listed l last c.close.new.closed.items) c.close.ensures.slots
-    ∙ ap (λ (l : List ℕ). state_of listed (remove (set slots c.in-Some.place c.tell.new.slot) c.in-Some.place) last l) closed
-    ∙ tells_closed listed slots last c.self.inside.closed.items c.args.pair c.in-Some.place (happening c.args.event.now) c.index_mut-slot.result.now c.tell.new.slot c.in_ok-tell-in-Some.field-0
-    is c.index_mut-slot.ensures.value c.tell.ensures.number c.in_ok-tell-in-Some.ensures.looked c.in-false.is (rw (← c.self.view_is) at c.requires.closes))
+    ap (λ (l : List Slot). state_of listed l last c.close.new.closed.items parts) c.close.ensures.slots
+    ∙ ap (λ (l : List ℕ). state_of listed (remove (set slots c.in-Some.place c.tell.new.slot) c.in-Some.place) last l parts) closed
+    ∙ tells_closed listed slots last c.self.inside.closed.items parts c.args.pair c.in-Some.place (happening c.args.event.now) c.index_mut-slot.result.now c.tell.new.slot c.in_ok-tell-in-Some.field-0
+    is c.index_mut-slot.ensures.value c.tell.ensures.number c.in_ok-tell-in-Some.ensures.looked c.in-false.is (rw (← c.self.view_is) at c.requires.closes) (rw (← c.self.view_is) at c.requires.parts))
     (c.close.ensures.closed c.tell.new.slot (there_put _ _ _ _ is c.index_mut-slot.ensures.value c.tell.new.slot)))

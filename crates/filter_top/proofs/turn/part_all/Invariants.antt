@@ -1,0 +1,14 @@
+use Rattle.std.proofs.Common.{◌≡◌, ◌≤◌, [], drop}
+use Rattle.filter_model.specs.Answered.{at, due_of}
+use Rattle.filter_top.specs.Moves.{Moves}
+use Rattle.filter_top.proofs.turn.part_all.Given as goal
+
+-- the pairs from the index on give their connections back
+abbrev pub invariant-parting : goal.invariant-parting
+invariant-parting g l = record {
+  calls : Moves (at l.filter l.fn.line (due_of [] l.filter.parts))
+      (g.P.Pairs.journal l.fn.pairs) (g.P.Pairs.journal l.pairs)
+      (at l.filter l.line (due_of [] (drop l.pair-index l.pair-items)));
+  pairs : g.P.Pairs.last_pair l.pairs ≡ g.P.Pairs.last_pair l.fn.pairs;
+  later : g.P.Pairs.faults l.fn.pairs ≤ g.P.Pairs.faults l.pairs;
+}
