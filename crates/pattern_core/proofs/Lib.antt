@@ -1,5 +1,6 @@
-pub mod PatternLemmas
-pub mod SearchLemmas
 pub mod Theorems
 pub mod LetterLemmas
+pub mod PieceLemmas
+pub mod PlaceLemmas
+pub mod SearchLemmas
 pub mod ListLemmas

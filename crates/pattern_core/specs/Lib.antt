@@ -1,4 +1,4 @@
-pub mod Fronts
 pub mod Letters
 pub mod Patterns
 pub mod PatternLists
+pub mod Pieces

@@ -3,9 +3,10 @@
 #![tactic(auto)]
 
 mod case;
-mod front;
 mod list;
 mod pattern;
+mod piece;
+mod places;
 #[cfg(test)]
 mod tests;
 

@@ -4,7 +4,7 @@ ghost use Rattle.std.specs.Prelude.{◌≡◌, ◌↔◌, IsTrue};
 ghost use Rattle.pattern_core.specs.PatternLists.{MatchesList, lowered, is_negated, accepts_host, rejects_host, some_element};
 
 use crate::case::Case;
-use crate::pattern::{behind_first, matches_in};
+use crate::pattern::matches_in;
 
 /// Whether the comma list takes in the host: some pattern does, and none that `!` stands before.
 ///
@@ -45,7 +45,7 @@ fn accepts(host: &[u8], element: &[u8]) -> bool
 fn rejects(host: &[u8], element: &[u8]) -> bool
     ensures { result ≡ rejects_host (lowered host.now) (lowered element.now) }
 {
-    begins_with_bang(element) && matches_in(Case::Lowered, host, behind_first(element))
+    begins_with_bang(element) && matches_in(Case::Lowered, host, &element[1..])
 }
 
 // Whether the element is negated.

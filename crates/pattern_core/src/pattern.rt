@@ -1,15 +1,15 @@
 //! One pattern against one text.
 
-ghost use Rattle.std.specs.Prelude.{◌≡◌, ◌+◌, ◌<◌, ◌↔◌, IsTrue, drop, length};
+ghost use Rattle.std.specs.Prelude.{◌≡◌, ◌↔◌, IsTrue};
 ghost use Rattle.pattern_core.specs.Letters.{read_text};
 ghost use Rattle.pattern_core.specs.Patterns.{Matches, is_match, some_end_is_match};
 
 use crate::case::Case;
-use crate::front::{Front, compare_fronts};
+use crate::piece::{begins_with, behind, find_piece, piece_len};
 
 /// Whether the pattern takes in the whole text, letters in the case in which they stand.
 ///
-/// Takes at most (length of the text + 1) times (length of the pattern + 1) steps.
+/// Takes a step for 64 bytes of the text and a byte of the pattern, at most.
 pub fn matches(text: &[u8], pattern: &[u8]) -> bool
     ensures exact { IsTrue result ↔ Matches text.now pattern.now }
     ensures value { result ≡ is_match text.now pattern.now }
@@ -18,60 +18,36 @@ pub fn matches(text: &[u8], pattern: &[u8]) -> bool
 }
 
 /// The same, with the letters of both sides read in `case`.
-pub fn matches_in(case: Case, mut text: &[u8], mut pattern: &[u8]) -> bool
+pub fn matches_in(case: Case, text: &[u8], pattern: &[u8]) -> bool
     ensures { result ≡ is_match (read_text case text.now) (read_text case pattern.now) }
 {
-    'bytes: loop {
-        match compare_fronts(case, text, pattern) {
-            Front::End => return true,
-            Front::Star => return some_end_matches(case, text, behind_first(pattern)),
-            Front::Fits => {
-                text = behind_first(text);
-                pattern = behind_first(pattern);
-            }
-            Front::Differs => return false,
-        }
+    let len = piece_len(pattern);
+    if len == pattern.len() {
+        return text.len() == len && begins_with(case, text, pattern);
     }
-}
-
-/// What follows the first byte.
-pub fn behind_first(bytes: &[u8]) -> &[u8]
-    requires { 0 < length bytes.now }
-    ensures rest { result.now ≡ drop 1 bytes.now }
-    ensures shorter { length result.now + 1 ≡ length bytes.now }
-{
-    &bytes[1..]
+    len <= text.len()
+        && begins_with(case, text, &pattern[..len])
+        && some_end_matches(case, behind(text, len), behind(pattern, len + 1))
 }
 
 // Whether the pattern takes in some end of the text, as it does where `*` stands before it.
 //
-// Where the two differ, the run of the latest `*` grows by a byte. No earlier `*` has to be tried
-// again: a longer run of it leaves less text, and no other, to the latest.
+// Each piece is taken where it fits first: a later place leaves less text to the rest, and no other.
+// The last has to fit at the text's end.
 fn some_end_matches(case: Case, mut text: &[u8], mut pattern: &[u8]) -> bool
     ensures { result ≡ some_end_is_match (read_text case text.now) (read_text case pattern.now) }
 {
-    let mut after_run = text;
-    let mut after_star = pattern;
-    'bytes: loop {
-        match compare_fronts(case, text, pattern) {
-            Front::End => return true,
-            Front::Star => {
-                pattern = behind_first(pattern);
-                after_run = text;
-                after_star = pattern;
-            }
-            Front::Fits => {
-                text = behind_first(text);
-                pattern = behind_first(pattern);
-            }
-            Front::Differs => {
-                if after_run.is_empty() {
-                    return false;
-                }
-                after_run = behind_first(after_run);
-                text = after_run;
-                pattern = after_star;
-            }
+    'pieces: loop {
+        let len = piece_len(pattern);
+        if len == pattern.len() {
+            return text.len() >= len && begins_with(case, behind(text, text.len() - len), pattern);
         }
+        let Some(place) = find_piece(case, text, &pattern[..len]) else {
+            return false;
+        };
+        let found = behind(text, place);
+        text = behind(found, len);
+        let rest = behind(pattern, len);
+        pattern = behind(rest, 1);
     }
 }

@@ -1,46 +1,47 @@
-use Rattle.std.proofs.Common.{◌<◌, length, sym, ◌∙◌, arith}
-use Rattle.std.proofs.lemmas.Bool.{eqb-true}
+use Rattle.std.proofs.Common.{◌≡◌, length, drop, ap, sym, ◌∙◌}
+use Rattle.std.proofs.lemmas.Bool.{lt-leb}
+use Rattle.pattern_core.proofs.SearchLemmas.{some_end-whole, some_end-too_short, some_end-found, some_end-nowhere}
 use Rattle.pattern_core.specs.Letters.{read_text}
-use Rattle.pattern_core.proofs.LetterLemmas.{read_text-behind, length-read_text}
-use Rattle.pattern_core.proofs.SearchLemmas.{IsSearch-end, IsSearch-star, IsSearch-fits, IsSearch-retry, IsSearch-over}
+use Rattle.pattern_core.specs.Pieces.{fits}
+use Rattle.pattern_core.specs.Patterns.{some_end_is_match}
 use Rattle.pattern_core.proofs.pattern.some_end_matches.Goals as goal
 
-pub returns-in-End : goal.returns-in-End
-returns-in-End c = sym (IsSearch-end _ _ _ _ _ (sym c.compare_fronts.ensures ∙ c.in-End.is) c.bytes.invariant.search)
+pub returns-then-text-len : goal.returns-then-text-len
+returns-then-text-len c =
+    c.begins_with.ensures
+    ∙ ap (λ t. fits (read_text c.args.case t) (read_text c.args.case c.pieces.pattern.now)) c.behind.ensures.rest
+    ∙ sym (some_end-whole c.args.case c.pieces.text.now c.pieces.pattern.now c.piece_len-len.result
+    record { within = c.piece_len-len.ensures.within; plain = c.piece_len-len.ensures.plain; ends = c.piece_len-len.ensures.ends }
+    c.if-len-pattern.true c.if-text-len.true)
+    ∙ c.pieces.invariant
 
-pub bytes-preserved-in-Star : goal.bytes-preserved-in-Star
-bytes-preserved-in-Star c = record {
-  search = IsSearch-star _ _ _ _ _ _ (sym c.compare_fronts.ensures ∙ c.in-Star.is) c.bytes.invariant.search
-      (read_text-behind c.args.case _ _ c.behind_first-pattern.ensures.rest);
-  pattern_within = omega arith;
-  star_within = omega arith;
-  text_within = omega arith;
-}
+pub returns-else-text-len : goal.returns-else-text-len
+returns-else-text-len c =
+    lt-leb c.piece_len-len.result (length c.pieces.text.now) c.if-text-len.false
+    ∙ sym (some_end-too_short c.args.case c.pieces.text.now c.pieces.pattern.now c.piece_len-len.result
+    record { within = c.piece_len-len.ensures.within; plain = c.piece_len-len.ensures.plain; ends = c.piece_len-len.ensures.ends }
+    c.if-len-pattern.true c.if-text-len.false)
+    ∙ c.pieces.invariant
 
-pub bytes-preserved-in-Fits : goal.bytes-preserved-in-Fits
-bytes-preserved-in-Fits c = record {
-  search = IsSearch-fits _ _ _ _ _ _ _ (sym c.compare_fronts.ensures ∙ c.in-Fits.is) c.bytes.invariant.search
-      (read_text-behind c.args.case _ _ c.behind_first-text.ensures.rest)
-      (read_text-behind c.args.case _ _ c.behind_first-pattern-in-Fits.ensures.rest);
-  pattern_within = omega arith;
-  star_within = omega arith;
-  text_within = omega arith;
-}
+pub returns-in_default : goal.returns-in_default
+returns-in_default c =
+    sym (some_end-nowhere c.args.case c.pieces.text.now c.pieces.pattern.now c.piece_len-len.result
+    record { within = c.piece_len-len.ensures.within; plain = c.piece_len-len.ensures.plain; ends = c.piece_len-len.ensures.ends }
+    c.if-len-pattern.false c.in_default.ensures)
+    ∙ c.pieces.invariant
 
-pub returns-then-is_empty : goal.returns-then-is_empty
-returns-then-is_empty c = sym (IsSearch-over _ _ _ _ _ (sym c.compare_fronts.ensures ∙ c.in-Differs.is)
-    c.bytes.invariant.search
-    (length-read_text c.args.case c.bytes.after_run.now
-    ∙ eqb-true (length c.bytes.after_run.now) 0 (sym c.is_empty.ensures ∙ c.if-is_empty.true)))
-
-pub bytes-preserved : goal.bytes-preserved
-bytes-preserved c =
-    let some : 0 < length (read_text c.args.case c.bytes.after_run.now) =
-    omega (arith, length-read_text c.args.case c.bytes.after_run.now) in
-    record {
-      search = IsSearch-retry _ _ _ _ _ _ (sym c.compare_fronts.ensures ∙ c.in-Differs.is) c.bytes.invariant.search
-          some (read_text-behind c.args.case _ _ c.behind_first-after_run.ensures.rest);
-      pattern_within = omega arith;
-      star_within = omega arith;
-      text_within = omega arith;
-    }
+pub pieces-preserved : goal.pieces-preserved
+pieces-preserved c =
+    let case = c.args.case in
+    let len = c.piece_len-len.result in
+    let place = c.in-Some.place in
+    let text : c.behind-text.result.now ≡ drop len (drop place c.pieces.text.now) =
+    c.behind-text.ensures.rest ∙ ap (drop len) c.behind-found.ensures.rest in
+    let pattern : c.behind-pattern.result.now ≡ drop 1 (drop len c.pieces.pattern.now) =
+    c.behind-pattern.ensures.rest ∙ ap (drop 1) c.behind-rest.ensures.rest in
+    let is = some_end-found case c.pieces.text.now c.pieces.pattern.now len place
+    record { within = c.piece_len-len.ensures.within; plain = c.piece_len-len.ensures.plain; ends = c.piece_len-len.ensures.ends }
+    c.if-len-pattern.false c.in-Some.ensures in
+    ap (λ t. some_end_is_match (read_text case t) (read_text case c.behind-pattern.result.now)) text
+    ∙ ap (λ p. some_end_is_match (read_text case (drop len (drop place c.pieces.text.now))) (read_text case p)) pattern
+    ∙ sym is ∙ c.pieces.invariant
