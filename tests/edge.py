@@ -4,8 +4,10 @@ end before they say who they are, dialogs that nobody waits for, floods, crowds,
 what an agent keeps of whoever started it. Words choose checks by a part of their names; with the environment variable
 AGENT another program is taken for agent_prog."""
 
+import base64
 import contextlib
 import fcntl
+import hashlib
 import os
 import pathlib
 import pwd
@@ -562,6 +564,52 @@ def no_dialog_is_left_behind_a_client_that_left_nor_behind_the_agent(folder):
             until(lambda: not any(map(is_alive, asked())), 30, what="the end of the dialog")
 
 
+@check
+def of_sixteen_questions_one_is_shown_at_a_time(folder):
+    """And one whose asker left while it waited never is."""
+    rig.built("confirm_relay")
+    rig.built("standin_helper")
+    go, log = folder / "go", folder / "asked"
+    asker = rig.script(
+        folder / "ask",
+        f'printf "%s\\n" "$1" | tail -n 1 >> {log}; until [ -e {go} ]; do sleep 0.05; done; rm {go}; echo yes',
+    )
+    asked = lambda: log.read_text().splitlines() if log.exists() else []
+    more = dict(helper=rig.BUILT / "standin_helper", stderr=subprocess.DEVNULL)
+    with serve(folder, "--relay", rig.BUILT / "confirm_relay", "--askpass", asker, **more) as agent:
+        with agent.peer() as peer:
+            blobs = [add(peer, bytes([number]) * 32, CONFIRM) for number in range(3)]
+        with contextlib.ExitStack() as held:
+            peers = [held.enter_context(agent.peer(seconds=60)) for _ in range(16)]
+            for peer in peers:
+                peer.send(request(blobs[0]))
+            until(lambda: len(children(agent.process.pid)) == 16, 30, what="the relays")
+            assert answers(agent, blobs[0]) == FAILURE
+            for number in range(1, 17):
+                until(lambda: len(asked()) == number, 30, what="the next question")
+                time.sleep(0.2)
+                assert len(asked()) == number, asked()
+                go.touch()
+                until(lambda: not go.exists(), 30, what="the answer")
+            assert [peer.reply()[0] for peer in peers] == [SIGNATURE] * 16
+        with contextlib.ExitStack() as held:
+            peers = {blob: held.enter_context(agent.peer(seconds=60)) for blob in blobs}
+            for blob, peer in peers.items():
+                peer.send(request(blob))
+            until(lambda: len(asked()) == 17 and len(children(agent.process.pid)) == 4, 30, what="one question and three relays")
+            fingerprints = {blob: base64.b64encode(hashlib.sha256(blob).digest()).decode().rstrip("=") for blob in blobs}
+            (shown,) = (blob for blob in blobs if f":{fingerprints[blob]}." in asked()[-1])
+            for blob in blobs:
+                if blob != shown:
+                    peers[blob].close()
+            until(lambda: len(children(agent.process.pid)) == 2, 30, what="the end of the others")
+            go.touch()
+            assert peers[shown].reply()[0] == SIGNATURE
+            time.sleep(0.3)
+            assert len(asked()) == 17, asked()
+        assert (folder / "ours.sock.questions").stat().st_mode & 0o777 == 0o600
+
+
 # Floods and crowds.
 
 FLOOD = """
@@ -676,6 +724,93 @@ def two_hundred_clients_at_once_are_served(folder):
         for thread in threads:
             thread.join()
         assert found == [IDENTITIES] * 200, len(found)
+
+
+LISTS = """
+import os, selectors, socket, sys, time
+end = time.monotonic() + float(sys.argv[2])
+piece = b"\\0\\0\\0\\1\\x0b" * 20000
+waiting = selectors.DefaultSelector()
+for _ in range(int(sys.argv[3])):
+    peer = socket.socket(socket.AF_UNIX)
+    peer.connect(sys.argv[1])
+    peer.setblocking(False)
+    waiting.register(peer, selectors.EVENT_READ | selectors.EVENT_WRITE, [0])
+room = bytearray(1 << 20)
+while time.monotonic() < end:
+    for key, events in waiting.select(1):
+        try:
+            if events & selectors.EVENT_READ:
+                key.fileobj.recv_into(room)
+            if events & selectors.EVENT_WRITE:
+                # Whole requests, whatever of them went before.
+                sent = key.data[0] % 5
+                key.data[0] = sent + key.fileobj.send(piece[sent:])
+        except BlockingIOError:
+            pass
+"""
+
+
+def filled(agent, count):
+    """Adds so many keys."""
+    with agent.peer() as peer:
+        for number in range(count):
+            add(peer, number.to_bytes(32, "big"))
+
+
+@check
+def a_list_beside_120_that_list_without_a_pause_is_short(folder):
+    """With a thousand keys held: whoever else sends has sixteen answers before it."""
+    helper = rig.script(folder / "helper", "exec sleep 60")
+    with serve(folder, helper=helper) as agent, agent.peer(seconds=60) as before:
+        filled(agent, 1000)
+        floods = [
+            subprocess.Popen([sys.executable, "-c", LISTS, agent.path, "60", "30"], stdin=subprocess.DEVNULL)
+            for _ in range(4)
+        ]
+        try:
+            time.sleep(3)
+            waited = sorted(listed(before) for _ in range(11))
+            assert all(process.poll() is None for process in floods), "the flood was over before"
+            print(f"a list beside 120 that list: {waited[5]:.3f} s, at most {waited[-1]:.3f} s")
+            assert waited[5] < 0.5, f"{waited}"
+        finally:
+            for process in floods:
+                process.kill()
+                process.wait()
+
+
+@check
+def no_key_is_listed_long_behind_its_end_whatever_is_sent_before(folder):
+    """Each of twenty sends 3,200 lists at once, which take longer than the key lives."""
+    helper = rig.script(folder / "helper", "exec sleep 60")
+    with serve(folder, helper=helper) as agent, agent.peer() as peer:
+        filled(agent, 1000)
+        lists, found = string(bytes([LIST])) * 3200, []
+        blob = add(peer, constraints=b"\x01" + (2).to_bytes(4, "big"))
+        end = time.monotonic() + 2
+
+        def client():
+            with agent.peer(seconds=120) as mine:
+                mine.socket.sendall(lists)
+                with_it = without = 0
+                for _ in range(3200):
+                    if blob in mine.reply():
+                        with_it = time.monotonic()
+                    else:
+                        without += 1
+                found.append((with_it, without))
+
+        threads = [threading.Thread(target=client) for _ in range(20)]
+        for thread in threads:
+            thread.start()
+        for thread in threads:
+            thread.join()
+        assert len(found) == 20
+        assert any(without for _, without in found), "all was over before the key's end"
+        late = max(with_it for with_it, _ in found) - end
+        print(f"listed last {late:.3f} s behind its end")
+        assert late < 0.5, f"{late:.2f} s"
 
 
 # What is told once.

@@ -15,6 +15,7 @@ import subprocess
 import sys
 import tempfile
 import threading
+import time
 
 sys.dont_write_bytecode = True
 
@@ -336,6 +337,93 @@ def try_relay(folder):
     refused("relay: no agent", [os.path.join(folder, "nobody"), *helper_words(yes)], 7)
 
 
+def asking(ask, questions):
+    """A relay that was asked at its standard input, beside others of its agent: the process, and the agent's end."""
+    ours, theirs = socket.socketpair()
+    words = ["-", *helper_words(ask)]
+    with theirs:
+        child = subprocess.Popen([RELAY, *words], stdin=theirs, stdout=subprocess.DEVNULL, stderr=subprocess.DEVNULL,
+                                 env=dict(os.environ, MORTARLEEK_QUESTIONS=questions))
+    ours.settimeout(30)
+    ours.sendall(confirm(1, b"ok"))
+    return child, ours
+
+
+def said(peer):
+    heard = bytearray()
+    hear(peer, heard)
+    peer.close()
+    return bytes(heard)
+
+
+def lines_of(log):
+    return open(log).read().split() if os.path.exists(log) else []
+
+
+def until(holds, seconds=20):
+    end = time.monotonic() + seconds
+    while not holds() and time.monotonic() < end:
+        time.sleep(0.02)
+    return holds()
+
+
+def try_turns(folder):
+    log, go, questions = (os.path.join(folder, name) for name in ("turns", "go", "questions"))
+    lines = f'echo begin >> {log}; while [ ! -e {go} ]; do sleep 0.02; done; echo end >> {log}'
+    ask = script(folder, "turn", f'[ -z "${{MORTARLEEK_QUESTIONS-}}" ] || echo told >> {log}\n{lines}')
+
+    def begin(count, file=questions):
+        for path in (log, go):
+            if os.path.exists(path):
+                os.remove(path)
+        relays = [asking(ask, file) for _ in range(count)]
+        until(lambda: lines_of(log) != [])
+        return relays
+
+    def end(relays):
+        open(go, "w").close()
+        heard = [said(peer) for _, peer in relays]
+        return heard, [child.wait(20) for child, _ in relays]
+
+    relays = begin(4)
+    time.sleep(0.5)
+    check("turns: one of four asks", lines_of(log), ["begin"])
+    check("turns: the file is its user's alone", stat.S_IMODE(os.stat(questions).st_mode), 0o600)
+    heard, statuses = end(relays)
+    check("turns: each is answered", (heard, statuses), ([hello(1) + told(1, 105)] * 4, [0] * 4))
+    check("turns: one after another", lines_of(log), ["begin", "end"] * 4)
+
+    # Of two that wait the agent of one leaves, or shuts its end.
+    for leave in (socket.socket.close, lambda peer: peer.shutdown(socket.SHUT_WR)):
+        first = begin(1)
+        (left, peer), *other = [asking(ask, questions) for _ in range(2)]
+        time.sleep(0.2)
+        leave(peer)
+        check("turns: a question that nobody waits for ends", until(lambda: left.poll() is not None, 5), True)
+        heard, statuses = end(first + other)
+        check("turns: and is never shown", (lines_of(log), statuses), (["begin", "end"] * 2, [0, 0]))
+        peer.close()
+
+    # One that is killed holds up nobody.
+    (killed, peer), = begin(1)
+    killed.kill()
+    killed.wait()
+    peer.close()
+    relays = [asking(ask, questions)]
+    check("turns: behind one that was killed", until(lambda: lines_of(log) == ["begin"] * 2), True)
+    end(relays)
+
+    # What isn't a plain file of the user's alone keeps no question back.
+    public, pipe = os.path.join(folder, "public"), os.path.join(folder, "pipe")
+    open(public, "w").close()
+    os.chmod(public, 0o644)
+    os.mkfifo(pipe)
+    for file in (public, pipe, folder, os.path.join(folder, "no", "folder"), ""):
+        relays = begin(2, file)
+        check(f"turns: not by {os.path.basename(file)}", until(lambda: lines_of(log) == ["begin"] * 2, 5), True)
+        check("turns: each is answered then", end(relays)[1], [0, 0])
+
+
 def main():
     made = subprocess.run(["make", "--no-print-directory", "bin/standin_helper", "bin/confirm_relay"], cwd=ROOT,
                           stdout=subprocess.DEVNULL)
@@ -344,6 +432,7 @@ def main():
     with tempfile.TemporaryDirectory() as folder:
         try_helper(folder)
         try_relay(folder)
+        try_turns(folder)
     print(f"tools: {passed} passed, {failed} failed")
     sys.exit(1 if failed else 0)
 

@@ -27,19 +27,6 @@ fn run(rt: &HostRuntime) -> IoResult<RelayStatus> {
     Ok(relay_main(alloc, &words, &mut spawner, &mut NoPeer::new()))
 }
 
-// What is told on standard error.
-fn trouble(status: RelayStatus) -> Option<&'static str> {
-    match status {
-        RelayStatus::Done => None,
-        RelayStatus::BadFrame => Some("the agent sent no plain request for this job"),
-        RelayStatus::Usage => Some("usage: confirm_relay SOCKET JOB TICKET ASKPASS"),
-        RelayStatus::Memory => Some("out of memory"),
-        RelayStatus::ReadFault => Some("the agent could not be read from"),
-        RelayStatus::WriteFault => Some("the agent could not be reached or written to"),
-        RelayStatus::TornEnd => Some("the agent ended before a whole request"),
-    }
-}
-
 fn main(rt: HostRuntime) -> ExitCode {
     let status = match run(&rt) {
         Ok(status) => status,
@@ -47,8 +34,8 @@ fn main(rt: HostRuntime) -> ExitCode {
         // Words that can't be read are none of a relay's.
         Err(_) => RelayStatus::Usage,
     };
-    if let Some(trouble) = trouble(status) {
-        let _ = eprintln!(rt; "confirm_relay: {trouble}");
+    if status != RelayStatus::Done {
+        let _ = eprintln!(rt; "confirm_relay: {status}");
     }
     ExitCode::from(status.code())
 }

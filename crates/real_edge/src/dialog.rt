@@ -41,8 +41,8 @@ const PLACES: [&str; 2] = ["DISPLAY", "WAYLAND_DISPLAY"];
 // The program that tells the session's variables, where there is one: systemctl.
 const MANAGER: &str = "MORTARLEEK_MANAGER";
 
-// The value of a variable that is set, and text.
-fn value_of<R: Env + AllocGlobal>(rt: &R, name: &str) -> IoResult<Option<String>> {
+/// The value of a variable that is set, and text.
+pub fn value_of<R: Env + AllocGlobal>(rt: &R, name: &str) -> IoResult<Option<String>> {
     match env::var(rt, name) {
         Ok(value) => Ok(Some(value)),
         Err(VarError::OutOfMemory) => Err(Error::from(ErrorKind::OutOfMemory)),

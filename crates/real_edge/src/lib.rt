@@ -11,6 +11,7 @@ mod spawner;
 #[cfg(test)]
 mod tests;
 mod ticket;
+mod turns;
 mod watched;
 
 pub use errors::is_memory;

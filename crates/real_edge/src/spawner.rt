@@ -4,11 +4,12 @@ ghost use Rattle.std.specs.Prelude.{◌≡◌, None};
 use crate::dialog::give_dialog;
 use crate::errors::is_memory;
 use crate::ticket::TICKET;
+use crate::turns::await_turn;
 use crate::watched::run_to_end;
 use plain_lists::Bytes;
 use std::alloc::{AllocGlobal, Global};
 use std::env::Env;
-use std::fs::Files;
+use std::fs::{File, Files};
 use std::io;
 use std::io::Result as IoResult;
 use std::os::fd::AsRawFd;
@@ -20,8 +21,9 @@ use world_ports::{Ran, SpawnFault, Spawner};
 ///
 /// A program is searched as the system does, has an empty standard input, and shares our standard
 /// error and environment, a ticket there excepted. One that asks the user gets of the environment only
-/// what a dialog needs; where the peer of the connection shuts its end, it is killed, and the run has
-/// failed: nobody waits for its answer.
+/// what a dialog needs, and is started once no other relay of the agent asks; where the peer of the
+/// connection shuts its end, it is killed or isn't started, and the run has failed: nobody waits for its
+/// answer.
 #[derive(Drop)]
 pub struct RealSpawner<'a, R> {
     rt: &'a R,
@@ -52,7 +54,7 @@ impl<'a, R> RealSpawner<'a, R> {
     }
 }
 
-impl<R: Files + Processes + Env + AllocGlobal> Spawner for RealSpawner<'_, R> {
+impl<R: Files<File = File> + Processes + Env + AllocGlobal> Spawner for RealSpawner<'_, R> {
     ghost seen = { λ s. record { runs = None; faults = s.faults } };
 
     fn run(&mut self, alloc: Global, program: &str, word: &str) -> Result<Ran, SpawnFault> {
@@ -71,13 +73,17 @@ impl<R: Files + Processes + Env + AllocGlobal> Spawner for RealSpawner<'_, R> {
     }
 }
 
-fn run_program<R: Files + Processes + Env + AllocGlobal>(
+fn run_program<R: Files<File = File> + Processes + Env + AllocGlobal>(
     rt: &R,
     alloc: Global,
     program: &str,
     word: &str,
     watched: Option<i32>,
 ) -> IoResult<Ran> {
+    let turn = match watched {
+        Some(connection) => await_turn(rt, connection)?,
+        None => None,
+    };
     let (mut output, theirs) = io::pipe(rt)?;
     let mut command = Command::new(alloc, program)?;
     command.arg(word)?;
@@ -93,6 +99,7 @@ fn run_program<R: Files + Processes + Env + AllocGlobal>(
     // Our copy of the program's end of the pipe is closed, so that its output can end.
     drop(command);
     let (status, heard) = run_to_end(alloc, &mut child, &mut output, watched)?;
+    drop(turn);
     Ok(Ran {
         status: status.code().unwrap_or(-1),
         output: Bytes::from_vec(heard),

@@ -75,15 +75,21 @@ fn read_output(alloc: Global, output: &mut PipeReader, connection: i32) -> IoRes
     Err(Error::from(ErrorKind::TimedOut))
 }
 
+/// Waits so many milliseconds. Fails where the peer of the connection has shut its end, or does so meanwhile.
+pub fn await_peer(connection: i32, millis: i32) -> IoResult<()> {
+    match await_either(NONE, connection, millis)? {
+        Told::Gone => Err(Error::from(ErrorKind::ConnectionAborted)),
+        Told::Output | Told::Nothing => Ok(()),
+    }
+}
+
 // How the program ends, where the connection stands until then.
 fn await_end<P: OpenProcess>(child: &mut Child<P>, connection: i32) -> IoResult<ExitStatus> {
     for _ in 0..u64::MAX {
         if let Some(status) = child.try_wait()? {
             return Ok(status);
         }
-        if await_either(NONE, connection, PAUSE_MILLIS)? == Told::Gone {
-            return Err(Error::from(ErrorKind::ConnectionAborted));
-        }
+        await_peer(connection, PAUSE_MILLIS)?;
     }
     Err(Error::from(ErrorKind::TimedOut))
 }

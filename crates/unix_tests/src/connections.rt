@@ -156,3 +156,36 @@ fn room_for_a_write_is_reported_once_there_is_some(rt: HostRuntime) -> Result<()
     world.remove_file();
     Ok(())
 }
+
+// Writes a byte so many times, each of which is taken.
+fn write_times<W: World>(rt: &impl Abort, world: &mut W, count: u64) {
+    for _ in 0..count {
+        writes(rt, world, 1, b"w", Wrote::Took(1), "a write of the round");
+    }
+}
+
+#[test]
+fn a_seventeenth_write_waits_for_a_poll(rt: HostRuntime) -> Result<(), Fail> {
+    let alloc = rt.alloc();
+    let mut world = UnixWorld::new(&rt, alloc, no_programs(alloc))?;
+    let listens = world.bind(Door::Clients, "writes.socket").is_ok();
+    holds(&rt, listens, "a listener");
+    let client = UnixStream::connect(&rt, "writes.socket").expect(&rt, "a client");
+    let answer = world.accept(Door::Clients);
+    accepted(&rt, answer, Accepted::Port(1), "the client");
+    let mut ready = Vec::new(alloc);
+    holds(
+        &rt,
+        world.poll(Some(0), &mut ready).is_ok(),
+        "a round begins",
+    );
+    write_times(&rt, &mut world, 16);
+    writes(&rt, &mut world, 1, b"w", Wrote::NotNow, "one more");
+    holds(&rt, world.poll(None, &mut ready).is_ok(), "doesn't wait");
+    holds(&rt, has_room(&ready, 1), "it is told of");
+    write_times(&rt, &mut world, 16);
+    writes(&rt, &mut world, 1, b"w", Wrote::NotNow, "and again");
+    drop(client);
+    world.remove_file();
+    Ok(())
+}

@@ -65,6 +65,8 @@ impl Listener {
 pub struct BoundFile {
     pub path: String,
     pub lock: String,
+    // What relays lock, so that one question at a time is shown. The first of them makes it.
+    pub questions: String,
     pub device: u64,
     pub inode: u64,
 }
@@ -78,6 +80,7 @@ pub fn remove_bound<R: Files<File = File> + Clock>(rt: &R, file: &BoundFile) {
     if let Ok(metadata) = fs::symlink_metadata(rt, file.path.as_str()) {
         if metadata.dev() == file.device && metadata.ino() == file.inode {
             let _ = fs::remove_file(rt, file.path.as_str());
+            let _ = fs::remove_file(rt, file.questions.as_str());
         }
     }
     drop(held);

@@ -1,8 +1,11 @@
 // What is known of the bytes that may wait at a port. epoll tells of a change once, so what is left unread is kept here.
 ghost use Rattle.std.specs.Prelude.{◌≡◌};
 
-/// Whether a read is to ask the system, and whether the next poll has to tell of the port. Rounds are counted from 1: a
-/// round ends with each poll.
+// So many writes of a port are tried in a round.
+const MOST_WRITES: u32 = 16;
+
+/// Whether a read is to ask the system, whether one more write is to be tried, and whether the next poll has to tell of
+/// the port. Rounds are counted from 1: a round ends with each poll.
 #[derive(Clone, Copy)]
 pub struct Marks {
     // Bytes may wait, or the end.
@@ -13,6 +16,9 @@ pub struct Marks {
     read_in: u64,
     // The round behind which a poll was last made to tell of the port.
     owed_in: u64,
+    // The round of the last write, and how many were tried in it.
+    wrote_in: u64,
+    writes: u32,
 }
 
 impl Marks {
@@ -23,6 +29,8 @@ impl Marks {
             has_ended: false,
             read_in: 0,
             owed_in: 0,
+            wrote_in: 0,
+            writes: 0,
         }
     }
 
@@ -48,6 +56,20 @@ impl Marks {
             return false;
         }
         self.owed_in = round;
+        true
+    }
+
+    /// Whether one more write is to be tried in this round, which counts as tried then. Where it isn't, the next poll has
+    /// to tell of the port.
+    pub fn may_write(&mut self, round: u64) -> bool {
+        if self.wrote_in != round {
+            self.wrote_in = round;
+            self.writes = 0;
+        }
+        if self.writes >= MOST_WRITES {
+            return false;
+        }
+        self.writes += 1;
         true
     }
 

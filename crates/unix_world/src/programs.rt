@@ -23,6 +23,9 @@ pub struct Programs {
 // of a program that its user can't read, by none of that user.
 const TICKET: &str = "MORTARLEEK_TICKET";
 
+// The variable that names to a relay the file that those of one agent lock, so that one question at a time is shown.
+const QUESTIONS: &str = "MORTARLEEK_QUESTIONS";
+
 // The word for a ticket that stands in the environment.
 const IN_THE_ENVIRONMENT: &str = "-";
 
@@ -144,12 +147,14 @@ impl Programs {
     }
 
     // Starts the child process of a job with this connection as its standard input, and doesn't wait for it. It gets
-    // nothing of the agent's but the kept variables and standard error, and its ticket in the environment.
+    // nothing of the agent's but the kept variables and standard error, and in the environment its ticket and, where it
+    // is a relay, which file relays lock.
     pub(crate) fn start<R: Processes>(
         &self,
         rt: &R,
         alloc: Global,
         kept: &[(String, String)],
+        questions: Option<&str>,
         job: Job,
         ticket: &[u8; 16],
         connection: OwnedFd,
@@ -167,6 +172,9 @@ impl Programs {
             command.env(name.as_str(), value.as_str())?;
         }
         command.env(TICKET, hex::encode(alloc, *ticket)?.as_str())?;
+        if let (JobKind::Confirm, Some(file)) = (job.kind, questions) {
+            command.env(QUESTIONS, file)?;
+        }
         command.arg(STANDARD_INPUT)?;
         command.arg(format!(in alloc; "{}", job.number)?.as_str())?;
         command.arg(IN_THE_ENVIRONMENT)?;

@@ -8,7 +8,7 @@ mod starts;
 mod waits;
 
 use crate::children::Children;
-use crate::clock::seconds;
+use crate::clock::{last_tick, seconds};
 use crate::connection::Connection;
 use crate::doors::{BoundFile, Listener, listen_at, remove_bound};
 use crate::ports::Ports;
@@ -30,14 +30,21 @@ use world_ports::{
 // epoll keeps what doesn't fit for the next wait.
 const EVENTS: usize = 64;
 
+// The clocks are read again after so many looks at them,
+const MOST_LOOKS: u32 = 64;
+
+// or so many milliseconds, whichever is first.
+const MOST_MILLIS: u64 = 10;
+
 // The listener's token. Those of connections are keys of the slab, and below it.
 const CLIENTS: Token = Token(usize::MAX);
 
 /// Unix sockets over epoll, child processes, the system's clocks.
 ///
 /// A connection is registered for reading; for writing only once a write found no room. Between two polls each port is
-/// read once, and the listener gives a bounded number of connections; where that may leave something waiting, the next
-/// poll tells of it and doesn't wait. The clocks are read once between two polls, too.
+/// read once and written 16 times, and the listener gives a bounded number of connections; where that may leave something
+/// waiting, the next poll tells of it and doesn't wait. The clocks are read at the first look behind a poll, and again
+/// after 64 looks or 10 milliseconds, which is looked at with every other one.
 ///
 /// A child process's standard input is its connection, the other end of which is there to be accepted from its start on;
 /// nothing else connects at the children's door. Where the connection ends before the hello, or brings anything else, or
@@ -61,15 +68,18 @@ pub struct UnixWorld<'a, R: Processes> {
     inbox: Vec<u8>,
     // The polls so far, and 1 more.
     round: u64,
-    // The ports of which the next poll has to tell.
+    // The ports of which the next poll has to tell, as such that may be read and as such that may be written.
     owed: Vec<u64>,
+    owed_writes: Vec<u64>,
     started: Children<R::Started>,
     // The second at which it was last looked what is due of child processes.
     second: u64,
     last_port: u64,
     moment: Moment,
-    // The round in which the clocks were read.
+    // The round in which the clocks were read, the looks at them since, and the kernel's tick then.
     dated_in: u64,
+    looks: u32,
+    dated_at: Option<u64>,
     faults: u64,
 }
 
@@ -95,11 +105,14 @@ impl<'a, R: Files + Net + Processes + Env + AllocGlobal> UnixWorld<'a, R> {
             inbox: vec![in alloc; 0; READ_ROOM]?,
             round: 1,
             owed: Vec::new(alloc),
+            owed_writes: Vec::new(alloc),
             started: Children::new(alloc),
             second: 0,
             last_port: 0,
             moment: Moment { mono: 0, wall: 0 },
             dated_in: 0,
+            looks: 0,
+            dated_at: None,
             faults: 0,
         })
     }
@@ -157,11 +170,38 @@ impl<R: Files<File = File> + Net + Processes + RandomSource + Clock + Eprint> Un
         ensures ports { self.new.last_port ≡ self.old.last_port }
         ensures moment { self.old.moment.mono ≤ self.new.moment.mono }
     {
+        self.dated_in = self.round;
+        self.looks = 0;
+        self.dated_at = last_tick();
         if let Some(mono) = seconds(self.rt) {
             self.moment.mono = self.moment.mono.max(mono);
         }
         if let Ok(wall) = self.rt.since_1970() {
             self.moment.wall = wall.as_secs();
+        }
+    }
+
+    // Whether the clocks are to be read for this look: it is the first of a round, or the last reading is old. At the
+    // second look, and then at every other, the time since isn't asked for.
+    #[inline(always)]
+    fn is_undated(&mut self) -> bool
+        ensures faults { self.new.faults ≡ self.old.faults }
+        ensures ports { self.new.last_port ≡ self.old.last_port }
+        ensures moment { self.new.moment ≡ self.old.moment }
+    {
+        if self.dated_in != self.round {
+            return true;
+        }
+        self.looks = self.looks.saturating_add(1);
+        if self.looks >= MOST_LOOKS {
+            return true;
+        }
+        if self.looks < 3 || self.looks % 2 == 0 {
+            return false;
+        }
+        match (self.dated_at, last_tick()) {
+            (Some(then), Some(now)) => now.saturating_sub(then) >= MOST_MILLIS,
+            _ => true,
         }
     }
 
@@ -172,10 +212,12 @@ impl<R: Files<File = File> + Net + Processes + RandomSource + Clock + Eprint> Un
     {
         let path = path_in(self.alloc, &self.folder, path)?;
         let lock = format!(in self.alloc; "{}.lock", path.as_str())?;
+        let questions = format!(in self.alloc; "{}.questions", path.as_str())?;
         let (mut made, device, inode) = listen_at(self.rt, path.as_str(), lock.as_str())?;
         self.file = Some(BoundFile {
             path,
             lock,
+            questions,
             device,
             inode,
         });
@@ -226,10 +268,14 @@ impl<R: Files<File = File> + Net + Processes + RandomSource + Clock + Eprint> Un
         let Some(key) = self.ports.key_of(port) else {
             return Err(Error::from(ErrorKind::NotFound));
         };
-        match self.ports.get_mut(key) {
-            Some(found) => found.write(self.poll.registry(), Token(key), bytes),
-            None => Err(Error::from(ErrorKind::NotFound)),
+        let Some(found) = self.ports.get_mut(key) else {
+            return Err(Error::from(ErrorKind::NotFound));
+        };
+        if !found.port.marks.may_write(self.round) {
+            self.owed_writes.push(port)?;
+            return Ok(Wrote::NotNow);
         }
+        found.write(self.poll.registry(), Token(key), bytes)
     }
 }
 
@@ -308,8 +354,7 @@ impl<R: Files<File = File> + Net + Processes + RandomSource + Clock + Eprint> Wo
     }
 
     fn now(&mut self) -> Result<Moment, AllocError> {
-        if self.dated_in != self.round {
-            self.dated_in = self.round;
+        if self.is_undated() {
             self.read_clocks();
         }
         Ok(self.moment)

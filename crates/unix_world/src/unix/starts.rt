@@ -54,10 +54,12 @@ impl<R: Files<File = File> + Net + Processes + RandomSource + Clock + Eprint> Un
         ours.set_nonblocking(true)?;
         let key = self.ports.next_key();
         let port = Port::new(self.poll.registry(), Token(key), UnixStream::from_std(ours))?;
+        let questions = self.file.as_ref().map(|file| file.questions.as_str());
         let process = self.programs.start(
             self.rt,
             self.alloc,
             &self.kept,
+            questions,
             job,
             &ticket,
             OwnedFd::from(theirs),

@@ -31,6 +31,15 @@ fn ready_at(spot: Spot) -> Ready {
     }
 }
 
+// What is ready at a port where a write was put off.
+fn room_at(spot: Spot) -> Ready {
+    Ready {
+        spot,
+        readable: false,
+        writable: true,
+    }
+}
+
 // The less of both, where the one is no bound if there is none.
 fn least(wait: Option<u64>, other: u64) -> u64 {
     match wait {
@@ -43,7 +52,8 @@ impl<R: Files<File = File> + Net + Processes + RandomSource + Clock + Eprint> Un
     // How long a poll waits, where the agent asks for so many seconds: not at all where it has to tell of something, a
     // second at the most while a listener is stuck, and no longer than until something is due of a child process.
     fn wait_of(&self, wait: Option<u64>) -> Option<u64> {
-        if !self.owed.is_empty() || self.started.waiting().is_some() {
+        let is_owed = !self.owed.is_empty() || !self.owed_writes.is_empty();
+        if is_owed || self.started.waiting().is_some() {
             return Some(0);
         }
         let mut most = wait;
@@ -98,6 +108,10 @@ impl<R: Files<File = File> + Net + Processes + RandomSource + Clock + Eprint> Un
             out.push(ready_at(Spot::Port(*number)))?;
         }
         self.owed.clear();
+        for number in self.owed_writes.iter() {
+            out.push(room_at(Spot::Port(*number)))?;
+        }
+        self.owed_writes.clear();
         self.round = self.round.wrapping_add(1);
         if let Some(door) = &mut self.clients {
             if door.renew() {
