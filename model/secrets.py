@@ -18,7 +18,7 @@ from .agent import LIMITS
 from .differential import Result, run_program, shorten, show
 from .formats import CERTIFIED, PRIVATE, added_key
 from .generate import Schedule
-from .rows_format2 import EVERY_ROW
+from .rows_many import EVERY_ROW
 from .wire import Fault, Reader, string
 
 HEARD = re.compile(rb"hear ([0-9]+) ((?:[0-9a-fA-F]{2})+)")

@@ -1,14 +1,32 @@
 -- A client gets the helper's answer to its own request.
 use Rattle.std.proofs.Common.{◌≡◌, List, ℕ, ap, sym, ◌∙◌}
-use Rattle.agent_model.specs.Events.{Happening, Timed}
+use Rattle.agent_model.specs.Events.{Timed}
 use Rattle.agent_model.specs.Fates.{fate_of}
 use Rattle.agent_model.specs.Runs.{run}
 use Rattle.agent_model.specs.Sound.{IsTied}
 use Rattle.agent_model.specs.State.{Settings, State, first_state}
 use Rattle.agent_model.specs.Step.{step}
+use Rattle.agent_model.specs.Time.{at_moment, time_passes}
 use Rattle.agent_model.proofs.CutLemmas.{stream-fate}
 use Rattle.agent_model.proofs.FatedLemmas.{first-tied, run-tied, step-fated, waits-until}
-use Rattle.agent_laws.specs.Answered.{IsAnswered}
+use Rattle.agent_laws.specs.Answered.{IsAnswered, IsAnsweredBy}
+use Rattle.agent_laws.proofs.LossLemmas.{run-losses}
+use Rattle.agent_laws.proofs.StreamLemmas.{step-only, step-said}
+use Rattle.agent_laws.proofs.WaitingLemmas.{step-waiting}
+
+-- each event
+answered-by : (state : State) (one : Timed) → IsTied state
+    → IsAnsweredBy state (at_moment one.moment state) one.event (time_passes one.moment state).actions (step state one.moment one.event)
+answered-by state one tied = record {
+  told = λ number ask waits other untaken.
+      (step-fated state one.moment one.event tied).told number ask other untaken waits;
+  stream = λ number ask piece port heard found door linked.
+      ap (λ event. fate_of ask (step state one.moment event).actions) heard
+      ∙ stream-fate ask number piece port state one.moment found door linked;
+  asked = λ asking among. step-waiting state one.moment one.event asking tied among;
+  said = λ ask bytes says. step-said ask bytes state one.moment one.event says;
+  only = λ ask answer gets. step-only ask answer state one.moment one.event gets;
+}
 
 pub first-answered : (settings : Settings) (events : List Timed)
     → IsAnswered (first_state settings) events
@@ -18,12 +36,8 @@ first-answered settings events = record {
       record { port = port; found = found; door = waiting.door; owed = waiting.owed; waits = waits };
   until = λ before middle later number ask whole waits stays fate.
       waits-until number ask (run (first_state settings) before) middle (tied before) stays fate waits;
-  told = λ before one later number ask whole waits other untaken.
-      (step-fated (run (first_state settings) before) one.moment one.event (tied before)).told number ask other untaken waits;
-  stream = λ before one later number ask piece port whole heard found door linked.
-      let state : State = run (first_state settings) before in
-      ap (λ event. fate_of ask (step state one.moment event).actions) heard
-      ∙ stream-fate ask number piece port state one.moment found door linked;
+  steps = λ before one later whole. answered-by (run (first_state settings) before) one (tied before);
+  faults = λ before later whole. run-losses settings before;
 }
   where
     tied : (before : List Timed) → IsTied (run (first_state settings) before)

@@ -18,7 +18,7 @@ use Rattle.agent_model.specs.Actions.{Granted, Over, Raising, Work, settles}
 use Rattle.agent_model.specs.Askable.{IsGrantable}
 use Rattle.agent_model.specs.Asking.{JobsRise}
 use Rattle.agent_model.specs.Consents.{grant_concluded, over, signing_of, without_confirmation}
-use Rattle.agent_model.specs.Errands.{Signs, put_unless}
+use Rattle.agent_model.specs.Errands.{Signs, asking_of, message_of, put_unless}
 use Rattle.agent_model.specs.KeyStates.{KeyState, after_use}
 use Rattle.agent_model.specs.Runs.{Stamped}
 use Rattle.agent_model.specs.State.{Port, State, UnderWay, find_port}
@@ -28,8 +28,11 @@ use Rattle.agent_model.proofs.JobLemmas.{IsIn, in-found}
 use Rattle.agent_model.proofs.RoomLemmas.{RoomFor, free, full, no_ask, no_job, room-of}
 use Rattle.agent_laws.specs.Dues.{Claim, claim_of_raising, due_signing, is_met, is_permitted, met_by, open_asks, proved_of, raised_at}
 use Rattle.agent_laws.specs.Past.{PastAddition, held_by}
+use Rattle.agent_laws.specs.Puts.{IsMessage, asks, passes}
+use Rattle.agent_laws.specs.Puts as puts
 use Rattle.agent_laws.proofs.DueLemmas.{all_pass, met_with, third_fails}
 use Rattle.agent_laws.proofs.HoldsLemmas.{Facts, Holds, Made, facts_of, key_of, made_of, numbers-used, used-holds}
+use Rattle.agent_laws.proofs.MessageLemmas.{private-held, puts-silent, sign-message}
 use Rattle.agent_laws.proofs.PastLemmas.{stamp}
 use Rattle.agent_laws.proofs.RaisedLemmas.{AllRaised, IsRaised, all_raised-kept, all_raised-more, all_raised-over}
 use Rattle.agent_laws.proofs.StepLemmas.{Agrees, Goes, Opened, due_as, numbers-append}
@@ -206,6 +209,7 @@ module _ {N : Type 0} (life : Option ℕ) (past : List Stamped) (confirmation : 
     lawful = (opened.agrees.idle, λ n. due_behind ∙ none n);
     agrees = record { holds = holds_behind; opens = opened.agrees.opens; raised = raised_behind; idle = λ n. due_behind ∙ none n };
     moment = refl;
+    puts = puts-silent state.moment past (Granted confirmation.job ∷ []) (tt, tt);
   }
 
   -- what is put is what was raised
@@ -219,6 +223,15 @@ module _ {N : Type 0} (life : Option ℕ) (past : List Stamped) (confirmation : 
 
   few_asks : RoomFor left_over None → length state.under_way.link.asks < 256
   few_asks (free room) = room.few
+
+  -- with the private string of that addition
+  granted_message : (key : HeldKey)
+      → IsGrantable key port.chain confirmation.addition confirmation.message state.moment.wall state.held
+      → IsMessage behind (asking_of (Signs key (signing_of key confirmation)) confirmation.asker (state.under_way.link.last + 1)) (message_of (Signs key (signing_of key confirmation)) (state.under_way.link.last + 1))
+  granted_message key may =
+      let found = blob_of_numbered confirmation.addition state.held.table.identities key holds_behind.own may.found in
+      sign-message behind key (signing_of key confirmation) confirmation.asker (state.under_way.link.last + 1) refl
+      (private-held life state.moment.mono behind state.held key.blob key holds_behind (opened.fresh key.blob) found)
 
   goes-put : (key : HeldKey)
       → IsGrantable key port.chain confirmation.addition confirmation.message state.moment.wall state.held
@@ -236,6 +249,8 @@ module _ {N : Type 0} (life : Option ℕ) (past : List Stamped) (confirmation : 
           idle = λ n. refl;
         };
         moment = refl;
+        puts = passes past (stamp state.moment (Granted confirmation.job)) _ _ (λ asking no. absurd (cc))
+            (asks behind state.moment (asking_of (Signs key (signing_of key confirmation)) confirmation.asker (state.under_way.link.last + 1)) [] _ [] (granted_message key may) (puts.none _));
       }
 
   pub goes-granted : {work : Work}

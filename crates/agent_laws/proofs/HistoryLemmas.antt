@@ -19,11 +19,15 @@ use Rattle.agent_model.proofs.MakeLemmas.{by_event, loses, overs}
 use Rattle.agent_model.proofs.JudgedLemmas.{judges-makes}
 use Rattle.agent_model.proofs.NumberLemmas.{run-grows}
 use Rattle.agent_model.proofs.RunLemmas.{step-rises, step-unused}
+use Rattle.agent_secrecy.proofs.AppendLemmas.{step-appends}
 use Rattle.agent_laws.specs.Dues.{proved_of}
 use Rattle.agent_laws.specs.History.{ArePutWhereDue, HasNumbers, IsLawful, onto}
+use Rattle.agent_laws.specs.Puts.{ArePut, IsPutAsAsked, messages_of}
+use Rattle.agent_laws.specs.Puts as puts
 use Rattle.agent_laws.proofs.HoldsLemmas.{fresh-expired, holds-expired, holds-first, numbers-expired}
 use Rattle.agent_laws.proofs.RaisedLemmas.{all_raised-kept}
 use Rattle.agent_laws.proofs.MadeLemmas.{agrees-more, goes-makes, lawful-more}
+use Rattle.agent_laws.proofs.MessageLemmas.{puts-append, puts-more}
 use Rattle.agent_laws.proofs.MomentLemmas.{judged-brings}
 use Rattle.agent_laws.proofs.PastLemmas.{LawfulIf, lawful-append, lawful-if, only-if, onto-append, stamp, stamps, stamps-append}
 use Rattle.agent_laws.proofs.StepLemmas.{Agrees, Goes, Opened}
@@ -55,6 +59,8 @@ goes-in_turn {N = N} life past state some more one two = record {
   agrees = agrees-more life state.moment past some.actions more.actions more.state.held more.state.under_way.link.asks more.state.under_way.confirmations
       (subst (λ (m : Moment). Agrees N life m.mono (onto (onto past (stamps state.moment some.actions)) (stamps m more.actions)) more.state.held more.state.under_way.link.asks more.state.under_way.confirmations) one.moment two.agrees);
   moment = two.moment ∙ one.moment;
+  puts = puts-more state.moment past some.actions more.actions some.put more.put one.puts
+      (subst (λ m. ArePut (onto past (stamps state.moment some.actions)) (stamps m more.actions) more.put) one.moment two.puts);
 }
 
 -- what goes, and what it leaves as the next thing begins
@@ -85,7 +91,7 @@ leaves-moment : {N : Type 0} (life : Option ℕ) (moment : Moment) (state : Stat
     → IsJudged state → Leaves N life (taken_in moment state) (time_passes moment state)
 leaves-moment {N = N} life moment state tied judged =
     judged-brings (Leaves N life) moment state tied judged
-    (λ s past opened. record { goes = record { lawful = opened.agrees.idle; agrees = opened.agrees; moment = refl }; opened = opened })
+    (λ s past opened. record { goes = record { lawful = opened.agrees.idle; agrees = opened.agrees; moment = refl; puts = puts.none past }; opened = opened })
     (λ s at so past opened.
     let goes = goes-makes {event = Tick} life past (loses s) at opened in
     let binds = (judges-makes {event = Tick} (loses s) at so).binds in
@@ -132,13 +138,13 @@ module _ {N : Type 0} (life : Option ℕ) (past : List Stamped) (state : State) 
 
   goes-joined : (door : Door) → Goes N life past_then opened (join door opened)
   goes-joined door =
-      record { lawful = is_opened.agrees.idle; agrees = is_opened.agrees; moment = refl }
+      record { lawful = is_opened.agrees.idle; agrees = is_opened.agrees; moment = refl; puts = puts.none past_then }
 
   goes : Goes N life past taken after
   goes =
       let made = by_event (Goes N life past_then opened) event opened goes-joined (λ outcome makes. goes-makes life past_then makes (tied-opened moment state tied) is_opened) in
       let both = goes-in_turn life past taken (time_passes moment state) (handle event opened) (passed past is_taken).goes made in
-      record { lawful = both.lawful; agrees = both.agrees; moment = both.moment }
+      record { lawful = both.lawful; agrees = both.agrees; moment = both.moment; puts = both.puts }
 
   abbrev told_then : List Stamped
   told_then = onto past (stamps taken.moment after.actions)
@@ -180,6 +186,9 @@ module _ {N : Type 0} (life : Option ℕ) (past : List Stamped) (state : State) 
   step-lawful : LawfulIf N life past (stamped after)
   step-lawful = subst (LawfulIf N life past) (sym same_stamps) goes.lawful
 
+  step-puts : ArePut past (stamped after) after.put
+  step-puts = subst (λ all. ArePut past all after.put) (sym same_stamps) goes.puts
+
   step-tells : Tells N life (onto past (stamped after)) after.state
   step-tells = subst (λ all. Tells N life (onto past all) after.state) (sym same_stamps) record {
     agrees = subst (λ (m : Moment). Agrees N life m.mono told_then after.state.held after.state.under_way.link.asks after.state.under_way.confirmations) (sym goes.moment) goes.agrees;
@@ -206,16 +215,34 @@ run-lawful {N = N} life past state (timed ∷ later) tied judged tells numbers =
         let grown = run-grows state (timed ∷ later) in
         record { asks = omega (arith, grown.asks, (numbers n).asks); jobs = omega (arith, grown.jobs, (numbers n).jobs) }
 
+-- what is put is what is asked for
+run-puts : {N : Type 0} (life : Option ℕ) (past : List Stamped) (state : State) (events : List Timed)
+    → IsTied state → IsJudged state → Tells N life past state → (N → ⊥)
+    → ArePut past (history state events) (messages_of state events)
+run-puts life past state [] tied judged tells never = puts.none past
+run-puts {N = N} life past state (timed ∷ later) tied judged tells never =
+    puts-append (step-puts life past state timed.moment timed.event tied judged tells now)
+    (run-puts life (onto past (stamped after)) after.state later (step-fated state timed.moment timed.event tied).tied (step-judged state timed.moment timed.event tied judged).judged
+    (step-tells life past state timed.moment timed.event tied judged tells now) never)
+  where
+    after : Outcome
+    after = step state timed.moment timed.event
+
+    now : N → HasNumbers state
+    now n = absurd (never n)
+
+first-tells : (N : Type 0) (settings : Settings) → Tells N settings.life [] (first_state settings)
+first-tells N settings = record {
+  agrees = record { holds = holds-first settings.life; opens = refl; raised = λ job one found. absurd (cc); idle = λ n. refl };
+  chains = λ number port found. absurd (cc);
+  unborn = λ number above. refl;
+}
+
 first-if : (N : Type 0) (settings : Settings) (events : List Timed)
     → (N → HasNumbers (run (first_state settings) events))
     → LawfulIf N settings.life [] (history (first_state settings) events)
 first-if N settings events numbers =
-    run-lawful settings.life [] (first_state settings) events (first-tied settings) (first-judged settings)
-    record {
-      agrees = record { holds = holds-first settings.life; opens = refl; raised = λ job one found. absurd (cc); idle = λ n. refl };
-      chains = λ number port found. absurd (cc);
-      unborn = λ number above. refl;
-    } numbers
+    run-lawful settings.life [] (first_state settings) events (first-tied settings) (first-judged settings) (first-tells N settings) numbers
 
 -- where numbers are left, and in any case
 pub first-lawful : (settings : Settings) (events : List Timed)
@@ -229,3 +256,13 @@ pub first-only : (settings : Settings) (events : List Timed)
     → ArePutWhereDue settings.life [] (history (first_state settings) events)
 first-only settings events =
     only-if ⊥ settings.life [] (history (first_state settings) events) (first-if ⊥ settings events (λ n. absurd n))
+
+-- what is put is what is asked for, and is appended to what the helper is owed
+pub first-puts : (settings : Settings) (events : List Timed)
+    → IsPutAsAsked (first_state settings) events
+first-puts settings events = record {
+  messages =
+      run-puts settings.life [] (first_state settings) events (first-tied settings) (first-judged settings) (first-tells ⊥ settings) (λ n. n);
+  frames =
+      λ before one later whole. step-appends (run (first_state settings) before) one.moment one.event;
+}

@@ -1,5 +1,7 @@
 pub mod MomentLemmas
 pub mod PendingLemmas
+pub mod SilentLemmas
+pub mod MessageLemmas
 pub mod UsableLemmas
 pub mod UseLemmas
 pub mod KeyLemmas
@@ -20,6 +22,9 @@ pub mod UsedLemmas
 pub mod ConsentLemmas
 pub mod HostLemmas
 pub mod AnsweredLemmas
+pub mod WaitingLemmas
+pub mod StreamLemmas
+pub mod LossLemmas
 pub mod EndedLemmas
 pub mod ProvenLemmas
 pub mod ApartInsideLemmas

@@ -10,13 +10,14 @@ use Rattle.helper_link.specs.declared.answer.Settled.{Settled}
 use Rattle.helper_link.specs.declared.ask.Ask.{Ask}
 use Rattle.helper_link.specs.declared.fault.LinkFault.{LinkFault}
 use Rattle.helper_link.proofs.AnswerLemmas.{settling_leads}
-use Rattle.agent_model.specs.Actions.{Action, Answered, Lost, Outcome, acted, and_then}
+use Rattle.agent_model.specs.Actions.{Action, Answered, Lost, Outcome, Over, acted, and_then}
 use Rattle.agent_model.specs.Answers.{Answering, answer_all, answer_by, lose, lose_if, proved_where_open, with_answers}
 use Rattle.agent_model.specs.Events.{Happening}
 use Rattle.agent_model.specs.KeyStates.{KeyState}
 use Rattle.agent_model.specs.Runs.{Stamped}
 use Rattle.agent_model.specs.Sound.{IsTied}
 use Rattle.agent_model.specs.State.{Port, State, Verification, find_port}
+use Rattle.agent_model.proofs.ActionLemmas.{each-answers, each-append}
 use Rattle.agent_model.proofs.BindLemmas.{AnswerIs, answer_is, proves, tells as told_so}
 use Rattle.agent_model.proofs.JudgedLemmas.{keeps-quiet}
 use Rattle.agent_model.proofs.TiedLemmas.{tied-quiet}
@@ -27,9 +28,12 @@ use Rattle.agent_laws.proofs.GrantedLemmas.{goes-granted, over-agrees}
 use Rattle.agent_laws.proofs.RaisedLemmas.{all_raised-more}
 use Rattle.agent_laws.specs.Dues.{without_number}
 use Rattle.agent_laws.specs.History.{onto}
+use Rattle.agent_laws.specs.Puts.{ArePut, none}
+use Rattle.agent_laws.proofs.MessageLemmas.{puts-silent}
+use Rattle.agent_laws.proofs.SilentLemmas.{AreSilent, IsSilent}
 use Rattle.agent_laws.proofs.HoldsLemmas.{Holds, facts_of}
 use Rattle.agent_laws.proofs.PastLemmas.{LawfulIf, lawful-append, onto-append, stamp, stamps, stamps-append}
-use Rattle.agent_laws.proofs.StepLemmas.{Agrees, Goes, Opened, calm-quiet, numbers_of, opened-quiet, served-agrees, served-lawful}
+use Rattle.agent_laws.proofs.StepLemmas.{Agrees, Goes, Opened, calm-quiet, numbers_of, opened-quiet, served-agrees, served-lawful, served-puts}
 
 -- the numbers of the asks that are left
 numbers-removed : (number : ℕ) (pending : List Ask)
@@ -133,6 +137,9 @@ module _ {N : Type 0} (life : Option ℕ) (past : List Stamped) (piece : List �
   told = told-all life state.moment state.held past state.under_way.confirmations read.settled before state.under_way.link.asks read.link.asks
       (settling_leads (state.under_way.link.heard ++ piece) state.under_way.link.asks) record { lawful = opened.agrees.idle; agrees = opened.agrees }
 
+  silent : AreSilent after.actions
+  silent = each-answers IsSilent (λ one. tt) (λ proving. tt) read.settled before tt
+
   nobody : Settled
   nobody = record { ask = 0; asker = 0; answer = answer.Refused }
 
@@ -142,11 +149,13 @@ module _ {N : Type 0} (life : Option ℕ) (past : List Stamped) (piece : List �
     lawful = lawful-more N life state.moment past after.actions [] told.lawful told.agrees.idle;
     agrees = agrees-more life state.moment past after.actions [] state.held read.link.asks state.under_way.confirmations told.agrees;
     moment = refl;
+    puts = puts-silent state.moment past (after.actions ++ []) (each-append IsSilent after.actions [] silent tt);
   }
   goes-fault (Some fault) = record {
     lawful = lawful-more N life state.moment past after.actions (Lost ∷ []) told.lawful (told.agrees.idle, λ n. refl);
     agrees = agrees-more life state.moment past after.actions (Lost ∷ []) state.held [] state.under_way.confirmations (lost-agrees life state.moment state.held nobody (onto past (stamps state.moment after.actions)) read.link.asks state.under_way.confirmations told.agrees);
     moment = refl;
+    puts = puts-silent state.moment past (after.actions ++ Lost ∷ []) (each-append IsSilent after.actions (Lost ∷ []) silent (tt, tt));
   }
 
   nobody_lost : Goes N life past state (lose state)
@@ -154,6 +163,7 @@ module _ {N : Type 0} (life : Option ℕ) (past : List Stamped) (piece : List �
     lawful = (opened.agrees.idle, λ n. refl);
     agrees = lost-agrees life state.moment state.held nobody past state.under_way.link.asks state.under_way.confirmations opened.agrees;
     moment = refl;
+    puts = puts-silent state.moment past (Lost ∷ []) (tt, tt);
   }
 
 -- ---- events
@@ -161,7 +171,7 @@ module _ {N : Type 0} (life : Option ℕ) (past : List Stamped) (piece : List �
 pub goes-makes : {N : Type 0} {event : Happening} {old : State} {outcome : Outcome} (life : Option ℕ) (past : List Stamped)
     → Makes event old outcome → IsTied old → Opened N life past old → Goes N life past old outcome
 goes-makes life past (stays state) tied opened =
-    record { lawful = opened.agrees.idle; agrees = opened.agrees; moment = refl }
+    record { lawful = opened.agrees.idle; agrees = opened.agrees; moment = refl; puts = none past }
 goes-makes {N = N} {old = old} life past (first {mid = mid} {outcome = outcome} quiet rest) tied opened =
     let calm = calm-quiet quiet in
     let later = goes-makes life past rest (tied-quiet quiet tied) (opened-quiet life past old mid calm (keeps-quiet quiet tied.rising) opened) in
@@ -170,11 +180,14 @@ goes-makes {N = N} {old = old} life past (first {mid = mid} {outcome = outcome} 
           subst (λ m. LawfulIf N life past (stamps m outcome.actions)) calm.moment later.lawful;
       agrees = subst (λ m. Agrees N life m.mono (onto past (stamps m outcome.actions)) outcome.state.held outcome.state.under_way.link.asks outcome.state.under_way.confirmations) calm.moment later.agrees;
       moment = later.moment ∙ calm.moment;
+      puts =
+          subst (λ m. ArePut past (stamps m outcome.actions) outcome.put) calm.moment later.puts;
     }
 goes-makes life past (serves body_len port state found door nothing owed own) tied opened = record {
   lawful = served-lawful life past body_len port state found tied.raised.order opened;
   agrees = served-agrees life past body_len port state found tied.raised.order opened;
   moment = refl;
+  puts = served-puts life past body_len port state found tied.raised.order opened;
 }
 goes-makes life past (tells piece state) tied opened =
     goes-fault life past piece state opened (telling piece state.under_way.link).fault
@@ -183,6 +196,7 @@ goes-makes life past (overs confirmation state there) tied opened = record {
   lawful = (opened.agrees.idle, λ n. refl);
   agrees = over-agrees life past confirmation state tied.raised.order opened;
   moment = refl;
+  puts = puts-silent state.moment past (Over confirmation.job ∷ []) (tt, tt);
 }
 goes-makes life past (grants confirmation port state there found) tied opened =
     goes-granted life past confirmation port state tied.raised.order there found opened (grant-ends port.chain confirmation state)

@@ -22,11 +22,14 @@ use Rattle.agent_model.specs.State.{Port, State, UnderWay, find_port}
 use Rattle.agent_model.specs.Step.{asker_at}
 use Rattle.agent_model.proofs.JudgedLemmas.{Keeps}
 use Rattle.agent_model.proofs.MakeLemmas.{Quiet, alters, closes, goes_on, links, names, same_asks}
+use Rattle.agent_model.proofs.ServeLemmas.{serves-any}
 use Rattle.agent_laws.specs.Dues.{Claim, claim_of_request, due_signing, met_by, open_asks, proved_of}
 use Rattle.agent_laws.specs.History.{IsDue, onto}
 use Rattle.agent_laws.specs.Past.{done_of_request}
+use Rattle.agent_laws.specs.Puts.{ArePut, passes}
 use Rattle.agent_laws.proofs.DueLemmas.{Acts, acts-served, asks, due_read, met_with, raises_it, silent}
 use Rattle.agent_laws.proofs.HoldsLemmas.{Facts, Holds, NumbersKept, facts_after, facts_of, facts_then}
+use Rattle.agent_laws.proofs.MessageLemmas.{puts-served}
 use Rattle.agent_laws.proofs.ServedLemmas.{HoldsAfter, holds-served}
 use Rattle.agent_laws.proofs.RaisedLemmas.{AllRaised, Stays, as_it_is, lightly, stays-kept, all_raised-kept, all_raised-more, all_raised-push, all_raised-same}
 use Rattle.agent_laws.proofs.PastLemmas.{LawfulIf, nothing_due, stamp, stamps}
@@ -59,6 +62,7 @@ pub record Goes (N : Type 0) (life : Option ℕ) (past : List Stamped) (old : St
   pub lawful : LawfulIf N life past (stamps old.moment outcome.actions)
   pub agrees : Agrees N life old.moment.mono (onto past (stamps old.moment outcome.actions)) outcome.state.held outcome.state.under_way.link.asks outcome.state.under_way.confirmations
   pub moment : outcome.state.moment ≡ old.moment
+  pub puts : ArePut past (stamps old.moment outcome.actions) outcome.put
 
 -- ---- quiet changes
 
@@ -205,3 +209,8 @@ module _ {N : Type 0} (life : Option ℕ) (past : List Stamped) (body_len : ℕ)
 
   pub served-lawful : LawfulIf N life past (stamps state.moment (request ∷ served.work.actions))
   served-lawful = (opened.agrees.idle, lawful_behind)
+
+  -- what it puts is what it asks for
+  pub served-puts : ArePut past (stamps state.moment (request ∷ served.work.actions)) served.work.put
+  served-puts = passes past (stamp state.moment request) _ _ (λ asking no. absurd (cc))
+      (puts-served life state.moment past asker state.held state.under_way body served.work.verdict opened.agrees.holds opened.fresh (serves-any (agent_request_of body) asker state.held state.under_way))

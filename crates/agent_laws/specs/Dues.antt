@@ -58,45 +58,21 @@ pub record Claim : Type 0 where
 
 -- a request to sign claims by itself; the addition is the one that is held
 abbrev pub claim_of_request : Result ClientRequest MsgFault → ℕ → Option Claim
-claim_of_request (Err fault) port = None
-claim_of_request (Ok ListIdentities) port = None
-claim_of_request (Ok (Sign signing)) port = Some (record {
-  port = port;
-  addition = None;
-  signing
-      = signing;
-})
-claim_of_request (Ok (Add addition)) port = None
-claim_of_request (Ok (Remove blob)) port = None
-claim_of_request (Ok RemoveAll) port = None
-claim_of_request (Ok (Lock passphrase)) port = None
-claim_of_request (Ok (Unlock passphrase)) port = None
-claim_of_request (Ok (Bind bind)) port = None
-claim_of_request (Ok (OtherExtension name)) port = None
-claim_of_request (Ok (Unsupported number)) port = None
+claim_of_request (Ok (Sign signing)) port =
+    Some (record { port = port; addition = None; signing = signing })
+claim_of_request other port = None
 
 -- a consent claims what the user was asked for, of the very addition
 abbrev pub claim_of_raising : Option Raising → Option Claim
 claim_of_raising None = None
-claim_of_raising (Some raising) =
-    Some (record {
-      port = raising.port;
-      addition = Some raising.addition;
-      signing
-          = raising.signing;
-    })
+claim_of_raising (Some raising) = Some (record { port = raising.port; addition = Some raising.addition; signing = raising.signing })
 
 -- what an action claims
 abbrev pub claim_of : Action → List Stamped → Option Claim
 claim_of (Requested requesting) before =
     claim_of_request (agent_request_of requesting.body) requesting.port
-claim_of (Asked asking) before = None
-claim_of (Answered settled) before = None
-claim_of (Proved proving) before = None
-claim_of (Raised raising) before = None
 claim_of (Granted job) before = claim_of_raising (raised_at job before)
-claim_of (Over job) before = None
-claim_of Lost before = None
+claim_of other before = None
 
 -- ---- which claims are met
 

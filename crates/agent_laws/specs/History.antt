@@ -22,14 +22,8 @@ IsDue (ForBinding binding) port due = due ≡ None
 
 -- the action stands where this is due: nothing else comes between
 abbrev pub StandsAt : Action → Option Claim → Type 0
-StandsAt (Requested requesting) due = due ≡ None
 StandsAt (Asked asking) due = IsDue asking.purpose asking.port due
-StandsAt (Answered settled) due = due ≡ None
-StandsAt (Proved proving) due = due ≡ None
-StandsAt (Raised raising) due = due ≡ None
-StandsAt (Granted job) due = due ≡ None
-StandsAt (Over job) due = due ≡ None
-StandsAt Lost due = due ≡ None
+StandsAt other due = due ≡ None
 
 -- each of these actions, the oldest first, stands where it may behind those of the past, the newest
 -- first, and nothing is due behind the last

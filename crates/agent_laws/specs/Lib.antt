@@ -7,5 +7,7 @@ pub mod PastRows
 pub mod Deciding
 pub mod Answered
 pub mod Proven
+pub mod Puts
+pub mod AnsweredRows
 pub mod Apart
 pub mod ApartRows

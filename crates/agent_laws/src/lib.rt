@@ -22,10 +22,10 @@ pub use consequences::{
     a_confirmed_key_signs_with_consent, a_constrained_key_signs_where_permitted,
     a_key_for_one_host_signs_for_it, nothing_is_signed_while_locked, only_what_was_added_signs,
 };
-pub use laws::{a_client_gets_that_helpers_answer, history};
+pub use laws::{a_client_gets_that_helpers_answer, history, what_is_put_is_asked_for};
 pub use rows::{
     the_past_tells_of_keys, the_past_tells_of_uses, the_past_tells_of_what_is_open,
     what_is_due_is_what_was_asked,
 };
-pub use runs::these_runs_are_lawful;
+pub use runs::{these_runs_are_answered, these_runs_are_lawful};
 pub use uses::a_key_signs_as_often_as_it_may;

@@ -1,5 +1,5 @@
 -- Alike lists of events, from the first state on.
-use Rattle.std.proofs.Common.{◌≡◌, ℕ, ◌<◌, ◌≤◌, List, [], ◌∷◌, ◌++◌, length, refl, sym, ap, subst, ◌∙◌, arith, Option, Some, None}
+use Rattle.std.proofs.Common.{◌≡◌, ◌≢◌, ℕ, ◌<◌, ◌≤◌, List, [], ◌∷◌, ◌++◌, length, refl, sym, ap, subst, ◌∙◌, arith, Option, Some, None}
 use Rattle.std.specs.Prelude.{IsSome}
 use Rattle.std.proofs.lemmas.List.{map-append}
 use Rattle.identity_table.specs.Deaths.{earlier}
@@ -7,14 +7,16 @@ use Rattle.agent_model.specs.NumberLists.{put_all}
 use Rattle.world_ports.specs.declared.Door.{Door}
 use Rattle.world_ports.specs.declared.Door.TheVariants.{Clients, Children}
 use Rattle.world_ports.specs.declared.Moment.{Moment}
+use Rattle.helper_link.specs.declared.state.LinkState.TheVariants as states
 use Rattle.agent_model.specs.Actions.{Outcome, behind}
 use Rattle.agent_model.specs.Events.{Happening, Timed, Joined, Heard, Ended, Took, Started, StartFailed, Tick}
 use Rattle.agent_model.specs.Runs.{AllFit, outcomes}
 use Rattle.agent_model.specs.Sound.{IsSound}
-use Rattle.agent_model.specs.State.{Fits, Port, Settings, State, UnderWay, client_count, find_port, first_state, is_more, next_due, next_limit, numbers, owed_as, owed_by, role_of, wants, wants_more, wants_by}
+use Rattle.agent_model.specs.State.{Client, Confirmer, Fits, Helper, Port, Role, Settings, State, UnderWay, Unnamed, client_count, find_port, first_state, is_linked_to, is_more, next_due, next_limit, numbers, owed_as, owed_by, owed_by_port, role_by_helper, role_of, wants, wants_more, wants_by}
 use Rattle.agent_model.specs.Step.{handle, in_order, step}
 use Rattle.agent_model.specs.Time.{at_moment, time_passes}
-use Rattle.agent_model.proofs.PortsLemmas.{found_within}
+use Rattle.agent_model.proofs.MakeLemmas.{role-client, role-helper}
+use Rattle.agent_model.proofs.PortsLemmas.{found_number, found_within}
 use Rattle.agent_model.proofs.RunLemmas.{at_moment-follows, first_is_sound, last_after-le, step-last_port}
 use Rattle.agent_secrecy.specs.Secrets.{hidden}
 use Rattle.agent_secrecy.specs.Hiding.{Seen, hide_message, hide_port}
@@ -190,6 +192,38 @@ wants-by door f g s t number (Some p) (Some q) tracks is other_is =
 next_due-hidden : (state : State) → next_due (without_secrets state) ≡ next_due state
 next_due-hidden state = ap (λ death. earlier death (next_limit state.under_way)) (next_death-hidden hidden state.held.table.identities)
 
+-- what a child process is owed that isn't the helper: its role, and so its prompt, is the same
+owed-role : (role : Role) (one other : Port) (under_way : UnderWay)
+    → role_of one.door one.number under_way ≡ role → one.door ≡ Children
+    → under_way.link.state ≢ states.Linked one.number → (more : UnderWay)
+    → owed_as role one under_way ≡ owed_as role other more
+owed-role Client one other under_way is door unlinked more =
+    let client : one.door ≡ Clients = role-client one.door one.number under_way is in
+    let no : Children ≡ Clients = sym door ∙ client in
+    absurd (cc)
+owed-role Unnamed one other under_way is door unlinked more = refl
+owed-role Helper one other under_way is door unlinked more =
+    absurd (unlinked (role-helper one.door one.number under_way is))
+owed-role (Confirmer confirmation) one other under_way is door unlinked more = refl
+
+-- of two ports alike, where the link is as far and the same is to be confirmed
+owed-child : (one other : Port) (under_way more : UnderWay) → one.door ≡ Children
+    → one.door ≡ other.door → one.number ≡ other.number
+    → under_way.link.state ≡ more.link.state → under_way.confirmations ≡ more.confirmations
+    → under_way.link.state ≢ states.Linked one.number
+    → owed_by_port one under_way ≡ owed_by_port other more
+owed-child one other under_way more door doors numbers link confirmations unlinked =
+    owed-role (role_of one.door one.number under_way) one other under_way refl door unlinked more
+    ∙ ap (λ role. owed_as role other more) role-same
+  where
+    role-same : role_of one.door one.number under_way ≡ role_of other.door other.number more
+    role-same =
+        ap (λ d. role_of d one.number under_way) door
+        ∙ ap (λ n. role_of Children n under_way) numbers
+        ∙ ap (λ l. role_by_helper (is_linked_to other.number l) other.number under_way.confirmations) link
+        ∙ ap (λ c. role_by_helper (is_linked_to other.number more.link.state) other.number c) confirmations
+        ∙ ap (λ d. role_of d other.number more) (sym door ∙ doors)
+
 seen-alike : (o u : Outcome) → seen_of o ≡ seen_of u
     → ((number : ℕ) → wants number o.state ≡ wants number u.state) → IsAlikeSeen o u
 seen-alike o u same wanted =
@@ -211,6 +245,14 @@ seen-alike o u same wanted =
       due = sym (next_due-hidden o.state) ∙ ap next_due state ∙ next_due-hidden u.state;
       wants = wanted;
       helper = sym (length-blank o.state.under_way.link.owed) ∙ ap (λ (x : State). length x.under_way.link.owed) state ∙ length-blank u.state.under_way.link.owed;
+      confirmations = ap (λ (x : State). x.under_way.confirmations) state;
+      confirmers = λ number port found child unlinked.
+          let other = pair_of o.state u.state number port state found in
+          ap (λ x. owed_by x o.state.under_way) found
+          ∙ owed-child port other.0 o.state.under_way u.state.under_way child (ap (λ (x : Port). x.door) other.2) (ap (λ (x : Port). x.number) other.2)
+          (ap (λ (x : State). x.under_way.link.state) state) (ap (λ (x : State). x.under_way.confirmations) state)
+          (λ linked. unlinked (linked ∙ ap states.Linked (found_number number o.state.ports port found)))
+          ∙ sym (ap (λ x. owed_by x u.state.under_way) other.1);
       put = ap (λ (x : Seen). x.put) same;
     }
 

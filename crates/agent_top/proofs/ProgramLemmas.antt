@@ -5,10 +5,12 @@ use Rattle.schedule_text.specs.declared.fault.LineFault.{LineFault}
 use Rattle.replay_run.specs.declared.run_end.RunEnd.{RunEnd}
 use Rattle.replay_run.specs.declared.run_end.RunEnd.TheVariants.{Done, Refused, Memory, ReadFault, WriteFault}
 use Rattle.agent_laws.proofs.AnsweredLemmas.{first-answered}
+use Rattle.agent_laws.proofs.HistoryLemmas.{first-puts}
 use Rattle.replay_run.specs.Replay.{events_of, run_of, settings_of}
 use Rattle.replay_run.specs.Claims.{Seen, IsRefused, Ends}
 use Rattle.replay_run.proofs.RoundLemmas.{some_of}
 use Rattle.replay_run.proofs.BroughtLemmas.{run-schedule, schedule-lawful}
+use Rattle.replay_run.proofs.FitLemmas.{schedule-fits}
 use Rattle.agent_top.specs.Program.{status_of, ReplaysExactly, IsComplete, IsFinished, IsLawfulRun, HasNoFault, Completes, RunsLawfully}
 
 -- each end says what its status says
@@ -66,8 +68,10 @@ completes_by life end old new ends = record {
 lawful_run : (life : Option ℕ) (text : List ℕ) → IsLawfulRun life text
 lawful_run life text = record {
   agent = run-schedule life text;
+  fit = schedule-fits life text;
   lawful = schedule-lawful life text;
   answered = first-answered (settings_of life text) (events_of life text);
+  put = first-puts (settings_of life text) (events_of life text);
 }
 
 pub lawful_by : (life : Option ℕ) (old new : Seen) → RunsLawfully life old new

@@ -7,7 +7,7 @@ use Rattle.world_ports.specs.declared.entry.Entry.TheVariants as entry
 use Rattle.world_ports.specs.declared.events.Door.{Door}
 use Rattle.world_ports.specs.declared.events.Door.TheVariants.{Clients, Children}
 use Rattle.agent_laws.proofs.AnsweredLemmas.{first-answered}
-use Rattle.agent_laws.proofs.HistoryLemmas.{first-lawful}
+use Rattle.agent_laws.proofs.HistoryLemmas.{first-lawful, first-puts}
 use Rattle.agent_laws.specs.History.{HasNumbers}
 use Rattle.agent_model.specs.Events.{Timed}
 use Rattle.agent_model.specs.Runs.{run}
@@ -107,4 +107,5 @@ serves_lawfully life setting old new first = λ calls to told legal.
       agent = same;
       lawful = λ numbers. first-lawful (served_with life) (calls_events setting Unbound calls) (subst HasNumbers same numbers);
       answered = first-answered (served_with life) (calls_events setting Unbound calls);
+      put = first-puts (served_with life) (calls_events setting Unbound calls);
     }

@@ -32,13 +32,8 @@ DrillsExactly asked status.WriteFault old new = DrillEndsAtWriteFault asked.roun
 -- the drill was run to its end, unless memory ran out
 abbrev pub IsDrilled : Status → Type 0
 IsDrilled status.Done = Unit {0}
-IsDrilled (status.ScheduleRefused line fault) = ⊥
-IsDrilled status.Usage = ⊥
-IsDrilled status.BindFault = ⊥
-IsDrilled status.PollFault = ⊥
 IsDrilled status.Memory = Unit {0}
-IsDrilled status.ReadFault = ⊥
-IsDrilled status.WriteFault = ⊥
+IsDrilled other = ⊥
 
 -- where no write failed, it was
 abbrev pub DrillCompletes : Status → StreamView → StreamView → Type 0

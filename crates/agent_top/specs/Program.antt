@@ -5,7 +5,7 @@
 --   replay_run, specs/Settling.antt: what ports take after each line
 --   replay_run, specs/Told.antt: what is printed of each event
 --   agent_laws, specs/History.antt from `IsLawful`, Dues.antt, Past.antt: which signature is put to the helper, by what was
---   done before
+--   done before; specs/Answered.antt: who is answered; specs/Puts.antt: by which message it is put
 --   schedule_text, specs/Lines.antt and Deeds.antt: the lines that are read, and those that are printed
 --   agent_model, specs/Step.antt: one step of the abstract agent
 --   agent_model, specs/Dispatch.antt: the table of requests
@@ -13,7 +13,8 @@ use Rattle.std.specs.Prelude.{◌≡◌, ℕ, List, [], Option, None, IfSome}
 use Rattle.world_ports.specs.Causes.{Rose}
 use Rattle.agent_laws.specs.Answered.{IsAnswered}
 use Rattle.agent_laws.specs.History.{HasNumbers, IsLawful}
-use Rattle.agent_model.specs.Runs.{history, run}
+use Rattle.agent_laws.specs.Puts.{IsPutAsAsked}
+use Rattle.agent_model.specs.Runs.{AllFit, history, run}
 use Rattle.agent_model.specs.State.{first_state}
 use Rattle.agent_top.specs.declared.status.Status.{Status}
 use Rattle.agent_top.specs.declared.status.Status.TheVariants as status
@@ -64,13 +65,8 @@ IsComplete status.WriteFault = ⊥
 -- the input was run to its end, unless memory ran out
 abbrev pub IsFinished : Status → Type 0
 IsFinished status.Done = Unit {0}
-IsFinished (status.ScheduleRefused line fault) = ⊥
-IsFinished status.Usage = ⊥
-IsFinished status.BindFault = ⊥
-IsFinished status.PollFault = ⊥
 IsFinished status.Memory = Unit {0}
-IsFinished status.ReadFault = ⊥
-IsFinished status.WriteFault = ⊥
+IsFinished other = ⊥
 
 -- no read and no write failed
 pub record HasNoFault (old new : Seen) : Type 0 where
@@ -84,14 +80,18 @@ pub record Completes (life : Option ℕ) (result : Status) (old new : Seen) : Ty
   pub finished : HasNoFault old new →
       IfSome old.input.left (λ input. (run_of life input).refused ≡ None → IsFinished result)
 
--- the run of a schedule is that of the events which its lines and their settlings bring; and while neither the numbers of
--- asks nor those of jobs are spent, a signature is put to the helper in it exactly where what was done before says so; and
--- whoever waits for the helper gets its first answer to the own request, or is told that the helper was lost
+-- the run of a schedule is that of the events which its lines and their settlings bring, each of which may come in the state
+-- that it finds; and while neither the numbers of asks nor those of jobs are spent, a signature is put to the helper in it
+-- exactly where what was done before says so; and whoever waits for the helper gets its first answer to the own request, or
+-- is told that the helper was lost; and the messages that are put to the helper, and appended to what it is owed, are those
+-- of what was asked for
 pub record IsLawfulRun (life : Option ℕ) (text : List ℕ) : Type 0 where
   pub agent : (run_of life text).agent ≡ run (first_state (settings_of life text)) (events_of life text)
+  pub fit : AllFit (first_state (settings_of life text)) (events_of life text)
   pub lawful : HasNumbers (run_of life text).agent
       → IsLawful life [] (history (first_state (settings_of life text)) (events_of life text))
   pub answered : IsAnswered (first_state (settings_of life text)) (events_of life text)
+  pub put : IsPutAsAsked (first_state (settings_of life text)) (events_of life text)
 
 -- the run of what was read is such a run, and that of the whole input, where that is told
 abbrev pub RunsLawfully : Option ℕ → Seen → Seen → Type 0

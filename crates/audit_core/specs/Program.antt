@@ -1,6 +1,9 @@
 -- What the program does (ours): `Audits`, a line a status. The file is read from its end; what an audit finds and
 -- reports is in specs/Reports.antt, the law of which `IsLawfulRecord` speaks in agent_laws, specs/History.antt.
-use Rattle.std.specs.Prelude.{◌≡◌, ◌⊎◌, ◌≤◌, ℕ, List, [], Option, Some, None, Result, Ok, Err, length, map}
+use Rattle.std.specs.Prelude.{◌≡◌, ◌⊎◌, ◌≤◌, ℕ, List, [], ◌∷◌, Option, Some, None, IfSome, IsSomeAnd, Result, Ok, Err, length, map}
+use Rattle.world_ports.specs.Causes.{Rose}
+use Rattle.world_ports.specs.Files.{FilesView, HoldsMore}
+use Rattle.world_ports.specs.Journal.{Grows}
 use Rattle.world_ports.specs.Streams.{StreamView}
 use Rattle.agent_laws.specs.History.{HasNumbers, IsLawful}
 use Rattle.agent_model.specs.Runs.{history, run}
@@ -88,6 +91,30 @@ EndsAudit life text deeds status.WriteFault before after =
 -- the most bytes of a file
 abbrev pub longest_file : ℕ
 longest_file = 268435456
+
+-- a call on this path failed and no other did, and that was counted
+pub record FailsAt (path : List ℕ) (before now : FilesView) : Type 0 where
+  pub failed : Grows before.failed now.failed (path ∷ [])
+  pub cause : Rose before.faults now.faults
+
+-- the file of this path is too long, where that is told, and no call failed
+pub record IsTooLong (path : List ℕ) (before now : FilesView) : Type 0 where
+  pub more : HoldsMore before path longest_file
+  pub failed : now.failed ≡ before.failed
+
+-- the file of this path stopped the program
+abbrev pub StopsAt : List ℕ → FilesView → FilesView → Type 0
+StopsAt path before now = FailsAt path before now ⊎ IsTooLong path before now
+
+-- the path holds a file that is short enough, where that is told
+abbrev pub HoldsShort : FilesView → List ℕ → Type 0
+HoldsShort files path =
+    IfSome files.held (λ at. IsSomeAnd (at path) (λ bytes. length bytes ≤ longest_file))
+
+-- the file of the record stopped the program, or behind it that of the deeds
+abbrev pub StopsInOrder : (recording deeds : List ℕ) → FilesView → FilesView → Type 0
+StopsInOrder recording deeds before now =
+    StopsAt recording before now ⊎ (HoldsShort before recording × StopsAt deeds before now)
 
 -- the file is held, short enough, and this is its text
 pub record IsTextOf (held : Option (List ℕ)) (text : List ℕ) : Type 0 where

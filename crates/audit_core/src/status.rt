@@ -4,23 +4,31 @@ ghost use Rattle.audit_core.specs.Program.{code_of, status_by};
 
 use crate::comparison::Finding;
 use crate::writing::Stop;
+use thiserror::Error;
 
-/// How an audit ended. The exit statuses are 0 to 6 in this order.
-#[derive(Clone, Copy, Debug, PartialEq, Eq)]
+/// How an audit ended, in words for whoever started it. The exit statuses are 0 to 6 in this order.
+#[derive(Clone, Copy, Debug, PartialEq, Eq, Error)]
 pub enum AuditStatus {
     /// The deeds are what the record prints, and all signatures that were asked for in it are listed.
+    #[error("yes")]
     Yes,
     /// They differ, first at this line, counted from 1.
+    #[error("the deeds aren't what an agent does for the record: they differ at line {line}")]
     Differs { line: u64 },
     /// The words are none that the program takes.
+    #[error("usage: audit_prog RECORD DEEDS [LIFE]")]
     Usage,
     /// A file could not be read, or it is too long.
+    #[error("a file could not be read, or has more than 268435456 bytes")]
     FileFault,
     /// This line of the record, counted from 1, is refused.
+    #[error("line {line} of the record is refused")]
     BadRecord { line: u64 },
     /// Memory ran out. Says nothing of the files.
+    #[error("out of memory")]
     Memory,
     /// The output could not be written.
+    #[error("the output could not be written")]
     WriteFault,
 }
 

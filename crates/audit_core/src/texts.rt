@@ -1,9 +1,8 @@
 // The two files.
-ghost use Rattle.std.specs.Prelude.{◌≡◌, ◌⊎◌, ℕ, List, Option, Some, Err, IfErr, IfOk};
-ghost use Rattle.audit_core.specs.Program.{IsFileEnd, IsTextOf, longest_file};
+ghost use Rattle.std.specs.Prelude.{◌≡◌, ℕ, List, Option, Some, Err, IfErr, IfOk};
+ghost use Rattle.audit_core.specs.Program.{HoldsShort, IsFileEnd, IsTextOf, StopsAt, StopsInOrder};
 ghost use Rattle.audit_core.specs.declared.status.AuditStatus.TheVariants as status;
-ghost use Rattle.world_ports.specs.Causes.{Rose};
-ghost use Rattle.world_ports.specs.Files.{HoldsMore, OnlyReadsFiles};
+ghost use Rattle.world_ports.specs.Files.{OnlyReadsFiles};
 
 use crate::status::AuditStatus;
 use replay_run::LONGEST_SCHEDULE;
@@ -23,8 +22,10 @@ fn read_text<F: Files>(alloc: Global, files: &mut F, path: &str) -> Result<Vec<u
         → IfOk result (λ text. IsTextOf (held path.now) text.items) }
     ensures own { IfErr result (λ ended. IsFileEnd ended) }
     ensures file { result ≡ Err status.FileFault
-        → Rose (F.seen files.old).faults (F.seen files.new).faults
-        ⊎ HoldsMore (F.seen files.old) path.now longest_file }
+        → StopsAt path.now (F.seen files.old) (F.seen files.new) }
+    ensures short { IfOk result (λ text. HoldsShort (F.seen files.old) path.now) }
+    ensures failed { IfOk result (λ text. (F.seen files.new).failed ≡ (F.seen files.old).failed) }
+    ensures faults { IfOk result (λ text. (F.seen files.new).faults ≡ (F.seen files.old).faults) }
     ensures only { OnlyReadsFiles (F.seen files.old) (F.seen files.new) }
 {
     match files.read(alloc, path, LONGEST_SCHEDULE) {
@@ -47,9 +48,7 @@ pub fn read_texts<F: Files>(
         × IsTextOf (held deeds.now) texts.deeds.items) }
     ensures own { IfErr result (λ ended. IsFileEnd ended) }
     ensures file { result ≡ Err status.FileFault
-        → Rose (F.seen files.old).faults (F.seen files.new).faults
-        ⊎ (HoldsMore (F.seen files.old) recording.now longest_file
-        ⊎ HoldsMore (F.seen files.old) deeds.now longest_file) }
+        → StopsInOrder recording.now deeds.now (F.seen files.old) (F.seen files.new) }
     ensures only { OnlyReadsFiles (F.seen files.old) (F.seen files.new) }
 {
     let recording = read_text(alloc, files, recording)?;

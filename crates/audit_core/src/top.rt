@@ -1,10 +1,10 @@
 // The program over any files and any output.
-ghost use Rattle.std.specs.Prelude.{◌≡◌, ◌⊎◌, ℕ, List, Option, Some};
-ghost use Rattle.audit_core.specs.Program.{Audits, EndsAudit, longest_file};
+ghost use Rattle.std.specs.Prelude.{◌≡◌, ℕ, List, Option, Some};
+ghost use Rattle.audit_core.specs.Program.{Audits, EndsAudit, StopsInOrder};
 ghost use Rattle.audit_core.specs.Words.{Asked, IsAsked, IsUsage};
 ghost use Rattle.audit_core.specs.declared.status.AuditStatus.TheVariants as status;
 ghost use Rattle.world_ports.specs.Causes.{Rose};
-ghost use Rattle.world_ports.specs.Files.{HoldsMore, OnlyReadsFiles};
+ghost use Rattle.world_ports.specs.Files.{OnlyReadsFiles};
 ghost use Rattle.world_ports.specs.Streams.{OnlyWrites};
 
 use crate::comparison::compare;
@@ -46,7 +46,9 @@ pub fn audit<O: Sink>(
 ///
 /// Where the files tell what they hold, `audits` says of each end what was found and written. Where it is yes, the run
 /// that RECORD and DEEDS describe meets the law of history of agent_laws, and all signing requests that were put in it
-/// are listed.
+/// are listed. A file fault is of a path that the words name: a call on it failed and no other did, or its file is too long
+/// and no call failed. It is the file of the deeds only where that of the record is short enough and no call on it
+/// failed.
 pub fn audit_main<F: Files, O: Sink>(
     alloc: Global,
     words: &[String],
@@ -60,9 +62,7 @@ pub fn audit_main<F: Files, O: Sink>(
     ensures refused { IsUsage words.now
         → (result ≡ status.Usage) × ((output.new ≡ output.old) × (files.new ≡ files.old)) }
     ensures file { (asked : Asked) → IsAsked words.now asked → result ≡ status.FileFault
-        → Rose (F.seen files.old).faults (F.seen files.new).faults
-        ⊎ (HoldsMore (F.seen files.old) asked.recording longest_file
-        ⊎ HoldsMore (F.seen files.old) asked.deeds longest_file) }
+        → StopsInOrder asked.recording asked.deeds (F.seen files.old) (F.seen files.new) }
     ensures write { result ≡ status.WriteFault
         → Rose (O.seen output.old).write_faults (O.seen output.new).write_faults }
     ensures files_only { OnlyReadsFiles (F.seen files.old) (F.seen files.new) }

@@ -3,9 +3,6 @@
 //! the program; here are its words, its files and its output, and what it says on standard error.
 #![tactic(auto)]
 
-mod trouble;
-
-use crate::trouble::Trouble;
 use audit_core::{AuditStatus, audit_main};
 use real_edge::{RealFiles, is_memory};
 use std::env;
@@ -28,8 +25,8 @@ fn main(rt: HostRuntime) -> ExitCode {
         // Words that can't be read are no form of the program's.
         Err(_) => AuditStatus::Usage,
     };
-    if let Some(trouble) = Trouble::of(status) {
-        let _ = eprintln!(rt; "audit_prog: {trouble}");
+    if status != AuditStatus::Yes {
+        let _ = eprintln!(rt; "audit_prog: {status}");
     }
     ExitCode::from(status.code())
 }

@@ -11,5 +11,6 @@ pub mod FeedsLemmas
 pub mod EndLemmas
 pub mod RoundLemmas
 pub mod BroughtLemmas
+pub mod FitLemmas
 pub mod TallyLemmas
 pub mod DrillLemmas
