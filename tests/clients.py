@@ -643,24 +643,29 @@ print([key.get_name() for key in paramiko.Agent().get_keys()])
         assert all(answer.startswith("in\n") for answer in alike(folder, case))
 
 
-@check
-def asyncssh_logs_in(folder):
-    python = system_python("asyncssh")
-    keys = [keygen(folder / f"{kind}{bits}", kind, bits) for kind, bits in KINDS]
-    with Hosts(folder, "one") as hosts:
-        script = folder / "login.py"
-        script.write_text(
-            f"""import asyncio, asyncssh
+def asyncssh_login(folder, hosts):
+    """The command of a login by asyncssh."""
+    python, script = system_python("asyncssh"), folder / "login.py"
+    script.write_text(
+        f"""import asyncio, asyncssh
 async def main():
     async with asyncssh.connect("127.0.0.1", {hosts.one}, username={USER!r}, known_hosts=None, config=None) as connection:
         print((await connection.run("echo in")).stdout, end="")
 asyncio.run(main())
 """
-        )
+    )
+    return python, "-W", "ignore", script
+
+
+@check
+def asyncssh_logs_in(folder):
+    keys = [keygen(folder / f"{kind}{bits}", kind, bits) for kind, bits in KINDS]
+    with Hosts(folder, "one") as hosts:
+        words = asyncssh_login(folder, hosts)
         hosts.allow(*keys)
 
         def case(agent):
-            return with_each(agent, keys, python, "-W", "ignore", script)
+            return with_each(agent, keys, *words)
 
         assert alike(folder, case) == ["in\n"] * len(keys)
 
@@ -792,8 +797,8 @@ func main() {
 """
 
 
-@check
-def go_s_client_logs_in_and_lists_locks_and_removes(folder):
+def go_login(folder, hosts):
+    """The command of a login by Go's client, which also lists, locks and removes."""
     if not pathlib.Path("/usr/share/gocode/src/golang.org/x/crypto/ssh/agent").exists():
         raise Skip("no golang-golang-x-crypto-dev")
     (folder / "login.go").write_text(GO)
@@ -806,16 +811,22 @@ def go_s_client_logs_in_and_lists_locks_and_removes(folder):
         "GOFLAGS": "-p=2",
     }
     run(["/usr/bin/go", "build", "-o", folder / "login", folder / "login.go"], env=environment, timeout=900)
+    return folder / "login", f"127.0.0.1:{hosts.one}", USER
+
+
+@check
+def go_s_client_logs_in_and_lists_locks_and_removes(folder):
     keys = [keygen(folder / f"{kind}{bits}", kind, bits) for kind, bits in KINDS]
     with Hosts(folder, "one") as hosts:
+        words = go_login(folder, hosts)
         hosts.allow(*keys)
 
         def case(agent):
             answers = []
             for key in keys:
                 agent.run("ssh-add", "-q", key)
-                answers.append(agent.run(folder / "login", f"127.0.0.1:{hosts.one}", USER))
-            return [*answers, agent.run(folder / "login", f"127.0.0.1:{hosts.one}", USER, status=5)]
+                answers.append(agent.run(*words))
+            return [*answers, agent.run(*words, status=5)]
 
         answers = alike(folder, case)
         assert all(answer.startswith("in\n") for answer in answers[:-1]), answers

@@ -284,6 +284,16 @@ def mortarleek_add_locks_and_unlocks(folder):
         daemon.run(installed.add, "-X", input="another\n", status=1)
         assert "Agent unlocked." in daemon.run(installed.add, "-X", input="pass word\n")
         assert "plain key" in daemon.run(installed.add, "-l")
+        # bytes count and not characters, and a line's end isn't one of them
+        short = "mortarleek-add: a passphrase of fewer than eight bytes"
+        for passphrase, is_short in (("sevenby", True), ("eightbyt", False), ("\u00e4\u00e4\u00e4\u00e4", False), ("seven b", True)):
+            said = daemon.run(installed.add, "-x", input=passphrase)
+            assert "Agent locked." in said and (short in said) == is_short, (passphrase, said)
+            assert short not in daemon.run(installed.add, "-X", input=passphrase + "\n")
+        assert daemon.run(installed.add, "-q", "-x", input="short\n") == ""
+        assert short not in daemon.run(installed.add, "-X", input="short\n")
+        assert short not in daemon.run(installed.add, "-x", input="\n", status=1)
+        assert "emptypassphrase" in daemon.run(installed.add, "-x", input="", status=1)
         # a terminal is asked twice for a lock, and shows nothing of what is typed
         for typed, status in ((["one", "two"], 1), (["a b", "a b"], 0)):
             said = typed_at([str(installed.add), "-x"], typed, daemon.environment, status)

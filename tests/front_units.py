@@ -2,12 +2,14 @@
 
 import os
 import pathlib
+import pwd
 import re
 import shutil
+import subprocess
 
 import rig
 from installed import check
-from rig import Skip, run
+from rig import Skip, run, until
 from user_manager import USER, UserManager
 
 PLACE = rig.TOP / "contrib/systemd"
@@ -49,6 +51,55 @@ def a_unit_for_an_own_installation_makes_no_user_namespace(folder):
     for word in ("Type", "NotifyAccess", "ExecStart", "RuntimeDirectory", "StateDirectory", "MemoryMax", "TasksMax", "LimitNOFILE"):
         lines = [re.findall(rf"(?m)^{word}=.*$", (PLACE / name).read_text()) for name in UNITS]
         assert lines[0] == lines[1] and len(lines[0]) == 1, (word, lines)
+
+
+def reads_memory_of(program, folder, *before):
+    """Whether the program's user reads its memory from outside, where that user starts it behind these words: by /proc,
+    and by process_vm_readv of what the kernel tells root of the place of its words."""
+    as_user = dict(user=pwd.getpwnam(USER).pw_uid, group=pwd.getpwnam(USER).pw_gid, extra_groups=[], cwd="/")
+    started = subprocess.Popen([*before, program, "1000"], stdin=subprocess.DEVNULL, **as_user)
+    try:
+        exe = pathlib.Path(f"/proc/{started.pid}/exe")
+        until(lambda: os.readlink(exe) == str(program), what="the program in the place of the words before it")
+        place = re.match("([0-9a-f]+)-", pathlib.Path(f"/proc/{started.pid}/maps").read_text())[1]
+        read = subprocess.run(["/usr/bin/python3", "-c", READS, str(started.pid), place], capture_output=True, text=True, **as_user)
+        opened = subprocess.run(["head", "-c", "1", f"/proc/{started.pid}/maps"], capture_output=True, **as_user)
+        assert (opened.returncode == 0) == (read.stdout == "read\n"), (opened, read)
+        return opened.returncode == 0
+    finally:
+        started.kill()
+        started.wait()
+
+
+READS = """
+import ctypes, sys
+class Piece(ctypes.Structure):
+    _fields_ = [("base", ctypes.c_void_p), ("len", ctypes.c_size_t)]
+room = ctypes.create_string_buffer(4)
+ours, theirs = Piece(ctypes.addressof(room), 4), Piece(int(sys.argv[2], 16), 4)
+count = ctypes.CDLL(None).process_vm_readv(int(sys.argv[1]), ctypes.byref(ours), 1, ctypes.byref(theirs), 1, 0)
+print("read" if count == 4 and room.raw == b"\\x7fELF" else "refused")
+"""
+
+
+@check
+def in_a_user_namespace_memory_is_closed_to_its_user_where_the_file_is_root_s_alone(folder):
+    """So the unit for an own installation makes none, and root's may."""
+    if os.geteuid() != 0:
+        raise Skip("it takes root to start programs of two users")
+    folder.chmod(0o755)
+    own, roots = folder / "own", folder / "roots"
+    for program, mode in ((own, 0o111), (roots, 0o711)):
+        shutil.copy(shutil.which("sleep"), program)
+        program.chmod(mode)
+    shutil.chown(own, USER, pwd.getpwnam(USER).pw_gid)
+    namespace = ["unshare", "-U", "-c"]
+    if subprocess.run(["setpriv", f"--reuid={USER}", "--clear-groups", *namespace, "true"], cwd="/").returncode != 0:
+        raise Skip("this machine lets users make no user namespace")
+    assert not reads_memory_of(own, folder)
+    assert not reads_memory_of(roots, folder)
+    assert not reads_memory_of(roots, folder, *namespace)
+    assert reads_memory_of(own, folder, *namespace), "the kernel keeps it now: the unit may have PrivateUsers"
 
 
 def installed_for(folder, home, own):
