@@ -20,7 +20,7 @@ from types import ModuleType
 from .drill import drill
 from .generate import GOALS, Case, Schedule
 from .replay import LONGEST_LINE, LONGEST_SCHEDULE, replay
-from .rows_many import EVERY_ROW
+from .rows_secrets import EVERY_ROW
 
 HERE = Path(__file__).parent
 Result = tuple[bytes, int]

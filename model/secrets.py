@@ -18,7 +18,7 @@ from .agent import LIMITS
 from .differential import Result, run_program, shorten, show
 from .formats import CERTIFIED, PRIVATE, added_key
 from .generate import Schedule
-from .rows_many import EVERY_ROW
+from .rows_secrets import EVERY_ROW, PAIRS
 from .wire import Fault, Reader, string
 
 HEARD = re.compile(rb"hear ([0-9]+) ((?:[0-9a-fA-F]{2})+)")
@@ -123,6 +123,15 @@ def try_rows(program: str) -> int:
     return count
 
 
+def try_literal_pairs(program: str) -> None:
+    """Pairs of literal rows: what isn't secret is told, so that the comparison is not blind, and what is isn't."""
+    for pair in PAIRS:
+        one, other = (seen(text, run_program(program, text, None)) for text in (pair.one, pair.other))
+        if (one != other) != pair.is_told:
+            print(f"alike but for {pair.what}: {'nothing' if pair.is_told else 'a secret'} is told")
+            sys.exit(1)
+
+
 def main() -> int:
     parser = argparse.ArgumentParser(prog="tests/secrets.sh")
     parser.add_argument("program")
@@ -130,6 +139,7 @@ def main() -> int:
     parser.add_argument("seed", nargs="?", default=str(int.from_bytes(os.urandom(4), "big")))
     words = parser.parse_args()
     print(f"seed {words.seed}")
+    try_literal_pairs(words.program)
     rows, secrets = try_rows(words.program), 0
     with multiprocessing.Pool() as workers:
         seeds = [f"{words.seed}/{place}" for place in range(words.count)]

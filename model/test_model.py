@@ -15,7 +15,7 @@ from .record import Entry, Recorder, record
 from .replay import Run, replay
 from .replays import fault
 from .rows_deadlines import RAISED
-from .rows_many import EVERY_ROW
+from .rows_secrets import EVERY_ROW
 from .wire import Fault, matches, string, take_frame, uint32, uint64
 
 
