@@ -1,5 +1,5 @@
 #!/usr/bin/env bash
-# Processor time that a signature and a verification take in the helpers that sign, the proved one (ed25519_helper) and
+# Processor time that a signature and a verification take in the helpers that sign, the proved one (mortarleek_signer) and
 # mortarleek-helper, and through both where the proved one hands a request on; beside libcrypto of the same machine and
 # OpenSSH's ssh-agent with the same keys, and for Ed25519 through the whole agent: the least of several rounds of each, in
 # turn. The first word is the number of rounds, 5 where there is none; with `instructions` behind it, instructions of Ed25519
@@ -7,7 +7,7 @@
 # neither helper is built.
 set -eu
 cd "$(dirname "$0")/.."
-[ -x bin/ed25519_helper ] || [ -x bin/mortarleek-helper ] || { echo "helper: not built: make"; exit 0; }
+[ -x bin/mortarleek_signer ] || [ -x bin/mortarleek-helper ] || { echo "helper: not built: make"; exit 0; }
 work=$(mktemp -d)
 trap 'rm -rf "$work"' EXIT
 gcc -O2 -o "$work/libcrypto" bench/helper/libcrypto.c -l:libcrypto.so.3

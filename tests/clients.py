@@ -867,7 +867,7 @@ def regress():
     bin = folder / "bin"
     bin.mkdir()
     rig.lay_scripts(bin)
-    for name, source in (("agent_prog", PROGRAM), ("ed25519_helper", rig.HELPER), ("mortarleek-helper", rig.BEHIND)):
+    for name, source in (("agent_prog", PROGRAM), ("mortarleek_signer", rig.HELPER), ("mortarleek-helper", rig.BEHIND)):
         shutil.copy(source, bin / name)
         (bin / name).chmod(0o755)
     # DSA is left out of the kinds of key: it is refused, by choice.

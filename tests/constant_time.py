@@ -7,7 +7,7 @@ which depends on the secret: there memcheck has to find something, or it wouldn'
 comparison of the seed's public key, which is no secret: gdb marks that as defined where it is made, and where it doesn't,
 the comparison is found. In the code of LLVM's build, by its own look, no conditional jump may stand but at the ends of loops
 over numbers that aren't secret. The same of a multiple of P-256's base point in ecdsa_tool. ED25519=PROGRAM,
-ED25519_HELPER=PROGRAM and ECDSA=PROGRAM put other programs in their places: the first two Rattle's own compiler's builds
+MORTARLEEK_SIGNER=PROGRAM and ECDSA=PROGRAM put other programs in their places: the first two Rattle's own compiler's builds
 too."""
 
 import os
@@ -30,7 +30,7 @@ from model import ed25519 as model
 
 check = rig.Checks("constant_time")
 TOOL = pathlib.Path(os.environ.get("ED25519", BUILT / "ed25519_tool"))
-HELPER = pathlib.Path(os.environ.get("ED25519_HELPER", rig.HELPER))
+HELPER = pathlib.Path(os.environ.get("MORTARLEEK_SIGNER", rig.HELPER))
 ECDSA = pathlib.Path(os.environ.get("ECDSA", BUILT / "ecdsa_tool"))
 SEED = bytes.fromhex("9d61b19deffd5a60ba844af492ec2cc44449c5697b326919703bac031cae7f60")
 PUBLIC = bytes.fromhex("d75a980182b10ab7d54bfed3c964073a0ee172f3daa62325af021a68f707511a")

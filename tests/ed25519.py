@@ -67,7 +67,7 @@ ROWS = [
 
 
 def same(folder, rows):
-    """Each line of the rows has the answer that stands beside it: the tool's, or the helper's (ed25519_helper.py)."""
+    """Each line of the rows has the answer that stands beside it: the tool's, or the helper's (signer_requests.py)."""
     return line_tools.same(answers, folder, rows)
 
 

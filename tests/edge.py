@@ -404,7 +404,7 @@ def a_ticket_in_the_words_is_still_taken_and_a_dash_alone_is_not(folder):
     rig.built("standin_helper")
     child = rig.Child(rig.BUILT / "standin_helper")
     assert child.end()[0] == 0
-    for name in ("standin_helper", "confirm_relay", "ed25519_helper", "mortarleek-helper"):
+    for name in ("standin_helper", "confirm_relay", "mortarleek_signer", "mortarleek-helper"):
         run([rig.built(name), "-", "1", "-", "/bin/true"], 2, env={}, timeout=20, stdin=subprocess.DEVNULL)
 
 

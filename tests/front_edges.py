@@ -102,7 +102,7 @@ def an_open_key_passes_through_no_other_program(folder):
 @check
 def a_helper_that_hangs_is_refused_within_two_seconds(folder):
     installed = Installed(folder)
-    helper = installed.prefix / "libexec/mortarleek/ed25519_helper"
+    helper = installed.prefix / "libexec/mortarleek/mortarleek_signer"
     helper.unlink()
     rig.script(helper, "trap '' TERM; exec sleep 100")
     begin = time.monotonic()

@@ -26,7 +26,7 @@ def manuals_are_clean_and_name_every_option(folder):
         "mortarleek-add.1",
         "agent_prog.1",
         "audit_prog.1",
-        "ed25519_helper.8",
+        "mortarleek_signer.8",
         "mortarleek-helper.8",
         "standin_helper.8",
         "confirm_relay.8",
@@ -98,7 +98,7 @@ def what_is_installed_works_and_is_taken_away_again(folder):
         "share/man/man1/mortarleek-audit.1",
         "share/man/man1/agent_prog.1",
         "share/man/man1/audit_prog.1",
-        "share/man/man8/ed25519_helper.8",
+        "share/man/man8/mortarleek_signer.8",
         "share/man/man8/mortarleek-helper.8",
         "share/bash-completion/completions/mortarleek",
         "share/bash-completion/completions/mortarleek-agent",
@@ -108,7 +108,7 @@ def what_is_installed_works_and_is_taken_away_again(folder):
     ):
         assert name in found, (name, sorted(found))
     assert not [name for name in found if name.startswith("bin/") and "mortarleek" not in name], sorted(found)
-    for name in ("agent_prog", "ed25519_helper", "mortarleek-helper"):
+    for name in ("agent_prog", "mortarleek_signer", "mortarleek-helper"):
         name = f"libexec/mortarleek/{name}"
         if name in found:
             assert found[name].stat().st_mode & 0o7777 == 0o711, name
@@ -188,7 +188,7 @@ def a_new_user_installs_it_and_logs_in(folder):
     (home / ".ssh").mkdir(parents=True, mode=0o700)
     source.mkdir()
     copy_of_the_repository(source)
-    for name in ("agent_prog", "ed25519_helper", "mortarleek-helper", "add_tool"):
+    for name in ("agent_prog", "mortarleek_signer", "mortarleek-helper", "add_tool"):
         shutil.copy(rig.built(name), source / "bin")
     environment = {"PATH": os.environ["PATH"], "HOME": str(home), "TMPDIR": str(folder)}
     assert install.startswith("make && make install "), install
@@ -225,7 +225,7 @@ def packed(place="source"):
     copy_of_the_repository(folder)
     (folder / "none.c").write_text("int main(void) { return 2; }\n")
     run(["gcc", "-O2", "-o", folder / "none", folder / "none.c"])
-    programs = ("agent_prog", "ed25519_helper", "mortarleek-helper", "confirm_relay", "standin_helper", "add_tool", "filter_proxy")
+    programs = ("agent_prog", "mortarleek_signer", "mortarleek-helper", "confirm_relay", "standin_helper", "add_tool", "filter_proxy")
     for name in programs:
         shutil.copy(rig.BUILT / name if (rig.BUILT / name).exists() else folder / "none", folder / "bin" / name)
     quick = {"DPKG_DEB_COMPRESSOR_TYPE": "gzip", "DPKG_DEB_COMPRESSOR_LEVEL": "1"}
@@ -245,7 +245,7 @@ def the_package_has_no_faults_and_says_what_it_is_of(folder):
     said = run(["lintian", "--allow-root", "--fail-on", "error,warning", package], timeout=900)
     assert "E:" not in said and "W:" not in said, said
     listed = run(["dpkg", "-c", package])
-    for name in ("agent_prog", "ed25519_helper", "mortarleek-helper"):
+    for name in ("agent_prog", "mortarleek_signer", "mortarleek-helper"):
         assert re.search(rf"(?m)^-rwx--x--x root/root .*/{name}$", listed), listed
     for name in ("SECURITY.md", "sbom.cdx.json", "changelog", "copyright"):
         assert re.search(rf"/usr/share/doc/mortarleek/{name}(\.gz)?$", listed, re.MULTILINE), (name, listed)
@@ -287,7 +287,7 @@ def the_package_s_own_test_passes_where_it_is_installed(folder):
     """debian/tests, in a copy of this system: installed, at work, and removed without a trace."""
     if os.geteuid() != 0:
         raise Skip("it takes root to install a package")
-    for name in ("agent_prog", "ed25519_helper", "add_tool"):
+    for name in ("agent_prog", "mortarleek_signer", "add_tool"):
         rig.built(name)
     package, _ = packed()
     shutil.copytree(rig.TOP / "debian/tests", folder / "tests")

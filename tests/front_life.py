@@ -267,7 +267,7 @@ def a_record_is_a_new_file_that_is_opened_once(folder):
 def what_agent_and_children_say_is_bounded(folder):
     installed = Installed(folder)
     key = keygen(folder / "key")
-    helper = installed.prefix / "libexec/mortarleek/ed25519_helper"
+    helper = installed.prefix / "libexec/mortarleek/mortarleek_signer"
     real = helper.rename(folder / "real")
     rig.script(helper, f"[ $# = 0 ] || dd if=/dev/zero bs=65536 count=320 2> /dev/null | tr '\\0' x >&2\nexec {real} \"$@\"")
     with installed.start() as daemon:

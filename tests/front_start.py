@@ -214,7 +214,7 @@ def words_reach_the_agent(folder):
         words = pathlib.Path(f"/proc/{agent}/cmdline").read_text().rstrip("\0").split("\0")
         words = words[words.index("serve") :]
         assert words[:4] == ["serve", "-a", daemon.path, "--helper"] and words[-2:] == ["-t", "90m"], words
-        helpers = [str(installed.prefix / "libexec/mortarleek" / name) for name in ("ed25519_helper", "mortarleek-helper")]
+        helpers = [str(installed.prefix / "libexec/mortarleek" / name) for name in ("mortarleek_signer", "mortarleek-helper")]
         assert words[4:7] == [helpers[0], "--helper-data", helpers[1]], words
         if "--relay" in words:
             assert words[words.index("--askpass") + 1] == str(asker), words
@@ -235,7 +235,7 @@ def without_a_helper_that_signs_it_says_so(folder):
 
 @check
 def a_helper_that_can_t_be_run_is_refused(folder):
-    for name in ("ed25519_helper", "mortarleek-helper"):
+    for name in ("mortarleek_signer", "mortarleek-helper"):
         place = folder / name
         place.mkdir()
         installed = Installed(place)
@@ -249,26 +249,26 @@ def a_helper_that_can_t_be_run_is_refused(folder):
 
 @check
 def one_helper_that_signs_is_enough(folder):
-    """The proved one alone signs with Ed25519 keys and refuses others, the other one alone with all; -d says so."""
-    for left, refused in (("ed25519_helper", ["rsa"]), ("mortarleek-helper", [])):
+    """The proved one alone signs but with keys over P-384 and P-521, the other one alone with all; -d says so."""
+    for left, refused in (("mortarleek_signer", ["p384"]), ("mortarleek-helper", [])):
         place = folder / left
         place.mkdir()
         installed = Installed(place)
-        for name in {"ed25519_helper", "mortarleek-helper"} - {left}:
+        for name in {"mortarleek_signer", "mortarleek-helper"} - {left}:
             (installed.prefix / "libexec/mortarleek" / name).unlink()
         with installed.start() as daemon:
             agent = agent_of(daemon.pid)
             words = pathlib.Path(f"/proc/{agent}/cmdline").read_text().split("\0")
             assert words[words.index("--helper") + 1].endswith(left) and "--helper-data" not in words, words
-            for kind in ("ed25519", "rsa"):
-                key = keygen(place / kind, kind=kind)
+            for name, kind in (("ed25519", "ed25519"), ("rsa", "rsa"), ("p256", "ecdsa"), ("p384", "ecdsa")):
+                key = keygen(place / name, *(["-b", "384"] if name == "p384" else []), kind=kind)
                 daemon.run("ssh-add", "-q", key)
                 # -T has the agent sign something, and verifies that.
-                daemon.run("ssh-add", "-T", f"{key}.pub", status=1 if kind in refused else 0)
+                daemon.run("ssh-add", "-T", f"{key}.pub", status=1 if name in refused else 0)
         if refused:
             more = dict(env=installed.environment, stdout=subprocess.PIPE, stderr=subprocess.STDOUT, text=True)
             with subprocess.Popen([installed.agent, "-d"], **more) as debugged:
                 said = debugged.stdout.readline()
                 debugged.terminate()
                 debugged.communicate(timeout=20)
-            assert said == "mortarleek-agent: no mortarleek-helper: Ed25519 keys alone can sign\n", said
+            assert said == "mortarleek-agent: no mortarleek-helper: ECDSA keys over P-384 and P-521 can't sign\n", said

@@ -91,7 +91,7 @@ def swap(path):
 def helper_of(installed):
     """The helper that the agent starts: the proved one, where it is there."""
     libexec = installed.prefix / "libexec/mortarleek"
-    return next(path for path in (libexec / "ed25519_helper", libexec / "mortarleek-helper") if path.exists())
+    return next(path for path in (libexec / "mortarleek_signer", libexec / "mortarleek-helper") if path.exists())
 
 
 def not_started(daemon):

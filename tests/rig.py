@@ -252,8 +252,8 @@ def serves(path, before=None):
     return True
 
 
-# The proved helper, which knows Ed25519 keys, and the one behind it, which knows the others too.
-HELPER, BEHIND = BUILT / "ed25519_helper", BUILT / "mortarleek-helper"
+# The proved helper, and the one behind it, which knows keys over P-384 and P-521 too.
+HELPER, BEHIND = BUILT / "mortarleek_signer", BUILT / "mortarleek-helper"
 
 
 def signing():

@@ -250,7 +250,7 @@ def what_no_agent_knows_is_refused(folder):
 @check
 def keys_of_each_kind_sign(folder):
     rig.built("mortarleek-helper")
-    rig.built("ed25519_helper")
+    rig.built("mortarleek_signer")
     with serve(folder) as ours, openssh_agent(folder) as theirs:
         for key in keys_of_each_kind(folder, "certified"):
             for agent in (ours, theirs):
@@ -348,7 +348,7 @@ def after_SIGTERM_the_front_end_takes_the_socket_away(folder):
     bin = folder / "bin"
     bin.mkdir()
     rig.lay_scripts(bin)
-    for name, source in (("agent_prog", PROGRAM), ("ed25519_helper", "/bin/true")):
+    for name, source in (("agent_prog", PROGRAM), ("mortarleek_signer", "/bin/true")):
         run(["cp", source, bin / name])
     path = folder / "s"
     process = subprocess.Popen([bin / "mortarleek-agent", "-D", "-a", path], stdout=subprocess.PIPE, text=True)
@@ -540,7 +540,7 @@ def signed(agent, key):
 
 @check
 def a_killed_helper_is_started_again_at_the_next_request(folder):
-    rig.built("ed25519_helper")
+    rig.built("mortarleek_signer")
     key = keygen(folder / "key")
     with serve(folder) as agent:
         agent.run("ssh-add", "-q", key)
@@ -560,7 +560,7 @@ def a_killed_helper_is_started_again_at_the_next_request(folder):
 def a_killed_helper_behind_is_started_again_at_the_next_request_for_it(folder):
     """It is a child of the proved helper, which stays and signs with its own keys."""
     rig.built("mortarleek-helper")
-    rig.built("ed25519_helper")
+    rig.built("mortarleek_signer")
     own, other = keygen(folder / "own"), keygen(folder / "other", kind="rsa", bits=2048)
     with serve(folder) as agent:
         agent.run("ssh-add", "-q", own, other)
@@ -582,7 +582,7 @@ def a_killed_helper_behind_is_started_again_at_the_next_request_for_it(folder):
 
 @check
 def many_helpers_leave_no_process_behind(folder):
-    rig.built("ed25519_helper")
+    rig.built("mortarleek_signer")
     key = keygen(folder / "key")
     with serve(folder) as agent, agent.peer() as peer:
         agent.run("ssh-add", "-q", key)
@@ -604,7 +604,7 @@ def many_helpers_leave_no_process_behind(folder):
 
 @check
 def clients_that_sign_at_once_get_an_answer_each(folder):
-    rig.built("ed25519_helper")
+    rig.built("mortarleek_signer")
     key = keygen(folder / "key")
     with serve(folder) as agent:
         agent.run("ssh-add", "-q", key)
@@ -627,7 +627,7 @@ def clients_that_sign_at_once_get_an_answer_each(folder):
 
 @check
 def a_helper_that_dies_while_it_signs_is_a_refusal(folder):
-    rig.built("ed25519_helper")
+    rig.built("mortarleek_signer")
     key = keygen(folder / "key")
     with serve(folder) as agent:
         agent.run("ssh-add", "-q", key)
@@ -843,7 +843,7 @@ def asked_for(agent, key, question):
 @check
 def a_confirmation_is_asked_and_holds_up_nobody(folder):
     rig.built("confirm_relay")
-    rig.built("ed25519_helper")
+    rig.built("mortarleek_signer")
     relay = rig.BUILT / "confirm_relay"
     key = keygen(folder / "key")
     asker = rig.script(

@@ -2,8 +2,8 @@
 """What a signature leaves in a process: pieces of eight bytes of the seed, of its hash, of the secret scalar, of the nonce
 and of the hash that it comes from, in all writable memory and in the registers, while the program (signing_traces) waits
 behind the signature. With `sign_checked` pieces are found, with `sign_erased` none. Of the helper that signs
-(ed25519_helper) nothing is found behind its answers; while it signs, and while it waits for the rest of a request, pieces
-are. TRACES=PROGRAM and ED25519_HELPER=PROGRAM put other programs in their places, as Rattle's own compiler's builds."""
+(mortarleek_signer) nothing is found behind its answers; while it signs, and while it waits for the rest of a request, pieces
+are. TRACES=PROGRAM and MORTARLEEK_SIGNER=PROGRAM put other programs in their places, as Rattle's own compiler's builds."""
 
 import contextlib
 import hashlib
@@ -26,7 +26,7 @@ from model import ed25519 as model
 
 check = rig.Checks("traces")
 PROGRAM = pathlib.Path(os.environ.get("TRACES", BUILT / "signing_traces"))
-HELPER = pathlib.Path(os.environ.get("ED25519_HELPER", rig.HELPER))
+HELPER = pathlib.Path(os.environ.get("MORTARLEEK_SIGNER", rig.HELPER))
 MESSAGE = b"a message that is signed, of forty bytes"
 PIECE = 8
 # What reduces the hash of the nonce, and then the challenge.

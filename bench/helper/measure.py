@@ -22,6 +22,8 @@ from rig import ADD, SIGN, children, string, strings
 WORK, ROUNDS, WHAT = pathlib.Path(sys.argv[1]), int(sys.argv[2]), sys.argv[3]
 MESSAGE = bytes(200)
 PROVED, OTHER = rig.HELPER, rig.BEHIND
+# The types that the proved helper hands on.
+BEHIND = ("ecdsa-sha2-nistp384", "ecdsa-sha2-nistp521")
 # key, name for openssl speed, flags, requests in a round
 KEYS = [
     (("ed25519", "256"), "ed25519", 0, 1000),
@@ -89,14 +91,14 @@ def with_key(what, count):
     return int(rig.run([WORK / "libcrypto", what, count])) / 1e9
 
 
-def helpers(kind):
-    """The helpers that know keys of this kind, by names, with their words."""
+def helpers(plain):
+    """The helpers that know keys of this type, by names, with their words."""
     found = {}
-    if PROVED.exists() and kind == "ed25519":
-        found["ed25519_helper"] = [PROVED]
+    if PROVED.exists() and plain not in BEHIND:
+        found["mortarleek_signer"] = [PROVED]
     if OTHER.exists():
         found["mortarleek-helper"] = [OTHER]
-    if PROVED.exists() and OTHER.exists() and kind != "ed25519":
+    if PROVED.exists() and OTHER.exists() and plain in BEHIND:
         found["through both"] = [PROVED, OTHER]
     return found
 
@@ -104,7 +106,7 @@ def helpers(kind):
 def bodies(key, flags):
     """A request to sign, and one to verify that signature."""
     sign = sign_body(1, key.private, key.blob, MESSAGE, flags)
-    child = rig.Child(*(helpers(key.plain.removeprefix("ssh-")) or {"": [OTHER]}).popitem()[1])
+    child = rig.Child(*(helpers(key.plain) or {"": [OTHER]}).popitem()[1])
     child.peer.send(sign)
     (signature,) = strings(child.peer.reply()[9:])
     child.end()
@@ -117,7 +119,7 @@ def measure(kind, bits, name, flags, count):
     least = {}
     for _ in range(ROUNDS):
         now = {}
-        for helper, words in helpers(kind).items():
+        for helper, words in helpers(key.plain).items():
             now[helper, "signs"] = helper_time(words, sign, count)
             now[helper, "verifies"] = helper_time(words, verify, count)
         now["libcrypto", "signs"], now["libcrypto", "verifies"] = speed(name)
@@ -159,7 +161,7 @@ def instructions():
     """Of many less those of few, so that the start of a program isn't counted."""
     few, many = 2, 22
     sign, verify = bodies(openssh.generate(WORK, "ed25519", "256"), 0)
-    for helper, words in helpers("ed25519").items():
+    for helper, words in helpers("ssh-ed25519").items():
         for what, body in (("signs", sign), ("verifies", verify)):
             run = lambda count: counted([*words, "-", "1", "0" * 32], lambda peer: asked(peer, body, count))
             print(f"ed25519: {helper} {what} by {(run(many) - run(few)) / (many - few):.0f} instructions", flush=True)

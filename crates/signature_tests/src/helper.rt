@@ -1,10 +1,10 @@
-// The helper with Ed25519 keys over a connection and a helper behind in memory: one signature is made here, and one
+// The helper that signs, over a connection and a helper behind in memory: one signature is made here, and one
 // with a key of another type behind. The frames are written out from docs/PROTOCOL.md; key, message and signature are
 // TEST 2 of RFC 8032, section 7.1.
 
-use ed25519_keys::{Ed25519Keys, ed25519_main};
 use helper_core::{HelperStatus, ListBehind};
 use plain_lists::Bytes;
+use signer_keys::{SignerKeys, signer_main};
 use std::alloc::{AllocError, Global};
 use std::test::Fail;
 use world_ports::{MemPeer, SliceSource, VecSink};
@@ -66,9 +66,9 @@ fn words(alloc: Global) -> Result<Vec<String>, AllocError> {
 }
 
 #[test]
-fn an_ed25519_key_signs_here_and_another_behind(rt: HostRuntime) -> Result<(), Fail> {
+fn a_known_key_signs_here_and_another_behind(rt: HostRuntime) -> Result<(), Fail> {
     let alloc = rt.alloc();
-    let keys = Ed25519Keys::new(alloc)?;
+    let keys = SignerKeys::new(alloc)?;
     let words = words(alloc)?;
     let stream = bytes(alloc, &[SIGN, LENGTH_OF_OTHER, SIGN_OTHER, VERIFY])?;
     let request = bytes(alloc, &[SIGN_OTHER])?;
@@ -81,7 +81,7 @@ fn an_ed25519_key_signs_here_and_another_behind(rt: HostRuntime) -> Result<(), F
         let source = SliceSource::new(&stream, 4096, Vec::new(alloc));
         let sink = VecSink::new(alloc, 4096, Vec::new(alloc))?;
         let mut peer = MemPeer::new(source, sink);
-        let status = ed25519_main(&rt, alloc, &words, &keys, &mut behind, &mut peer);
+        let status = signer_main(&rt, alloc, &words, &keys, &mut behind, &mut peer);
         assert_eq!(rt; status, HelperStatus::Done);
         assert!(rt; peer.written() == wanted.as_slice());
         assert_eq!(rt; behind.made().len(), 1);

@@ -1,8 +1,8 @@
 #!/usr/bin/env python3
-"""The proved helper as it is built (ed25519_helper), of which this process is the agent: the vectors of tests/ed25519.py
-beside libcrypto, random requests beside model/ed25519_helper.py, the helper behind, and how it ends. Words choose checks by
-a part of their names; `ed25519_helper.py N SEED` takes N random keys (1000) and 2 N random requests by a seed.
-ED25519_HELPER=PROGRAM puts another program in its place."""
+"""The proved helper as it is built (mortarleek_signer), of which this process is the agent: the vectors of tests/ed25519.py
+beside libcrypto, random requests beside model/mortarleek_signer.py, the helper behind, and how it ends. Words choose checks by
+a part of their names; `mortarleek_signer.py N SEED` takes N random keys (1000) and 2 N random requests by a seed.
+MORTARLEEK_SIGNER=PROGRAM puts another program in its place."""
 
 import json
 import os
@@ -22,10 +22,10 @@ from rig import TOP, children, is_alive, run, string, strings, until
 
 sys.path.insert(0, str(TOP / "helper/tests"))
 
-from model import differential_ed25519 as differential
+from model import differential_signer as differential
 
-check = rig.Checks("ed25519_helper")
-PROGRAM = pathlib.Path(os.environ.get("ED25519_HELPER", rig.HELPER))
+check = rig.Checks("signer_requests")
+PROGRAM = pathlib.Path(os.environ.get("MORTARLEEK_SIGNER", rig.HELPER))
 PLAIN = b"ssh-ed25519"
 SIGN, VERIFY, SIGNED, REFUSED, TRUE, FALSE = 1, 2, 101, 102, 103, 104
 vectors.COUNT = vectors.NUMBERS[0] if vectors.NUMBERS else 1000
@@ -105,7 +105,7 @@ check.part = "requests"
 
 @check
 def random_requests_are_answered_as_by_the_model(_):
-    print(f"ed25519_helper: {differential.run(str(PROGRAM), 2 * vectors.COUNT, str(SEED))}", flush=True)
+    print(f"mortarleek_signer: {differential.run(str(PROGRAM), 2 * vectors.COUNT, str(SEED))}", flush=True)
 
 
 def behind(folder, does):

@@ -1,32 +1,33 @@
-"""Random requests to the helper for Ed25519 keys, beside its model: plain keys and certificates of any authority, good and
-with something changed, keys of other types, and helpers behind that reply rightly, wrongly or not at all.
+"""Random requests to the helper that signs, beside its model: plain keys and certificates of any authority, good and with
+something changed, keys of other types, and helpers behind that reply rightly, wrongly or not at all.
 
-    python3 -m model.differential_ed25519 PROGRAM N [SEED]
-    python3 -m model.differential_ed25519 --wrong N [SEED]    tries the wrong ones of wrong_helpers.txt
+    python3 -m model.differential_signer PROGRAM N [SEED]
+    python3 -m model.differential_signer --wrong N [SEED]    tries the wrong ones of wrong_signers.txt
 """
 
 from __future__ import annotations
 
 import importlib
 import json
+import math
 import socket
 import subprocess
 import sys
 import tempfile
 import threading
 from collections import Counter
-from dataclasses import dataclass
+from collections.abc import Callable
+from dataclasses import dataclass, replace
 from pathlib import Path
 from random import Random
 from types import ModuleType
 
-from . import ed25519
+from . import ecdsa, ed25519
 from .differential import HERE, read_wrong
-from .ed25519_helper import CERTIFIED, ED25519, FALSE, REFUSED, SIGNED, TRUE, Transcript, helper
-from .formats import sign_frame, verify_frame
-from .wire import string, uint32, uint64
+from .formats import CERTIFIED, ED25519, RSA, sign_frame, verify_frame
+from .signer import ECDSA, FALSE, HASHES, REFUSED, SIGNED, TRUE, RsaKey, Transcript, helper, mpint
+from .wire import Reader, string, uint32, uint64
 
-ECDSA, RSA = b"ecdsa-sha2-nistp256", b"ssh-rsa"
 # Points of order 1, 2 and 4; x = 0 with the sign; and a y that is no number of the field.
 SMALL, SIGN_OF_X = (1, ed25519.P - 1, 0, 1 << 255), 1 << 255
 ODD = [ed25519.octets(number) for number in (*SMALL, 1 | SIGN_OF_X, ed25519.P - 1 | SIGN_OF_X, ed25519.P, ed25519.P + 1, 2**256 - 1)]
@@ -72,37 +73,101 @@ def addition(name: bytes, before: bytes, seed: bytes, public: bytes) -> bytes:
     return string(name) + before + string(public) + string(seed + public)
 
 
+def strings(texts: list[bytes]) -> bytes:
+    return b"".join(map(string, texts))
+
+
 @dataclass
 class Key:
-    """A key as an agent holds it."""
+    """A key as an agent holds it: the strings of its public half as a blob has them, those of its private string that a
+    plain key has in their place, and the private ones."""
 
-    seed: bytes
-    public: bytes
-    name: bytes
-    blob: bytes
+    plain: bytes
+    public: list[bytes]
+    added: list[bytes]
+    secret: list[bytes]
+    signs: Callable[[bytes, bytes], bytes]
+    certificate: bytes | None = None
+
+    @property
+    def name(self) -> bytes:
+        return self.plain if self.certificate is None else self.plain + CERTIFIED
+
+    @property
+    def blob(self) -> bytes:
+        return string(self.plain) + strings(self.public) if self.certificate is None else self.certificate
+
+    def private_of(self, secret: list[bytes]) -> bytes:
+        """The private string with these private ones."""
+        if self.certificate is None:
+            return string(self.plain) + strings(self.added) + strings(secret)
+        before = self.added if self.plain == ED25519 else []
+        return string(self.name) + string(self.certificate) + strings(before) + strings(secret)
 
     @property
     def private(self) -> bytes:
-        return addition(self.name, string(self.blob) if self.name != ED25519 else b"", self.seed, self.public)
+        return self.private_of(self.secret)
 
-    def sign(self, message: bytes) -> bytes:
-        return string(ED25519) + string(ed25519.sign(self.seed, message, ed25519.kept_times))
+    def sign(self, message: bytes, algorithm: bytes = b"rsa-sha2-256") -> bytes:
+        name = algorithm if self.plain == RSA else self.plain
+        return string(name) + string(self.signs(message, name))
 
 
-def plain(seed: bytes) -> Key:
+def ed25519_key(seed: bytes) -> Key:
     public = ed25519.public_key(seed, ed25519.kept_times)
-    return Key(seed, public, ED25519, string(ED25519) + string(public))
+    return Key(ED25519, [public], [public], [seed + public], lambda message, _: ed25519.sign(seed, message, ed25519.kept_times))
 
 
-def certified(key: Key, authority: Key, random: Random, named: bytes | None = None) -> Key:
+def ecdsa_key(d: int) -> Key:
+    public = [b"nistp256", ecdsa.public_key(d, ecdsa.kept_times)]
+
+    def sign(message: bytes, _: bytes) -> bytes:
+        signed = ecdsa.sign(d, message, ecdsa.kept_times)
+        return strings([mpint(int.from_bytes(half, "big")) for half in (signed[:32], signed[32:])])
+
+    return Key(ECDSA, public, public, [mpint(d)], sign)
+
+
+def is_prime(number: int, random: Random) -> bool:
+    """Miller and Rabin's test, of twelve bases."""
+    if any(number % small == 0 for small in (3, 5, 7, 11, 13, 17, 19, 23)):
+        return False
+    twos = (number - 1 & 1 - number).bit_length() - 1
+    for _ in range(12):
+        powers = [pow(random.randrange(2, number - 1), number - 1 >> twos, number)]
+        for _ in range(twos - 1):
+            powers.append(powers[-1] * powers[-1] % number)
+        if powers[0] != 1 and number - 1 not in powers:
+            return False
+    return True
+
+
+def prime(bits: int, e: int, random: Random) -> int:
+    while True:
+        number = random.getrandbits(bits) | 3 << bits - 2 | 1
+        if math.gcd(number - 1, e) == 1 and is_prime(number, random):
+            return number
+
+
+def rsa_key(bits: int, e: int, random: Random) -> Key:
+    p, q = prime(bits - bits // 2, e, random), prime(bits // 2, e, random)
+    n, d = p * q, pow(e, -1, math.lcm(p - 1, q - 1))
+    key = RsaKey(e, n)
+
+    def sign(message: bytes, name: bytes) -> bytes:
+        return pow(key.encoded(name, message), d, n).to_bytes(key.size(), "big")
+
+    return Key(RSA, [mpint(e), mpint(n)], [mpint(n), mpint(e)], [mpint(number) for number in (d, pow(q, -1, p), p, q)], sign)
+
+
+def certified(key: Key, authority: Key, random: Random, named: bytes | None = None, algorithm: bytes = b"rsa-sha2-512") -> Key:
     """A certificate of the authority, or of one that is named so and signs in its own way."""
-    name = ED25519 + CERTIFIED
-    body = string(name) + string(random.randbytes(32)) + string(key.public) + uint64(random.getrandbits(64))
+    body = string(key.plain + CERTIFIED) + string(random.randbytes(32)) + strings(key.public) + uint64(random.getrandbits(64))
     body += uint32(random.choice([1, 2])) + string(b"id") + string(string(b"host") * random.randrange(3))
     body += uint64(0) + uint64(2**64 - 1) + string(b"") + string(b"") + string(b"")
     body += string(authority.blob if named is None else named)
-    seal = authority.sign(body) if named is None else string(RSA) + string(b"a signature")
-    return Key(key.seed, key.public, name, body + string(seal))
+    seal = authority.sign(body, algorithm) if named is None else string(b"ssh-dss") + string(b"a signature")
+    return replace(key, certificate=body + string(seal))
 
 
 def turned(text: bytes, random: Random) -> bytes:
@@ -124,23 +189,65 @@ class Pool:
 
     def __init__(self, random: Random) -> None:
         self.random = random
-        self.plain = [plain(random.randbytes(32)) for _ in range(6)]
-        self.certified = [certified(key, random.choice(self.plain), random) for key in self.plain]
-        rsa = string(RSA) + string(b"\x01\x00\x01") + string(b"\x00" + random.randbytes(128))
-        ecdsa = string(ECDSA) + string(b"nistp256") + string(b"\x04" + random.randbytes(64))
-        # Authorities of other types, and one that is itself a certificate.
-        self.foreign = [certified(key, key, random, rsa) for key in self.plain[:2]]
-        self.foreign += [certified(self.plain[2], self.plain[0], random, blob) for blob in (ecdsa, self.certified[0].blob, b"")]
+        self.ed25519 = [ed25519_key(random.randbytes(32)) for _ in range(4)]
+        ecdsas = [ecdsa_key(random.randrange(1, ecdsa.N)) for _ in range(2)] + [ecdsa_key(random.choice([1, 255, ecdsa.N - 1]))]
+        rsas = [rsa_key(bits, e, random) for bits, e in ((1024, 65537), (1031, 3))]
+        self.plain = self.ed25519 + ecdsas + rsas
+        self.certified = [certified(key, authority, random) for key in self.plain for authority in random.sample(self.plain, 2)]
+        dss = string(b"ssh-dss") + string(b"\x00" + random.randbytes(128))
+        # Authorities of other types, one that is itself a certificate, and one that signs by SHA-1.
+        self.foreign = [certified(key, key, random, dss) for key in self.plain[::3]]
+        self.foreign += [certified(self.plain[2], self.plain[0], random, blob) for blob in (self.certified[0].blob, b"")]
+        self.foreign += [certified(self.plain[1], rsas[0], random, algorithm=b"ssh-rsa")]
         stand_in = string(b"keyed-sha256@example.com") + string(bytes(32))
-        longer = [string(name) + string(bytes(32)) for name in (b"ssh-ed25519-", b"ssh-ed25519-cert-v01@openssh.co", b"SSH-ED25519")]
-        self.others = [rsa, ecdsa, string(RSA + CERTIFIED) + rsa[11:], stand_in, *longer, b"", uint32(11), b"\0\0\0\xffssh-ed25519"]
+        near = (b"ssh-ed25519-", b"ssh-ed25519-cert-v01@openssh.co", b"SSH-ED25519", b"ecdsa-sha2-nistp25", b"ssh-rsa2", b"rsa-sha2-256")
+        self.others = [dss, stand_in, *(string(name) + string(bytes(32)) for name in near), b"", uint32(11), b"\0\0\0\xffssh-ed25519"]
+        self.others += [string(b"ecdsa-sha2-nistp384") + string(b"nistp384") + string(b"\x04" + random.randbytes(96))]
         self.messages = [random.randbytes(length) for length in (0, 1, 32, 63, 64, 111, 112, 127, 128, 300)]
+
+
+def spoilt_number(text: bytes, random: Random) -> bytes:
+    """An mpint in another form, or of another number."""
+    value = int.from_bytes(text, "big")
+    others = [b"\0" + text, b"\0\0" + text, b"", b"\0", text.lstrip(b"\0"), b"\xff" + text, text + b"\0", text[:-1], turned(text, random)]
+    return random.choice([*others, *map(mpint, (value + 1, value - 1, 2 * value, value + ecdsa.N))])
+
+
+def spoilt_private(pool: Pool, key: Key) -> tuple[bytes, bytes]:
+    """A private string and its blob, one of whose parts is another one's or changed."""
+    random, secret = pool.random, list(key.secret)
+    other = random.choice([other for other in pool.plain if other.plain == key.plain])
+    place = random.randrange(len(secret))
+    if key.plain != ED25519:
+        secret[place] = random.choice([other.secret[place], spoilt_number(secret[place], random)])
+        if key.plain == RSA and random.random() < 0.3:
+            # d modulo p - 1 and q - 1 is the same.
+            _, _, p, q = (int.from_bytes(text, "big") for text in key.secret)
+            secret[0] = mpint(int.from_bytes(key.secret[0], "big") + (p - 1) * (q - 1) * random.choice([1, 2**64]))
+        return key.private_of(secret), key.blob
+    # Each half of the secret field, and the field, in another's place or changed.
+    seed, public = key.secret[0][:32], key.public[0]
+    mixed = [other.secret[0][:32] + public, turned(seed, random) + public, seed + other.public[0], seed + turned(public, random)]
+    return key.private_of([random.choice(mixed)]), key.blob
+
+
+def spoilt_public(pool: Pool, key: Key) -> tuple[bytes, bytes]:
+    """A private string and a blob that agree in a public half that is no key's, or is in another form."""
+    random = pool.random
+    if key.plain == ED25519:
+        odd = random.choice(ODD)
+        return addition(ED25519, b"", key.secret[0][:32], odd), string(ED25519) + string(odd)
+    place = random.randrange(len(key.public))
+    public, changed = list(key.public), (spoilt_number if key.plain == RSA else turned)(key.public[place], random)
+    public[place] = changed
+    added = public[::-1] if key.plain == RSA else public
+    return string(key.plain) + strings(added) + strings(key.secret), string(key.plain) + strings(public)
 
 
 def signing(pool: Pool, ask: int) -> bytes:
     random = pool.random
     key = random.choice(pool.plain * 3 + pool.certified * 2 + pool.foreign)
-    private, blob, message, flags = key.private, key.blob, random.choice(pool.messages), random.choice([0, 0, 2, 4, 2**32 - 1])
+    private, blob, message, flags = key.private, key.blob, random.choice(pool.messages), random.choice([0, 1, 2, 3, 4, 6, 2**32 - 1])
     case = random.random()
     if case < 0.1:
         private = spoilt(private, random)
@@ -149,33 +256,58 @@ def signing(pool: Pool, ask: int) -> bytes:
     elif case < 0.3:
         other = random.choice(pool.plain + pool.certified)
         private, blob = random.choice([(other.private, blob), (private, other.blob)])
-    elif case < 0.4:
-        # Each half of the secret field, and the field, in another's place or changed.
-        other = random.choice(pool.plain)
-        before = string(blob) if key.name != ED25519 else b""
-        seed, public = random.choice([(other.seed, key.public), (turned(key.seed, random), key.public), (key.seed, other.public)])
-        private = addition(key.name, before, seed, public)
-        if random.random() < 0.5:
-            private = string(key.name) + before + string(key.public) + string(seed + turned(key.public, random))
-    elif case < 0.43 and key.name != ED25519:
-        blob = blob[: random.randrange(len(key.name) + 40, len(blob))] + random.choice([b"", b"x"])
-        private = addition(key.name, string(blob), key.seed, key.public)
-    elif case < 0.47:
-        odd = random.choice(ODD)
-        blob = string(ED25519) + string(odd)
-        private = addition(ED25519, b"", key.seed, odd)
-    elif case < 0.6:
+    elif case < 0.45:
+        private, blob = spoilt_private(pool, key)
+    elif case < 0.48 and key.certificate is not None:
+        key = replace(key, certificate=blob[: random.randrange(len(key.name) + 40, len(blob))] + random.choice([b"", b"x"]))
+        private, blob = key.private, key.blob
+    elif case < 0.53:
+        private, blob = spoilt_public(pool, key)
+    elif case < 0.63:
         blob = random.choice(pool.others)
         private = random.choice([private, blob + string(b"private")])
     return sign_frame(ask, private, blob, message, flags)
 
 
+def odd_signature(pool: Pool, key: Key, message: bytes) -> tuple[bytes, bytes]:
+    """A host key's blob and a signature at the bounds of what its algorithm takes."""
+    random = pool.random
+    if key.plain == ED25519 and random.random() < 0.5:
+        # R = [S]B is right under a key of order 1, and under others by chance.
+        number = random.choice([0, 1, 7, ed25519.L - 1, ed25519.L, 2**255])
+        point = ed25519.encode(ed25519.kept_times(number % ed25519.L, ed25519.BASE))
+        return string(ED25519) + string(random.choice(ODD)), string(ED25519) + string(point + ed25519.octets(number))
+    if key.plain == ED25519:
+        signed = key.signs(message, ED25519)
+        more = ed25519.integer(signed[32:]) + ed25519.L
+        wrong = [signed[:32] + ed25519.octets(more), signed[:-1], signed + b"\0", b"", signed[:32]]
+        return key.blob, string(ED25519) + string(random.choice(wrong))
+    if key.plain == ECDSA:
+        reader = Reader(key.signs(message, ECDSA))
+        r, s = (int.from_bytes(reader.string(), "big") for _ in range(2))
+        pairs = [(r, ecdsa.N - s), (s, r), (0, s), (r, 0), (ecdsa.N, s), (r, ecdsa.N), (r + ecdsa.N, s), (r, s + ecdsa.N), (r, 2**256)]
+        pair = random.choice([*(list(map(mpint, pair)) for pair in pairs), [mpint(r), spoilt_number(mpint(s), random)], [mpint(r)]])
+        return key.blob, string(ECDSA) + string(strings(pair))
+    # Without its zeros in front, with more of them, above the modulus, of an exponent of 1, and by another hash than it says.
+    name, n = random.choice(list(HASHES)), int.from_bytes(key.public[1], "big")
+    signed = key.signs(message, name)
+    forms = [b"\0" + signed, signed[1:], (int.from_bytes(signed, "big") + n).to_bytes(len(signed) + 1, "big"), b"", signed.lstrip(b"\0")]
+    case = random.random()
+    if case < 0.4:
+        return key.blob, string(name) + string(random.choice(forms))
+    if case < 0.7:
+        e = random.choice([1, 2**64 + 1, 2**64 - 1])
+        encoded = RsaKey(e, n).encoded(name, message).to_bytes(len(signed), "big")
+        return string(RSA) + string(mpint(e)) + string(mpint(n)), string(name) + string(random.choice([encoded, encoded[1:]]))
+    return key.blob, string(random.choice(list(HASHES))) + string(signed)
+
+
 def verifying(pool: Pool, ask: int) -> bytes:
     random = pool.random
-    key = random.choice(pool.plain * 3 + pool.certified * 3 + pool.foreign)
+    key = random.choice(pool.plain * 3 + pool.certified * 2 + pool.foreign)
     host, message = key.blob, random.choice(pool.messages)
-    signature = key.sign(message)
-    signed = signature[-64:]
+    name = random.choice(list(HASHES))
+    signature = key.sign(message, name)
     case = random.random()
     if case < 0.25:
         part = random.randrange(4)
@@ -184,27 +316,18 @@ def verifying(pool: Pool, ask: int) -> bytes:
         elif part == 1:
             message = turned(message, random)
         else:
-            signature = signature[:-64] + turned(signed, random)
+            signature = signature[:-32] + turned(signature[-32:], random)
     elif case < 0.35:
         host, signature = random.choice([(spoilt(host, random), signature), (host, spoilt(signature, random))])
-    elif case < 0.4:
-        other = ed25519.integer(signed[32:]) + ed25519.L
-        signature = string(ED25519) + string(signed[:32] + ed25519.octets(other))
-    elif case < 0.45:
-        wrong = [signed[:-1], signed + b"\0", b"", signed[:32]]
-        signature = string(ED25519) + string(random.choice(wrong))
-    elif case < 0.5:
-        signature = string(random.choice([RSA, key.name + b"x", ED25519 + CERTIFIED])) + string(signed)
+    elif case < 0.55:
+        host, signature = odd_signature(pool, key, message)
     elif case < 0.6:
-        # R = [S]B is right under a key of order 1, and under others by chance.
-        number = random.choice([0, 1, 7, ed25519.L - 1, ed25519.L, 2**255])
-        point = ed25519.encode(ed25519.kept_times(number % ed25519.L, ed25519.BASE))
-        signature = string(ED25519) + string(point + ed25519.octets(number))
-        host = string(ED25519) + string(random.choice(ODD))
-    elif case < 0.7:
+        other = random.choice([b"ssh-dss", key.name + b"x", key.plain + CERTIFIED, *HASHES, ED25519, ECDSA])
+        signature = string(other) + string(key.signs(message, name if key.plain == RSA else key.plain))
+    elif case < 0.68:
         host = random.choice(pool.others)
     elif case < 0.75:
-        signature = random.choice(pool.plain).sign(message)
+        signature = random.choice(pool.plain).sign(message, name)
     return verify_frame(ask, host, signature, message)
 
 
@@ -351,19 +474,19 @@ def run(program: str, requests: int, seed: str) -> str:
 
 
 # What the model of the helper is made of.
-MODULES = ("wire", "formats", "tools", "ed25519", "ed25519_helper")
+MODULES = ("wire", "formats", "tools", "ed25519", "ecdsa", "signer")
 
 
 def wrong_module(edit: dict[str, str], folder: str, number: int) -> ModuleType:
     """The model with one line changed, as a package of its own in a folder that modules are looked for in."""
-    place = Path(folder, f"wrong_helper_{number}")
+    place = Path(folder, f"wrong_signer_{number}")
     place.mkdir()
     for name in MODULES:
         text = (HERE / f"{name}.py").read_text()
         if edit["file"] == f"{name}.py":
             text = text.replace(edit["old"], edit["new"])
         (place / f"{name}.py").write_text(text)
-    return importlib.import_module(f"{place.name}.ed25519_helper")
+    return importlib.import_module(f"{place.name}.signer")
 
 
 def seen_of(model: ModuleType, words: list[str], replies: list[bytes | None], peer: bytes) -> tuple:
@@ -374,7 +497,7 @@ def seen_of(model: ModuleType, words: list[str], replies: list[bytes | None], pe
 
 
 def try_wrong(requests: int, seed: str) -> bool:
-    """Says behind how many requests each wrong helper is told from the right one; whether all are."""
+    """Says behind how many requests each wrong signer is told from the right one; whether all are."""
     random, sessions, told = Random(seed), [], 0
     pool = Pool(random)
     while told < requests:
@@ -388,12 +511,12 @@ def try_wrong(requests: int, seed: str) -> bool:
     missed = 0
     with tempfile.TemporaryDirectory() as folder:
         sys.path.insert(0, folder)
-        for number, edit in enumerate(read_wrong("wrong_helpers.txt")):
+        for number, edit in enumerate(read_wrong("wrong_signers.txt")):
             wrong = wrong_module(edit, folder, number)
             found = next((at for words, replies, peer, at, wanted in sessions if seen_of(wrong, words, replies, peer) != wanted), None)
             missed += found is None
             print(f"{found or 'never':>5}  {edit['wrong']}", flush=True)
-    print(f"{number + 1} wrong helpers: {missed} not told by {told} requests")
+    print(f"{number + 1} wrong signers: {missed} not told by {told} requests")
     return missed == 0
 
 
