@@ -1,0 +1,5 @@
+use Rattle.key_purposes.proofs.MessageLemmas.{one_is}
+use Rattle.key_purposes.proofs.laws.purposes_are_those_of_the_grammars.Goals as goal
+
+pub returns : goal.returns
+returns c = λ purposes message blob bytes short. one_is message blob bytes short purposes

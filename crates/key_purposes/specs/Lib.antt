@@ -1,0 +1,3 @@
+pub mod Purposes
+pub mod Messages
+pub mod Rows
