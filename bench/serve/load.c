@@ -1,6 +1,7 @@
 /* Asks an agent again and again. Each of CLIENTS connections sends the messages of FILE in turn, and the next one once
- * the reply to the last is there, for SECONDS or until COUNT replies. Prints how many replies came.
- * words: SOCKET CLIENTS SECONDS COUNT FILE */
+ * the reply to the last is there, for SECONDS or until COUNT replies. Prints how many replies came. Before that each
+ * sends the message of FIRST, whose reply isn't counted.
+ * words: SOCKET CLIENTS SECONDS COUNT FILE [FIRST] */
 #include <err.h>
 #include <stdint.h>
 #include <stdio.h>
@@ -42,6 +43,31 @@ static void ask(struct client *c)
     c->left = 0;
 }
 
+/* Reads exactly so many bytes. */
+static void take(int fd, unsigned char *to, size_t size)
+{
+    while (size > 0) {
+        ssize_t n = read(fd, to, size);
+        if (n <= 0)
+            errx(1, "the agent closed a connection");
+        to += n;
+        size -= n;
+    }
+}
+
+/* Sends a message, and reads the reply. */
+static void greet(int fd, const unsigned char *first, size_t size)
+{
+    static unsigned char reply[1 << 18];
+    if (write(fd, first, size) != (ssize_t)size)
+        err(1, "write");
+    take(fd, reply, 4);
+    size_t left = size_of(reply) - 4;
+    if (left > sizeof reply)
+        errx(1, "a reply is too long");
+    take(fd, reply, left);
+}
+
 static double now(void)
 {
     struct timespec t;
@@ -52,8 +78,8 @@ static double now(void)
 int main(int argc, char **argv)
 {
     static unsigned char room[1 << 16];
-    if (argc != 6)
-        errx(2, "words: SOCKET CLIENTS SECONDS COUNT FILE");
+    if (argc != 6 && argc != 7)
+        errx(2, "words: SOCKET CLIENTS SECONDS COUNT FILE [FIRST]");
     int clients = atoi(argv[2]);
     double end = now() + atof(argv[3]);
     uint64_t most = strtoull(argv[4], NULL, 10), replies = 0;
@@ -62,6 +88,14 @@ int main(int argc, char **argv)
         err(1, "%s", argv[5]);
     messages = malloc(1 << 20);
     length = fread(messages, 1, 1 << 20, file);
+    static unsigned char first[1 << 16];
+    size_t firsts = 0;
+    if (argc == 7) {
+        FILE *greeting = fopen(argv[6], "rb");
+        if (!greeting)
+            err(1, "%s", argv[6]);
+        firsts = fread(first, 1, sizeof first, greeting);
+    }
     struct sockaddr_un address = { .sun_family = AF_UNIX };
     strncpy(address.sun_path, argv[1], sizeof address.sun_path - 1);
     struct client *all = calloc(clients, sizeof *all);
@@ -70,6 +104,8 @@ int main(int argc, char **argv)
         all[i].fd = socket(AF_UNIX, SOCK_STREAM, 0);
         if (connect(all[i].fd, (struct sockaddr *)&address, sizeof address) < 0)
             err(1, "connect");
+        if (firsts > 0)
+            greet(all[i].fd, first, firsts);
         struct epoll_event event = { .events = EPOLLIN, .data.ptr = &all[i] };
         epoll_ctl(epoll, EPOLL_CTL_ADD, all[i].fd, &event);
         ask(&all[i]);

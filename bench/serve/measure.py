@@ -18,7 +18,7 @@ import openssh
 import plots
 import rig
 from frames import string
-from rig import ADD, ADD_LIMITED, FAILURE, LIST, LOCK, REMOVE, REMOVE_ALL, SIGN, SIGNATURE, SUCCESS, UNLOCK
+from rig import ADD, ADD_LIMITED, EXTENSION, FAILURE, LIST, LOCK, REMOVE, REMOVE_ALL, SIGN, SIGNATURE, SUCCESS, UNLOCK
 from rig import Agent, children, openssh_agent, our_agent, plain_key, until
 
 WORK, ROUNDS, CHOSEN = pathlib.Path(sys.argv[1]), int(sys.argv[2]), sys.argv[3:]
@@ -39,21 +39,24 @@ def family(agent):
     return [agent.process.pid, *children(agent.process.pid), *behind]
 
 
-def load(agent, clients, messages, seconds=SECONDS, count=10**12):
-    """How many replies came to the messages."""
+def load(agent, clients, messages, seconds=SECONDS, count=10**12, first=None):
+    """How many replies came to the messages. Each client sends `first` before, where there is one."""
     (WORK / "messages").write_bytes(b"".join(map(string, messages)))
     words = [WORK / "load", agent.path, str(clients), str(seconds), str(count), WORK / "messages"]
+    if first is not None:
+        (WORK / "first").write_bytes(string(first))
+        words.append(WORK / "first")
     return int(subprocess.run(words, check=True, stdout=subprocess.PIPE, text=True).stdout)
 
 
-def cost(agent, clients, messages):
+def cost(agent, clients, messages, first=None):
     """Processor microseconds a reply."""
     pids = family(agent)
     before = sum(map(spent, pids))
     replies, seconds = 0, SECONDS
     # on a busy machine the first time may be too short
     while replies < 100:
-        replies += load(agent, clients, messages, seconds)
+        replies += load(agent, clients, messages, seconds, first=first)
         seconds *= 4
     return (sum(map(spent, pids)) - before) / replies / 1000
 
@@ -368,31 +371,44 @@ def signatures(agents, null):
             compare(f"a signature of {kind} {bits}, {clients} clients", agents, clients, [request])
 
 
-MOST_THROUGH = 15
+# What a filter may add, in microseconds, at 1 and 16 clients.
+MOST_THROUGH = {"a list of 100 keys": {1: 20, 16: 15}, "a signature": {1: 14, 16: 10}}
+
+
+def refused_bind(key):
+    """A session-bind that is refused: its signature isn't the host's. Who sent one keeps its connection behind a filter."""
+    signature = string(b"ssh-ed25519") + string(bytes(64))
+    return bytes([EXTENSION]) + b"".join(
+        map(string, (b"session-bind@openssh.com", key.blob, bytes(32), signature))
+    ) + bytes(1)
 
 
 def through(agents, null):
-    """What a list of 100 keys and a signature take through a filter that lets them all pass, beside the agent alone."""
+    """What a list of 100 keys and a signature take through a filter that lets them all pass, beside the agent alone: of
+    clients that bind, as ssh does, and of others, for each of whose requests the filter connects to the agent anew."""
     if not (rig.BUILT / "filter_proxy").exists():
         print("serve: no filter: bin/filter_proxy isn't built")
         return
     key = openssh.generate(WORK, "ed25519", "256")
     request = bytes([SIGN]) + string(key.blob) + string(bytes(200)) + bytes(4)
+    asked = {"a list of 100 keys": bytes([LIST]), "a signature": request}
+    kinds = {"that bind": refused_bind(key), "that don't": None}
     for name, agent in agents.items():
         fill(agent, range(99))
         with agent.peer() as peer:
             assert peer.ask(ADD, key.private, string(b""))[0] == SUCCESS
         with Filter(agent) as before:
-            for what, message in (("a list of 100 keys", bytes([LIST])), ("a signature", request)):
-                for clients in (1, 16):
-                    pairs = [[cost(each, clients, [message]) for each in (agent, before)] for _ in range(ROUNDS)]
-                    alone, both = map(statistics.median, zip(*pairs))
-                    more = statistics.median(both - alone for alone, both in pairs)
-                    print(
-                        f"{what} through a filter, {clients} clients: {name} alone {alone:.4g} us, both {both:.4g} us, "
-                        f"{more:.3g} us more; goal at most {MOST_THROUGH}: {'met' if more <= MOST_THROUGH else 'not met'}",
-                        flush=True,
-                    )
+            for kind, first in kinds.items():
+                for what, most in MOST_THROUGH.items():
+                    for clients, goal in most.items():
+                        pairs = [[cost(each, clients, [asked[what]], first) for each in (agent, before)] for _ in range(ROUNDS)]
+                        alone, both = map(statistics.median, zip(*pairs))
+                        more = statistics.median(both - alone for alone, both in pairs)
+                        print(
+                            f"{what} through a filter, {clients} clients {kind}: {name} alone {alone:.4g} us, both {both:.4g} us, "
+                            f"{more:.3g} us more; goal at most {goal}: {'met' if more <= goal else 'not met'}",
+                            flush=True,
+                        )
         with agent.peer() as peer:
             peer.ask(REMOVE_ALL)
 
