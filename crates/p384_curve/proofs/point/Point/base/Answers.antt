@@ -1,0 +1,6 @@
+use Rattle.p384_curve.specs.Points.{base}
+use Rattle.p384_curve.proofs.point.Point.base.Goals as goal
+
+pub returns : goal.returns
+unfolding base
+returns c = cc
