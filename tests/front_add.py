@@ -259,7 +259,7 @@ def keys_that_could_never_sign_are_not_added(folder):
         for words, status in (([small], 1), ([unfit], 1), ([unfit, keys.plain, small], 1), (["-t", "1h", "-c", unfit], 1)):
             said = daemon.run(installed.add, *words, status=status)
             for key in {small, unfit} & set(words):
-                assert f"mortarleek-add: {key}: nothing can be signed with its key" in said, said
+                assert f"mortarleek-add: {key}: nothing can be signed with its key, so it isn't added: an RSA key has to have 1024 to 8192 bits" in said, said
             assert ("Identity added" in said) == (keys.plain in words), said
         assert daemon.run("ssh-add", "-l").splitlines() == run(["ssh-keygen", "-lf", f"{keys.plain}.pub"]).splitlines()
         # Each kind that can sign is added, under its terms; the trial leaves nothing behind.
