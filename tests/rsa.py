@@ -1,7 +1,7 @@
 #!/usr/bin/env python3
 """RSA signatures as they are built (rsa_tool), beside RSA Laboratories' and NIST's vectors (Debian's
 python3-cryptography-vectors) and libcrypto. Words choose checks by a part of their names; `rsa.py N SEED` takes N random
-keys of each size (4) by a seed."""
+keys of each size (4) and 100 N random messages by a seed."""
 
 import functools
 import hashlib
@@ -187,6 +187,18 @@ def random_keys_beside_libcrypto(folder):
                 rows.append((key.verifying(name, message, signature), "true"))
                 wrong = turned(signature, pick.randrange(8 * len(signature)))
                 rows.append((key.verifying(name, message, wrong), spoken(accepts_libcrypto(private, name, message, wrong))))
+    same(folder, rows)
+
+
+@check
+def random_messages_beside_libcrypto(folder):
+    """Signed alike, by keys that come again."""
+    _, padding, names, _ = libcrypto()
+    pick, rows = random.Random(SEED), []
+    for _ in range(100 * COUNT):
+        key, private = drawn(pick.choice((1024, 2048, 3072)))
+        name, message = pick.choice(HASHES), pick.randbytes(pick.randrange(200))
+        rows.append((key.signing(name, message), private.sign(message, padding, names[name]).hex()))
     same(folder, rows)
 
 
