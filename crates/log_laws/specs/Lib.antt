@@ -1,0 +1,4 @@
+-- what is seen of a run, and the laws
+pub mod Sights
+pub mod Raised
+pub mod Puts

@@ -1,0 +1,25 @@
+//! Laws of what is seen of a run.
+
+ghost use Rattle.std.specs.Prelude.{List};
+ghost use Rattle.world_ports.specs.declared.Moment.{Moment as AMoment};
+ghost use Rattle.agent_model.specs.Events.{Happening, Timed};
+ghost use Rattle.agent_model.specs.State.{State};
+ghost use Rattle.log_laws.specs.Puts.{SeesPuts, SeesRaises};
+ghost use Rattle.log_laws.specs.Raised.{RaisesItsOwn};
+
+/// In whatever state and at whatever moment an event comes, the user is asked about a request only of the client that the
+/// event is of, and exactly where the event began a job to ask him.
+pub fn an_event_asks_about_its_own_client()
+    ensures { (state : State) (moment : AMoment) (event : Happening) → RaisesItsOwn state moment event }
+{}
+
+/// The signing requests that are seen to be put to the helper in a run are those that its history puts, for the same
+/// clients and in the same order: each once, and no other.
+pub fn what_is_put_is_seen()
+    ensures { (state : State) (events : List Timed) → SeesPuts state events }
+{}
+
+/// The same of the requests about which the user is asked.
+pub fn what_is_asked_is_seen()
+    ensures { (state : State) (events : List Timed) → SeesRaises state events }
+{}
