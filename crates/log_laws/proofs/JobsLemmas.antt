@@ -16,19 +16,19 @@ use Rattle.helper_link.specs.declared.fault.LinkFault.{LinkFault}
 use Rattle.helper_link.specs.declared.state.LinkState.{LinkState}
 use Rattle.helper_link.specs.declared.state.LinkState.TheVariants as states
 use Rattle.agent_model.specs.Actions.{Action, Asked, Lost, Outcome, Over, Work}
-use Rattle.agent_model.specs.Answers.{answers_in, helper_tells, lose, lose_if, lose_where, with_answers}
+use Rattle.agent_model.specs.Answers.{answers_in, helper_tells, lose_if, lose_where, with_answers}
 use Rattle.agent_model.specs.Children.{failed_by, is_started_by, job_left, job_started, remove_to_start, start_failed}
-use Rattle.agent_model.specs.Consents.{over, over_if, signing_of}
+use Rattle.agent_model.specs.Consents.{over_if, signing_of}
 use Rattle.agent_model.specs.Dispatch.{Asker, Served}
-use Rattle.agent_model.specs.Errands.{Errand, Signs, asking_of, helper_jobs, raise_unless, with_ask}
+use Rattle.agent_model.specs.Errands.{Errand, Signs, asking_of, helper_jobs, with_ask}
 use Rattle.agent_model.specs.Events.{Happening, Joined, Heard, Ended, Took, Started, StartFailed, Tick}
 use Rattle.agent_model.specs.KeyStates.{KeyState}
 use Rattle.agent_model.specs.State.{Port, State, UnderWay, find_to_start, job_number}
-use Rattle.agent_model.specs.Step.{asker_at, handle, step}
+use Rattle.agent_model.specs.Step.{asker_at, handle}
 use Rattle.agent_model.specs.Time.{at_moment, time_passes}
 use Rattle.agent_model.proofs.ActionLemmas.{Each, each-tells}
 use Rattle.agent_model.proofs.GrantLemmas.{IsGranted, allowed, disallowed, grant-ends, unasked}
-use Rattle.agent_model.proofs.MakeLemmas.{Change, Goes, IsOf, Makes, Quiet, alters, by_event, closes, first, goes_on, grants, hears, leaves, links, loses, names, overs, prompts, says, sends, serves, starts as begins, stays, takes, tells}
+use Rattle.agent_model.proofs.MakeLemmas.{Change, Goes, Makes, Quiet, alters, by_event, closes, first, goes_on, grants, hears, leaves, links, loses, names, overs, prompts, says, sends, serves, starts as begins, stays, takes, tells}
 use Rattle.agent_model.proofs.ServeLemmas.{IsServed, answered, asked, raised, refused, serve-ends}
 use Rattle.agent_model.proofs.TimeLemmas.{AreEnds, IsEnd, at_moment-keeps, end, loss, no_more, one_more, time_passes-ends}
 use Rattle.log_laws.specs.Raised.{RaisesItsOwn, port_of, raised_if, raised_since}

@@ -13,7 +13,7 @@ use Rattle.log_book.specs.declared.sight.Sight.{Sight}
 use Rattle.log_book.specs.declared.sight.What.{What}
 use Rattle.log_book.specs.declared.sight.What.TheVariants as what
 use Rattle.log_laws.specs.Puts.{SeesPuts, SeesRaises, counted, put_seen, raised_seen}
-use Rattle.log_laws.specs.Sights.{came_of, closed_sight, event_sights, goes_over, is_of_client, of_client, put_by, put_in, put_sight, raised_by, raised_in, raised_sight, run_sights, seen_at}
+use Rattle.log_laws.specs.Sights.{came_of, closed_sight, event_sights, goes_over, is_of_client, of_client, put_by, put_in, put_sight, raised_by, raised_in, raised_sight, run_sights}
 
 -- ---- things of which none counts, and things of which each does
 
