@@ -22,7 +22,8 @@ from pathlib import Path
 from random import Random
 from types import ModuleType
 
-from . import ecdsa, ed25519
+from . import ed25519
+from .ecdsa import KEPT_P256 as P256
 from .differential import HERE, read_wrong
 from .formats import CERTIFIED, ED25519, RSA, sign_frame, verify_frame
 from .signer import ECDSA, FALSE, HASHES, REFUSED, SIGNED, TRUE, RsaKey, Transcript, helper, mpint
@@ -119,10 +120,10 @@ def ed25519_key(seed: bytes) -> Key:
 
 
 def ecdsa_key(d: int) -> Key:
-    public = [b"nistp256", ecdsa.public_key(d, ecdsa.kept_times)]
+    public = [b"nistp256", P256.public_key(d)]
 
     def sign(message: bytes, _: bytes) -> bytes:
-        signed = ecdsa.sign(d, message, ecdsa.kept_times)
+        signed = P256.sign(d, message)
         return strings([mpint(int.from_bytes(half, "big")) for half in (signed[:32], signed[32:])])
 
     return Key(ECDSA, public, public, [mpint(d)], sign)
@@ -190,7 +191,7 @@ class Pool:
     def __init__(self, random: Random) -> None:
         self.random = random
         self.ed25519 = [ed25519_key(random.randbytes(32)) for _ in range(4)]
-        ecdsas = [ecdsa_key(random.randrange(1, ecdsa.N)) for _ in range(2)] + [ecdsa_key(random.choice([1, 255, ecdsa.N - 1]))]
+        ecdsas = [ecdsa_key(random.randrange(1, P256.n)) for _ in range(2)] + [ecdsa_key(random.choice([1, 255, P256.n - 1]))]
         rsas = [rsa_key(bits, e, random) for bits, e in ((1024, 65537), (1031, 3))]
         self.plain = self.ed25519 + ecdsas + rsas
         self.certified = [certified(key, authority, random) for key in self.plain for authority in random.sample(self.plain, 2)]
@@ -210,7 +211,7 @@ def spoilt_number(text: bytes, random: Random) -> bytes:
     """An mpint in another form, or of another number."""
     value = int.from_bytes(text, "big")
     others = [b"\0" + text, b"\0\0" + text, b"", b"\0", text.lstrip(b"\0"), b"\xff" + text, text + b"\0", text[:-1], turned(text, random)]
-    return random.choice([*others, *map(mpint, (value + 1, value - 1, 2 * value, value + ecdsa.N))])
+    return random.choice([*others, *map(mpint, (value + 1, value - 1, 2 * value, value + P256.n))])
 
 
 def spoilt_private(pool: Pool, key: Key) -> tuple[bytes, bytes]:
@@ -285,7 +286,7 @@ def odd_signature(pool: Pool, key: Key, message: bytes) -> tuple[bytes, bytes]:
     if key.plain == ECDSA:
         reader = Reader(key.signs(message, ECDSA))
         r, s = (int.from_bytes(reader.string(), "big") for _ in range(2))
-        pairs = [(r, ecdsa.N - s), (s, r), (0, s), (r, 0), (ecdsa.N, s), (r, ecdsa.N), (r + ecdsa.N, s), (r, s + ecdsa.N), (r, 2**256)]
+        pairs = [(r, P256.n - s), (s, r), (0, s), (r, 0), (P256.n, s), (r, P256.n), (r + P256.n, s), (r, s + P256.n), (r, 2**256)]
         pair = random.choice([*(list(map(mpint, pair)) for pair in pairs), [mpint(r), spoilt_number(mpint(s), random)], [mpint(r)]])
         return key.blob, string(ECDSA) + string(strings(pair))
     # Without its zeros in front, with more of them, above the modulus, of an exponent of 1, and by another hash than it says.

@@ -10,7 +10,8 @@ from collections.abc import Callable
 from dataclasses import dataclass
 from typing import NoReturn, Protocol
 
-from . import ecdsa, ed25519
+from . import ed25519
+from .ecdsa import KEPT_P256 as P256
 from .formats import CERTIFIED, ED25519, RSA, from_child
 from .tools import BAD_FRAME, DONE, USAGE, End, hello, next_body, to_child
 from .wire import Fault, Reader, demand, string, uint64
@@ -136,8 +137,8 @@ class EcdsaKey:
 
     def sign(self, private: Reader, certified: bool, message: bytes, flags: int) -> bytes:
         d = secret_number(private)
-        demand(0 < d < ecdsa.N and ecdsa.public_key(d, ecdsa.kept_times) == self.point, "Mismatch")
-        signed = ecdsa.sign(d, message, ecdsa.kept_times)
+        demand(0 < d < P256.n and P256.public_key(d) == self.point, "Mismatch")
+        signed = P256.sign(d, message)
         r, s = int.from_bytes(signed[:32], "big"), int.from_bytes(signed[32:], "big")
         return string(ECDSA) + string(string(mpint(r)) + string(mpint(s)))
 
@@ -148,7 +149,7 @@ class EcdsaKey:
         reader.end()
         r, s = number(pair), number(pair)
         pair.end()
-        return max(r, s) < ecdsa.N and ecdsa.verify(self.point, message, ecdsa.octets(r) + ecdsa.octets(s), ecdsa.kept_times)
+        return max(r, s) < P256.n and P256.verify(self.point, message, P256.octets(r) + P256.octets(s))
 
 
 @dataclass

@@ -6,7 +6,7 @@ memcheck has to find no jump and no address that depends on it. Behind that the 
 which depends on the secret: there memcheck has to find something, or it wouldn't find anything. A signature begins with a
 comparison of the seed's public key, which is no secret: gdb marks that as defined where it is made, and where it doesn't,
 the comparison is found. In the code of LLVM's build, by its own look, no conditional jump may stand but at the ends of loops
-over numbers that aren't secret. The same of a multiple of P-256's base point in ecdsa_tool. ED25519=PROGRAM,
+over numbers that aren't secret. The same of a multiple of the base point of P-256 and P-384 in ecdsa_tool. ED25519=PROGRAM,
 MORTARLEEK_SIGNER=PROGRAM and ECDSA=PROGRAM put other programs in their places: the first two Rattle's own compiler's builds
 too."""
 
@@ -59,13 +59,20 @@ JUMPS = {
     "sha2::block512::compress": 1,
 }
 
+# The curves of ecdsa_tool, and the bits of a number.
+CURVES = {"p256": 256, "p384": 384}
+
 # The same of ecdsa_tool.
 ECDSA_JUMPS = {
-    "p256_curve::doublings::Doublings::multiple_by_bits": 1,
-    "p256_curve::point::Point::add": 0,
-    "p256_field::residue::Residue::product": 0,
-    "p256_order::residue::Residue::product": 0,
-    "wide_words::u256::U256::is_below": 0,
+    function: most
+    for curve, bits in CURVES.items()
+    for function, most in (
+        (f"{curve}_curve::doublings::Doublings::multiple_by_bits", 1),
+        (f"{curve}_curve::point::Point::add", 0),
+        (f"{curve}_field::residue::Residue::product", 0),
+        (f"{curve}_order::residue::Residue::product", 0),
+        (f"wide_words::u{bits}::U{bits}::is_below", 0),
+    )
 }
 
 # Where the program stops, what is marked there, and how often it is continued until then.
@@ -124,12 +131,12 @@ def present(program, functions):
     return next(name for name in functions if name in names)
 
 
-def on_a_key(tool):
+def on_a_key(tool, private=SEED.hex()):
     """Starts a tool on a line that asks for a public key, under these words before it."""
 
     def start(folder, before, output):
         lines = pathlib.Path(folder, "lines")
-        lines.write_text(f"key {SEED.hex()}\n")
+        lines.write_text(f"key {private}\n")
         return subprocess.Popen([*before, tool, lines], stdout=output, stderr=subprocess.STDOUT)
 
     return start
@@ -186,11 +193,13 @@ def a_public_key_is_made_alike_for_each_seed(folder):
 
 
 @check
-def a_multiple_of_p256_is_made_alike_for_each_number(folder):
+def a_multiple_of_a_base_point_is_made_alike_for_each_number(folder):
     """The number is the third word that the function is passed, behind the room for the point and the doublings: in words,
     the lowest first."""
-    multiple = "p256_curve::doublings::Doublings::multiple_by_bits"
-    holds(folder, on_a_key(rig.there(ECDSA)), ECDSA, multiple, {"$rdx": SEED[::-1]})
+    for curve, bits in CURVES.items():
+        private = (2 * SEED)[: bits // 8]
+        multiple = f"{curve}_curve::doublings::Doublings::multiple_by_bits"
+        holds(folder, on_a_key(rig.there(ECDSA), f"{curve} {private.hex()}"), ECDSA, multiple, {"$rdx": private[::-1]})
 
 
 @check

@@ -1,8 +1,12 @@
-//! Tests of `p256_ecdsa` by the vectors of RFC 6979, and by what it has to refuse.
-//! Stands on p256_ecdsa and hex.
+//! Tests of the crates of ECDSA by the vectors of RFC 6979, and by what they have to refuse.
+//! Stands on p256_ecdsa, p384_ecdsa and hex.
 #![tactic(auto)]
 
 #[cfg(test)]
-mod refused;
+mod p256_refused;
 #[cfg(test)]
-mod vectors;
+mod p256_vectors;
+#[cfg(test)]
+mod p384_refused;
+#[cfg(test)]
+mod p384_vectors;

@@ -1,20 +1,30 @@
 //! Public keys, signatures and verifications for the lines of a file, for the scripts that test and
-//! measure `p256_ecdsa` as it is built.
+//! measure the crates of ECDSA as they are built.
 #![tactic(auto)]
 
-use hex::FromHex;
-use p256_ecdsa::{Doublings, public_key, sign_checked, verify};
+mod answer;
+mod p256;
+mod p384;
+
+use crate::answer::Answer;
+use std::alloc::{AllocError, Global};
 use std::rt::Files;
 use std::{env, fs, io};
 
-/// The answer to a line.
+/// What each curve needs.
 #[derive(Drop)]
-enum Answer {
-    Key([u8; 65]),
-    Signature([u8; 64]),
-    Verdict(bool),
-    Refused,
-    NotALine,
+struct Curves {
+    p256: p256_ecdsa::Doublings,
+    p384: p384_ecdsa::Doublings,
+}
+
+impl Curves {
+    fn new(alloc: Global) -> Result<Curves, AllocError> {
+        Ok(Curves {
+            p256: p256_ecdsa::Doublings::new(alloc)?,
+            p384: p384_ecdsa::Doublings::new(alloc)?,
+        })
+    }
 }
 
 fn main(rt: HostRuntime) -> io::Result<()> {
@@ -27,89 +37,41 @@ fn main(rt: HostRuntime) -> io::Result<()> {
 
 /// A line of answer for each line of the file.
 fn answer_lines(rt: &(impl Files + AllocGlobal + Print), file: &str) -> io::Result<()> {
-    let doublings = Doublings::new(rt.alloc())?;
+    let curves = Curves::new(rt.alloc())?;
     let text = fs::read_to_string(rt, file)?;
     for line in text.lines() {
-        let answer = answer_of(rt, &doublings, line)?;
+        let answer = answer_of(rt, &curves, line)?;
         say(rt, &answer)?;
     }
     Ok(())
 }
 
-/// Prints an answer, in hexadecimal or in words.
-fn say(rt: &(impl AllocGlobal + Print), answer: &Answer) -> io::Result<()> {
+/// Prints an answer.
+fn say(rt: &impl Print, answer: &Answer) -> io::Result<()> {
     match answer {
-        Answer::Key(key) => println!(rt; "{}", hex::encode(rt.alloc(), key)?),
-        Answer::Signature(signature) => println!(rt; "{}", hex::encode(rt.alloc(), signature)?),
+        Answer::Bytes(text) => println!(rt; "{text}"),
         Answer::Verdict(holds) => println!(rt; "{holds}"),
         Answer::Refused => println!(rt; "refused"),
         Answer::NotALine => println!(rt; "not a line"),
     }
 }
 
-/// The answer to one line: `key PRIVATE`, `sign PRIVATE PUBLIC MESSAGE` or `verify PUBLIC SIGNATURE
-/// MESSAGE`, in hexadecimal, where an empty message is left out.
-fn answer_of(rt: &impl AllocGlobal, doublings: &Doublings, line: &str) -> io::Result<Answer> {
+/// The answer to one line: `key CURVE PRIVATE`, `sign CURVE PRIVATE PUBLIC MESSAGE` or `verify CURVE
+/// PUBLIC SIGNATURE MESSAGE`, in hexadecimal, where an empty message is left out.
+fn answer_of(rt: &impl AllocGlobal, curves: &Curves, line: &str) -> io::Result<Answer> {
     let mut words = line.split_whitespace();
     let verb = words.next().unwrap_or("");
+    let curve = words.next().unwrap_or("");
     let first = words.next().unwrap_or("");
     let second = words.next().unwrap_or("");
     let Some(message) = bytes_of(rt, words.next().unwrap_or(""))? else {
         return Ok(Answer::NotALine);
     };
-    Ok(match verb {
-        "key" => key_answer(doublings, first),
-        "sign" => sign_answer(doublings, first, second, &message),
-        "verify" => verify_answer(doublings, first, second, &message),
-        _ => Answer::NotALine,
-    })
-}
-
-/// The public key of a private key.
-fn key_answer(doublings: &Doublings, private: &str) -> Answer {
-    match private_of(private) {
-        Some(private) => match public_key(doublings, &private) {
-            Some(key) => Answer::Key(key),
-            None => Answer::Refused,
-        },
-        None => Answer::NotALine,
+    match curve {
+        "p256" => p256::answer_of(rt, &curves.p256, verb, first, second, &message),
+        "p384" => p384::answer_of(rt, &curves.p384, verb, first, second, &message),
+        _ => Ok(Answer::NotALine),
     }
-}
-
-/// The signature of a message under a private key.
-fn sign_answer(doublings: &Doublings, private: &str, public: &str, message: &[u8]) -> Answer {
-    match (private_of(private), public_of(public)) {
-        (Some(private), Some(public)) => match sign_checked(doublings, &private, &public, message) {
-            Some(signature) => Answer::Signature(signature),
-            None => Answer::Refused,
-        },
-        _ => Answer::NotALine,
-    }
-}
-
-/// Whether a signature is right.
-fn verify_answer(doublings: &Doublings, public: &str, signature: &str, message: &[u8]) -> Answer {
-    match (public_of(public), signature_of(signature)) {
-        (Some(public), Some(signature)) => {
-            Answer::Verdict(verify(doublings, &public, message, &signature))
-        }
-        _ => Answer::NotALine,
-    }
-}
-
-/// 32 bytes in hexadecimal.
-fn private_of(word: &str) -> Option<[u8; 32]> {
-    <[u8; 32] as FromHex>::from_hex(word).ok()
-}
-
-/// 65 bytes in hexadecimal.
-fn public_of(word: &str) -> Option<[u8; 65]> {
-    <[u8; 65] as FromHex>::from_hex(word).ok()
-}
-
-/// 64 bytes in hexadecimal.
-fn signature_of(word: &str) -> Option<[u8; 64]> {
-    <[u8; 64] as FromHex>::from_hex(word).ok()
 }
 
 /// Any bytes in hexadecimal.

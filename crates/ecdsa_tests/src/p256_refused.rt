@@ -11,7 +11,7 @@ const R: &str = "f1abb023518351cd71d881567b1ea663ed3efcf6c5132b354f28d3b0b7d3836
 
 const S: &str = "019f4113742a2b14bd25926b49c649155f267e60d3814b4c0cc84250e46f0083";
 
-// n and p (SP 800-186, section 3.2.1.3).
+// n and p (SP 800-186, section 3.2.1).
 const ORDER: &str = "ffffffff00000000ffffffffffffffffbce6faada7179e84f3b9cac2fc632551";
 
 const PRIME: &str = "ffffffff00000001000000000000000000000000ffffffffffffffffffffffff";

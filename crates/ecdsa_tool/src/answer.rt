@@ -1,0 +1,9 @@
+/// The answer to a line.
+#[derive(Drop)]
+pub(crate) enum Answer {
+    /// A public key or a signature, in hexadecimal.
+    Bytes(String),
+    Verdict(bool),
+    Refused,
+    NotALine,
+}
