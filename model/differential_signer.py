@@ -296,8 +296,8 @@ def odd_signature(pool: Pool, key: Key, message: bytes) -> tuple[bytes, bytes]:
     case = random.random()
     if case < 0.4:
         return key.blob, string(name) + string(random.choice(forms))
-    if case < 0.7:
-        e = random.choice([1, 2**64 + 1, 2**64 - 1])
+    if case < 0.85:
+        e = random.choice([1, 1, 1, 2**64 + 1, 2**64 - 1])
         encoded = RsaKey(e, n).encoded(name, message).to_bytes(len(signed), "big")
         return string(RSA) + string(mpint(e)) + string(mpint(n)), string(name) + string(random.choice([encoded, encoded[1:]]))
     return key.blob, string(random.choice(list(HASHES))) + string(signed)
