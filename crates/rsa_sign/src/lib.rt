@@ -7,6 +7,7 @@ mod joining;
 mod key;
 mod part;
 mod signing;
+mod wipe;
 mod words;
 
 pub use signing::{sign, sign_info};

@@ -10,6 +10,7 @@ ghost use Rattle.rsa_sign.specs.Signing.{power};
 use crate::joining::joined_of;
 use crate::key::has_key_sizes;
 use crate::part::part_of;
+use crate::wipe::{wipe, wipe_octets};
 use crate::words::{octets_of, words_of};
 use rsa_octets::without_zeros;
 use rsa_verify::{Hash, digest_info, encode, verify_info};
@@ -39,10 +40,13 @@ fn candidate(
         (length message.now)) }
 {
     let m = words_of(alloc, message, (message.len() + 7) / 8)?;
-    let m1 = part_of(alloc, &m, d, p)?;
-    let m2 = part_of(alloc, &m, d, q)?;
+    let mut m1 = part_of(alloc, &m, d, p)?;
+    let mut m2 = part_of(alloc, &m, d, q)?;
     let mut s = joined_of(alloc, &m1, &m2, iqmp, p, q)?;
     let signature = octets_of(alloc, &mut s, message.len())?;
+    wipe(&mut m1);
+    wipe(&mut m2);
+    wipe(&mut s);
     Ok(signature)
 }
 
@@ -86,10 +90,11 @@ fn sign_words(
         return Ok(None);
     }
     let message = encode(alloc, modulus.len(), info)?;
-    let signature = candidate(alloc, &message, d, p, q, iqmp)?;
+    let mut signature = candidate(alloc, &message, d, p, q, iqmp)?;
     if verify_info(alloc, modulus, e, info, &signature)? {
         Ok(Some(signature))
     } else {
+        wipe_octets(&mut signature);
         Ok(None)
     }
 }
@@ -99,7 +104,8 @@ fn sign_words(
 /// for want of memory alone.
 ///
 /// A number that doesn't verify stays here: by a wrong one, of wrong numbers or a fault of the
-/// machine, a factor can be found. Room isn't wiped.
+/// machine, a factor can be found. What is made of the key on the way is zero before it is freed,
+/// where memory suffices; no clause says so.
 pub fn sign_info(
     alloc: Global,
     modulus: &[u8],
@@ -195,11 +201,11 @@ fn sign_sized(
         → x ≡ signed_by modulus.now e (os2ip d.now) (os2ip p.now) (os2ip q.now) (os2ip iqmp.now) info.now
         → IfOk result (λ o. MatchOption o (x ≡ None) (λ s. x ≡ Some s.items)) }
 {
-    let p_words = words_of(alloc, p, (p.len() + 7) / 8)?;
-    let q_words = words_of(alloc, q, (q.len() + 7) / 8)?;
-    let d_words = words_of(alloc, d, (d.len() + 7) / 8)?;
-    let iqmp_words = words_of(alloc, iqmp, (p.len() + 7) / 8)?;
-    sign_words(
+    let mut p_words = words_of(alloc, p, (p.len() + 7) / 8)?;
+    let mut q_words = words_of(alloc, q, (q.len() + 7) / 8)?;
+    let mut d_words = words_of(alloc, d, (d.len() + 7) / 8)?;
+    let mut iqmp_words = words_of(alloc, iqmp, (p.len() + 7) / 8)?;
+    let signed = sign_words(
         alloc,
         modulus,
         e,
@@ -208,7 +214,12 @@ fn sign_sized(
         &q_words,
         &iqmp_words,
         info,
-    )
+    );
+    wipe(&mut p_words);
+    wipe(&mut q_words);
+    wipe(&mut d_words);
+    wipe(&mut iqmp_words);
+    signed
 }
 
 /// The signature of a message (RFC 8017, section 8.2.1), if the key is one and the signature verifies,
