@@ -2,11 +2,12 @@
 """What a signature leaves in a process: pieces of eight bytes of the seed, of its hash, of the secret scalar, of the nonce
 and of the hash that it comes from, in all writable memory and in the registers, while the program (signing_traces) waits
 behind the signature. With `sign_checked` pieces are found, with `sign_erased` none. Of the helper that signs
-(mortarleek_signer) nothing is found behind its answers; while it signs, and while it waits for the rest of a request, pieces
-are. TRACES=PROGRAM and MORTARLEEK_SIGNER=PROGRAM put other programs in their places, as Rattle's own compiler's builds."""
+(mortarleek_signer) nothing is found behind its answers, also of an ECDSA key's number and nonce and of an RSA key's numbers;
+while it signs, and while it waits for the rest of a request, pieces are. TRACES=PROGRAM and MORTARLEEK_SIGNER=PROGRAM put other programs in their places, as Rattle's own compiler's builds."""
 
 import contextlib
 import hashlib
+import hmac
 import os
 import pathlib
 import re
@@ -21,7 +22,10 @@ import rig
 from rig import BUILT, TOP, string
 
 sys.path.insert(0, str(TOP))
+sys.path.insert(0, str(TOP / "helper/tests"))
 
+import openssh
+from model import ecdsa
 from model import ed25519 as model
 
 check = rig.Checks("traces")
@@ -56,7 +60,11 @@ def secrets(seed):
     for turn in range(1, 192):
         texts[f"scalar after {turn} turns"] = model.octets(scalar >> turn)
         texts[f"nonce after {turn} turns"] = model.octets(nonce >> turn)
-    public = model.public_key(seed) + model.sign(seed, MESSAGE) + MESSAGE
+    return pieces_of(texts, model.public_key(seed) + model.sign(seed, MESSAGE) + MESSAGE)
+
+
+def pieces_of(texts, public):
+    """The pieces of these texts that aren't public, each with the name of its text."""
     pieces = {}
     for name, text in texts.items():
         step = WORD if "turns" in name else 1
@@ -90,9 +98,9 @@ def registers(process):
     return b"".join(int(word, 16).to_bytes(8, "little") for word in re.findall(r"0x([0-9a-f]{1,16})\b", said))
 
 
-def found_in(texts, seed):
+def found_in(texts, pieces):
     """The names of the pieces that stand in these texts, and in which."""
-    pieces, found = secrets(seed), []
+    found = []
     for name, text in texts:
         for place in range(len(text) - PIECE + 1):
             if (piece := text[place : place + PIECE]) in pieces:
@@ -110,7 +118,7 @@ def left(word, seed):
         # 0 is the call that reads.
         rig.until(lambda: waits.read_text().startswith("0 "), what="the signature")
         time.sleep(0.5)
-        found = found_in([*memory(process.pid), ("registers", registers(process.pid))], seed)
+        found = found_in([*memory(process.pid), ("registers", registers(process.pid))], secrets(seed))
         said, _ = process.communicate(bytes(33), timeout=60)
         assert said.decode().strip() == model.sign(seed, MESSAGE).hex(), said
     finally:
@@ -155,10 +163,10 @@ def helper():
         child.end()
 
 
-def found_in_helper(child, seed):
+def found_in_helper(child, pieces):
     """What stands in it while it waits for more."""
     time.sleep(0.5)
-    return found_in([*memory(child.process.pid), ("registers", registers(child.process.pid))], seed)
+    return found_in([*memory(child.process.pid), ("registers", registers(child.process.pid))], pieces)
 
 
 @check
@@ -171,7 +179,7 @@ def the_helper_s_answers_leave_nothing(_):
                 answer = child.peer.reply()
                 assert answer[0] == (101 if public is None else 102), answer
                 assert public or answer.endswith(model.sign(seed, MESSAGE))
-            found = found_in_helper(child, seed)
+            found = found_in_helper(child, secrets(seed))
             assert not found, sorted(set(found))
 
 
@@ -180,7 +188,7 @@ def the_helper_s_request_is_found_while_the_rest_is_to_come(_):
     """The control: of a request that isn't whole the seed stands in memory."""
     with helper() as child:
         child.peer.socket.sendall(string(request(SEEDS[0]))[:-1])
-        found = found_in_helper(child, SEEDS[0])
+        found = found_in_helper(child, secrets(SEEDS[0]))
         assert any(name == "seed" for name, _ in found), "the search finds nothing, also where something is"
 
 
@@ -203,13 +211,78 @@ def what_the_helper_signs_with_is_found_while_it_signs(folder):
             rig.until((folder / "ready").exists, 60, what="the debugger")
             child.peer.send(request(SEEDS[0]))
             rig.until(stopped.exists, 60, what="the challenge")
-            names = {name for name, _ in found_in(memory(child.process.pid), SEEDS[0])}
+            names = {name for name, _ in found_in(memory(child.process.pid), secrets(SEEDS[0]))}
         finally:
             with contextlib.suppress(FileNotFoundError):
                 stopped.unlink()
             said = debugger.communicate(timeout=60)[0]
         assert {"seed", "scalar", "nonce"} <= names, (names, said[-500:])
         assert child.peer.reply().endswith(model.sign(SEEDS[0], MESSAGE))
+
+
+def numbered(name, number, size):
+    """A number's bytes, the highest first, and the lowest first."""
+    text = number.to_bytes(size, "big")
+    return {name: text, f"{name}, the lowest byte first": text[::-1]}
+
+
+def ecdsa_secrets(d, message):
+    """The private number and the nonce, both in Montgomery's form too, what they are multiplied to, and K and V."""
+    hashed = ecdsa.digest(message)
+    nonce, n, radix = next(ecdsa.nonces(d, hashed)), ecdsa.N, 2**256
+    signature = ecdsa.sign(d, message)
+    r = int.from_bytes(signature[:32], "big")
+    texts = {}
+    for name, number in {"number": d, "nonce": nonce, "inverse": pow(nonce, -1, n), "product": r * d % n, "sum": (int.from_bytes(hashed, "big") + r * d) % n}.items():
+        texts |= numbered(name, number, 32) | numbered(f"{name} in Montgomery's form", number * radix % n, 32)
+    for turn in range(1, 192):
+        texts |= {f"number after {turn} turns": (d >> turn).to_bytes(32, "little")}
+        texts |= {f"nonce after {turn} turns": (nonce >> turn).to_bytes(32, "little")}
+    value, key = b"\1" * 32, bytes(32)
+    seed = ecdsa.octets(d) + ecdsa.octets(int.from_bytes(hashed, "big") % n)
+    for mark in (b"\0", b"\1"):
+        key = hmac.digest(key, value + mark + seed, "sha256")
+        value = hmac.digest(key, value, "sha256")
+        texts |= {f"K behind {mark}": key, f"V behind {mark}": value}
+        texts |= {f"K behind {mark}, {pad:#x}": bytes(byte ^ pad for byte in key) for pad in (0x36, 0x5C)}
+    return pieces_of(texts, ecdsa.public_key(d) + hashed + signature + signature[:32][::-1] + signature[32:][::-1])
+
+
+def rsa_secrets(numbers, signature):
+    """d and the factors, what is made of them, and the two parts of the signature."""
+    n, e, d, inverse, p, q = numbers
+    signed = int.from_bytes(signature, "big")
+    secret = {"d": d, "p": p, "q": q, "iqmp": inverse, "p - 1": p - 1, "q - 1": q - 1, "dP": d % (p - 1), "dQ": d % (q - 1)}
+    secret |= {"s modulo p": signed % p, "s modulo q": signed % q}
+    texts, size = {}, (n.bit_length() + 7) // 8
+    for name, number in secret.items():
+        texts |= numbered(name, number, size)
+    public = b"".join(text for number in (n, e, signed, pow(signed, e, n)) for text in numbered("", number, size).values())
+    return pieces_of(texts, public)
+
+
+def signing(private, blob, flags):
+    return struct.pack(">BQ", 1, 1) + string(private) + string(blob) + string(MESSAGE) + struct.pack(">I", flags)
+
+
+@check
+def the_helper_s_answers_leave_nothing_of_other_keys(folder):
+    """Signed, and refused since a private number is another one. The control: of a request that isn't whole, pieces stay."""
+    for kind, bits, flags in (("ecdsa", "256", 0), ("rsa", "2048", 4)):
+        key = openssh.generate(folder, kind, bits)
+        numbers = [int.from_bytes(field, "big") for field in key.fields]
+        changed = list(key.fields)
+        changed[2] = changed[2][:-1] + bytes([changed[2][-1] ^ 2])
+        with helper() as child:
+            for fields in (key.fields, changed, key.fields):
+                child.peer.send(signing(key.with_fields(fields).private, key.blob, flags))
+                answer = child.peer.reply()
+                assert answer[0] == (102 if fields is changed else 101), answer
+            pieces = ecdsa_secrets(numbers[2], MESSAGE) if kind == "ecdsa" else rsa_secrets(numbers, answer[-256:])
+            found = found_in_helper(child, pieces)
+            assert not found, sorted(set(found))
+            child.peer.socket.sendall(string(signing(key.private, key.blob, flags))[:-1])
+            assert found_in_helper(child, pieces), "the search finds nothing, also where something is"
 
 
 if __name__ == "__main__":

@@ -10,6 +10,7 @@ ghost use Rattle.signer_keys.specs.Signing.{signature_by, signature_for, signatu
 ghost use Rattle.signer_keys.specs.Verifying.{verifying_route};
 ghost use Rattle.wire_text.specs.Wire.{string};
 
+use crate::erased::put_erased;
 use crate::keys::SignerKeys;
 use crate::request::Request;
 use crate::types::{Kind, is_known, key_type};
@@ -72,12 +73,13 @@ fn sign(keys: &SignerKeys, request: &Request<'_>, out: &mut ScrubBuf) -> Result<
     if !is_known(request.blob) && !is_known(request.private) {
         return Ok(Routed::HandedOn(Asked::Signature { ask: request.ask }));
     }
-    put_signature(keys, request, out)?;
+    put_erased(keys, request, out)?;
     Ok(Routed::Answered)
 }
 
-// Appends the frame of the signature, or of the refusal.
-fn put_signature(
+/// Appends the frame of the signature, or of the refusal.
+#[inline(never)]
+pub fn put_signature(
     keys: &SignerKeys,
     request: &Request<'_>,
     out: &mut ScrubBuf,

@@ -7,6 +7,7 @@
 mod answers;
 mod ecdsa_signatures;
 mod ed25519_signatures;
+mod erased;
 mod keys;
 mod laws;
 mod numbers;
