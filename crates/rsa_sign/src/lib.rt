@@ -10,4 +10,5 @@ mod signing;
 mod wipe;
 mod words;
 
+pub use key::Key;
 pub use signing::{sign, sign_info};

@@ -8,7 +8,7 @@ ghost use Rattle.rsa_sign.specs.Keys.{signed, signed_by, signed_sized};
 ghost use Rattle.rsa_sign.specs.Signing.{power};
 
 use crate::joining::joined_of;
-use crate::key::has_key_sizes;
+use crate::key::{Key, has_key_sizes};
 use crate::part::part_of;
 use crate::wipe::{wipe, wipe_octets};
 use crate::words::{octets_of, words_of};
@@ -100,53 +100,36 @@ fn sign_words(
 }
 
 /// The signature of a DigestInfo of at most 117 octets, if the key is one and the signature verifies,
-/// else None. Numbers are octets, the highest first, and zeros in front count for nothing. It fails
-/// for want of memory alone.
+/// else None. It fails for want of memory alone.
 ///
 /// A number that doesn't verify stays here: by a wrong one, of wrong numbers or a fault of the
 /// machine, a factor can be found. What is made of the key on the way is zero before it is freed,
 /// where memory suffices; no clause says so.
-pub fn sign_info(
-    alloc: Global,
-    modulus: &[u8],
-    e: u64,
-    d: &[u8],
-    p: &[u8],
-    q: &[u8],
-    iqmp: &[u8],
-    info: &[u8],
-) -> Result<Option<Vec<u8>>, AllocError>
+pub fn sign_info(alloc: Global, key: &Key<'_>, info: &[u8]) -> Result<Option<Vec<u8>>, AllocError>
     requires room { length info.now ≤ 117 }
     ensures { IfOk result (λ o. MatchOption o
-        (signed modulus.now e d.now p.now q.now iqmp.now info.now ≡ None)
-        (λ s. signed modulus.now e d.now p.now q.now iqmp.now info.now ≡ Some s.items)) }
+        (signed key.now.modulus.now key.now.e key.now.d.now key.now.p.now key.now.q.now key.now.iqmp.now info.now ≡ None)
+        (λ s. signed key.now.modulus.now key.now.e key.now.d.now key.now.p.now key.now.q.now key.now.iqmp.now info.now
+        ≡ Some s.items)) }
 {
-    sign_any(alloc, modulus, e, d, p, q, iqmp, info)
+    sign_any(alloc, key, info)
 }
 
 // As `sign_info`, of a signature by any other name.
-fn sign_any(
-    alloc: Global,
-    modulus: &[u8],
-    e: u64,
-    d: &[u8],
-    p: &[u8],
-    q: &[u8],
-    iqmp: &[u8],
-    info: &[u8],
-) -> Result<Option<Vec<u8>>, AllocError>
+fn sign_any(alloc: Global, key: &Key<'_>, info: &[u8]) -> Result<Option<Vec<u8>>, AllocError>
     requires room { length info.now ≤ 117 }
-    ensures { (x : Option (List ℕ)) → x ≡ signed modulus.now e d.now p.now q.now iqmp.now info.now
+    ensures { (x : Option (List ℕ))
+        → x ≡ signed key.now.modulus.now key.now.e key.now.d.now key.now.p.now key.now.q.now key.now.iqmp.now info.now
         → IfOk result (λ o. MatchOption o (x ≡ None) (λ s. x ≡ Some s.items)) }
 {
     sign_significant(
         alloc,
-        without_zeros(modulus),
-        e,
-        without_zeros(d),
-        without_zeros(p),
-        without_zeros(q),
-        without_zeros(iqmp),
+        without_zeros(key.modulus),
+        key.e,
+        without_zeros(key.d),
+        without_zeros(key.p),
+        without_zeros(key.q),
+        without_zeros(key.iqmp),
         info,
     )
 }
@@ -226,19 +209,16 @@ fn sign_sized(
 /// else None: as `sign_info`.
 pub fn sign(
     alloc: Global,
-    modulus: &[u8],
-    e: u64,
-    d: &[u8],
-    p: &[u8],
-    q: &[u8],
-    iqmp: &[u8],
+    key: &Key<'_>,
     hash: Hash,
     message: &[u8],
 ) -> Result<Option<Vec<u8>>, AllocError>
     ensures { IfOk result (λ o. MatchOption o
-        (signed modulus.now e d.now p.now q.now iqmp.now (info hash message.now) ≡ None)
-        (λ s. signed modulus.now e d.now p.now q.now iqmp.now (info hash message.now) ≡ Some s.items)) }
+        (signed key.now.modulus.now key.now.e key.now.d.now key.now.p.now key.now.q.now key.now.iqmp.now
+        (info hash message.now) ≡ None)
+        (λ s. signed key.now.modulus.now key.now.e key.now.d.now key.now.p.now key.now.q.now key.now.iqmp.now
+        (info hash message.now) ≡ Some s.items)) }
 {
     let info = digest_info(alloc, hash, message)?;
-    sign_any(alloc, modulus, e, d, p, q, iqmp, &info)
+    sign_any(alloc, key, &info)
 }

@@ -2,7 +2,7 @@
 // (pkcs1v15sign-vectors.txt, which Debian's python3-cryptography-vectors has), by SHA-1, and what has to be
 // refused beside them.
 
-use rsa_sign::sign;
+use rsa_sign::{Key, sign};
 use rsa_verify::{Hash, verify};
 
 // n.
@@ -61,17 +61,15 @@ fn made(rt: &impl AllocGlobal, e: u64, p: &str, q: &str) -> Vec<u8> {
     let q = bytes(rt, q);
     let iqmp = bytes(rt, COEFFICIENT);
     let message = bytes(rt, MESSAGE);
-    match sign(
-        rt.alloc(),
-        &modulus,
+    let key = Key {
+        modulus: &modulus,
         e,
-        &d,
-        &p,
-        &q,
-        &iqmp,
-        Hash::Sha1,
-        &message,
-    ) {
+        d: &d,
+        p: &p,
+        q: &q,
+        iqmp: &iqmp,
+    };
+    match sign(rt.alloc(), &key, Hash::Sha1, &message) {
         Ok(Some(signature)) => signature,
         _ => Vec::new(rt.alloc()),
     }

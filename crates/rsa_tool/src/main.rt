@@ -2,7 +2,7 @@
 //! `rsa_sign` and `rsa_verify` as they are built.
 #![tactic(auto)]
 
-use rsa_sign::sign;
+use rsa_sign::{Key, sign};
 use rsa_verify::{Hash, verify};
 use std::rt::Files;
 use std::{env, fs, io};
@@ -61,9 +61,17 @@ fn answer_of(rt: &impl AllocGlobal, line: &str) -> io::Result<Answer> {
         return Ok(Answer::NotALine);
     };
     match verb {
-        "sign" => sign_answer(
-            rt, hash, e, &modulus, &first, &second, &third, &fourth, &message,
-        ),
+        "sign" => {
+            let key = Key {
+                modulus: &modulus,
+                e,
+                d: &first,
+                p: &second,
+                q: &third,
+                iqmp: &fourth,
+            };
+            sign_answer(rt, &key, hash, &message)
+        }
         "verify" => Ok(Answer::Verdict(verify(rt.alloc(), &modulus, e, hash, &second, &first)?)),
         _ => Ok(Answer::NotALine),
     }
@@ -72,21 +80,14 @@ fn answer_of(rt: &impl AllocGlobal, line: &str) -> io::Result<Answer> {
 /// The signature of a message, where the key makes one.
 fn sign_answer(
     rt: &impl AllocGlobal,
+    key: &Key<'_>,
     hash: Hash,
-    e: u64,
-    modulus: &[u8],
-    d: &[u8],
-    p: &[u8],
-    q: &[u8],
-    iqmp: &[u8],
     message: &[u8],
 ) -> io::Result<Answer> {
-    Ok(
-        match sign(rt.alloc(), modulus, e, d, p, q, iqmp, hash, message)? {
-            Some(signature) => Answer::Signature(signature),
-            None => Answer::Refused,
-        },
-    )
+    Ok(match sign(rt.alloc(), key, hash, message)? {
+        Some(signature) => Answer::Signature(signature),
+        None => Answer::Refused,
+    })
 }
 
 /// The hash of this name.

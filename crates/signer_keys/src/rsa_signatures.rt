@@ -72,18 +72,15 @@ fn sign_by(
         (λ b. rsa_signed (pair_of pair.now) e algorithm message.now ≡ Ok b.items)) }
     ensures sized { IfOk result (λ bytes. IfSome bytes (λ b. length b.items ≤ 1024)) }
 {
-    let key = &pair.private;
-    rsa_sign::sign(
-        alloc,
-        pair.public.n,
+    let key = rsa_sign::Key {
+        modulus: pair.public.n,
         e,
-        key.d,
-        key.p,
-        key.q,
-        key.iqmp,
-        hash_of(algorithm),
-        message,
-    )
+        d: pair.private.d,
+        p: pair.private.p,
+        q: pair.private.q,
+        iqmp: pair.private.iqmp,
+    };
+    rsa_sign::sign(alloc, &key, hash_of(algorithm), message)
 }
 
 /// A signature as SSH carries it.

@@ -4,6 +4,7 @@ use Rattle.rsa_sign.proofs.signing.sign.Goals as goal
 
 pub returns : goal.returns
 returns c =
+    let key = c.args.key.now in
     c.sign_any.ensures _
-    (ap (signed c.args.modulus.now c.args.e c.args.d.now c.args.p.now c.args.q.now c.args.iqmp.now)
+    (ap (signed key.modulus.now key.e key.d.now key.p.now key.q.now key.iqmp.now)
     (sym (c.deref.ensures.value ∙ c.in_ok-info.ensures.ok)))
