@@ -9,19 +9,19 @@ use Rattle.p384_curve.specs.Multiples.{multiply}
 use Rattle.p384_curve.specs.Encoding.{affine_x, decoded}
 use Rattle.p384_ecdsa.specs.Keys.{in_range}
 
--- steps 4 to 7: R = [u1]G + [u2]Q, with u1 = e / s and u2 = r / s
+-- the point R = [u1]G + [u2]Q, with u1 = e / s and u2 = r / s modulo n
 unfoldable pub recovered : Point → ℕ → ℕ → ℕ → Point
 recovered q e r s =
     let w : ℕ = scalar_inv s in
     point_add (multiply (scalar_mul (e % order) w) base) (multiply (scalar_mul r w) q)
 
--- steps 7 to 9, for a public key that was decoded: x of R modulo n is r. Of the point at infinity x is 0 here, which no r
+-- the check of a public key that was decoded: x of R modulo n is r. Of the point at infinity x is 0 here, which no r
 -- in range is
 unfoldable pub meets : Option Point → ℕ → ℕ → ℕ → Bool
 meets (Some q) e r s = nat_eq (affine_x (recovered q e r s) % order) r
 meets None e r s = false
 
--- steps 1 to 9: r and s are in range, the public key decodes, and the equation holds
+-- the whole check: r and s are in range, the public key decodes, and the equation holds
 unfoldable pub accepts : List ℕ → List ℕ → List ℕ → Bool
 accepts public message signature =
     let r : ℕ = big_endian (take 48 signature) in
