@@ -23,10 +23,9 @@ from random import Random
 from types import ModuleType
 
 from . import ed25519
-from .ecdsa import KEPT_P256 as P256
 from .differential import HERE, read_wrong
 from .formats import CERTIFIED, ED25519, RSA, sign_frame, verify_frame
-from .signer import ECDSA, FALSE, HASHES, REFUSED, SIGNED, TRUE, RsaKey, Transcript, helper, mpint
+from .signer import CURVES, ECDSA, FALSE, HASHES, REFUSED, SIGNED, TRUE, RsaKey, Transcript, helper, mpint
 from .wire import Reader, string, uint32, uint64
 
 # Points of order 1, 2 and 4; x = 0 with the sign; and a y that is no number of the field.
@@ -119,14 +118,15 @@ def ed25519_key(seed: bytes) -> Key:
     return Key(ED25519, [public], [public], [seed + public], lambda message, _: ed25519.sign(seed, message, ed25519.kept_times))
 
 
-def ecdsa_key(d: int) -> Key:
-    public = [b"nistp256", P256.public_key(d)]
+def ecdsa_key(name: bytes, d: int) -> Key:
+    curve = CURVES[name]
+    public = [name, curve.public_key(d)]
 
     def sign(message: bytes, _: bytes) -> bytes:
-        signed = P256.sign(d, message)
-        return strings([mpint(int.from_bytes(half, "big")) for half in (signed[:32], signed[32:])])
+        signed = curve.sign(d, message)
+        return strings([mpint(int.from_bytes(half, "big")) for half in (signed[: curve.size], signed[curve.size :])])
 
-    return Key(ECDSA, public, public, [mpint(d)], sign)
+    return Key(b"ecdsa-sha2-" + name, public, public, [mpint(d)], sign)
 
 
 def is_prime(number: int, random: Random) -> bool:
@@ -191,7 +191,8 @@ class Pool:
     def __init__(self, random: Random) -> None:
         self.random = random
         self.ed25519 = [ed25519_key(random.randbytes(32)) for _ in range(4)]
-        ecdsas = [ecdsa_key(random.randrange(1, P256.n)) for _ in range(2)] + [ecdsa_key(random.choice([1, 255, P256.n - 1]))]
+        ecdsas = [ecdsa_key(name, random.randrange(1, curve.n)) for name, curve in CURVES.items() for _ in range(2)]
+        ecdsas += [ecdsa_key(name, random.choice([1, 255, curve.n - 1])) for name, curve in CURVES.items()]
         rsas = [rsa_key(bits, e, random) for bits, e in ((1024, 65537), (1031, 3))]
         self.plain = self.ed25519 + ecdsas + rsas
         self.certified = [certified(key, authority, random) for key in self.plain for authority in random.sample(self.plain, 2)]
@@ -203,7 +204,7 @@ class Pool:
         stand_in = string(b"keyed-sha256@example.com") + string(bytes(32))
         near = (b"ssh-ed25519-", b"ssh-ed25519-cert-v01@openssh.co", b"SSH-ED25519", b"ecdsa-sha2-nistp25", b"ssh-rsa2", b"rsa-sha2-256")
         self.others = [dss, stand_in, *(string(name) + string(bytes(32)) for name in near), b"", uint32(11), b"\0\0\0\xffssh-ed25519"]
-        self.others += [string(b"ecdsa-sha2-nistp384") + string(b"nistp384") + string(b"\x04" + random.randbytes(96))]
+        self.others += [string(b"ecdsa-sha2-nistp521") + string(b"nistp521") + string(b"\x04" + random.randbytes(132))]
         self.messages = [random.randbytes(length) for length in (0, 1, 32, 63, 64, 111, 112, 127, 128, 300)]
 
 
@@ -211,7 +212,7 @@ def spoilt_number(text: bytes, random: Random) -> bytes:
     """An mpint in another form, or of another number."""
     value = int.from_bytes(text, "big")
     others = [b"\0" + text, b"\0\0" + text, b"", b"\0", text.lstrip(b"\0"), b"\xff" + text, text + b"\0", text[:-1], turned(text, random)]
-    return random.choice([*others, *map(mpint, (value + 1, value - 1, 2 * value, value + P256.n))])
+    return random.choice([*others, *map(mpint, (value + 1, value - 1, 2 * value, *(value + curve.n for curve in CURVES.values())))])
 
 
 def spoilt_private(pool: Pool, key: Key) -> tuple[bytes, bytes]:
@@ -283,12 +284,14 @@ def odd_signature(pool: Pool, key: Key, message: bytes) -> tuple[bytes, bytes]:
         more = ed25519.integer(signed[32:]) + ed25519.L
         wrong = [signed[:32] + ed25519.octets(more), signed[:-1], signed + b"\0", b"", signed[:32]]
         return key.blob, string(ED25519) + string(random.choice(wrong))
-    if key.plain == ECDSA:
-        reader = Reader(key.signs(message, ECDSA))
+    if key.plain in ECDSA:
+        curve = CURVES[ECDSA[key.plain]]
+        n = curve.n
+        reader = Reader(key.signs(message, key.plain))
         r, s = (int.from_bytes(reader.string(), "big") for _ in range(2))
-        pairs = [(r, P256.n - s), (s, r), (0, s), (r, 0), (P256.n, s), (r, P256.n), (r + P256.n, s), (r, s + P256.n), (r, 2**256)]
+        pairs = [(r, n - s), (s, r), (0, s), (r, 0), (n, s), (r, n), (r + n, s), (r, s + n), (r, 256**curve.size)]
         pair = random.choice([*(list(map(mpint, pair)) for pair in pairs), [mpint(r), spoilt_number(mpint(s), random)], [mpint(r)]])
-        return key.blob, string(ECDSA) + string(strings(pair))
+        return key.blob, string(key.plain) + string(strings(pair))
     # Without its zeros in front, with more of them, above the modulus, of an exponent of 1, and by another hash than it says.
     name, n = random.choice(list(HASHES)), int.from_bytes(key.public[1], "big")
     signed = key.signs(message, name)
@@ -323,7 +326,7 @@ def verifying(pool: Pool, ask: int) -> bytes:
     elif case < 0.55:
         host, signature = odd_signature(pool, key, message)
     elif case < 0.6:
-        other = random.choice([b"ssh-dss", key.name + b"x", key.plain + CERTIFIED, *HASHES, ED25519, ECDSA])
+        other = random.choice([b"ssh-dss", key.name + b"x", key.plain + CERTIFIED, *HASHES, ED25519, *ECDSA])
         signature = string(other) + string(key.signs(message, name if key.plain == RSA else key.plain))
     elif case < 0.68:
         host = random.choice(pool.others)

@@ -11,12 +11,14 @@ from dataclasses import dataclass
 from typing import NoReturn, Protocol
 
 from . import ed25519
-from .ecdsa import KEPT_P256 as P256
+from .ecdsa import KEPT_P256, KEPT_P384, Curve
 from .formats import CERTIFIED, ED25519, RSA, from_child
 from .tools import BAD_FRAME, DONE, USAGE, End, hello, next_body, to_child
 from .wire import Fault, Reader, demand, string, uint64
 
-ECDSA = b"ecdsa-sha2-nistp256"
+# RFC 5656, sections 3.1 and 10.1.
+CURVES = {b"nistp256": KEPT_P256, b"nistp384": KEPT_P384}
+ECDSA = {b"ecdsa-sha2-" + name: name for name in CURVES}
 SIGN, SIGNED, REFUSED, TRUE, FALSE = 1, b"\x65", b"\x66", b"\x67", b"\x68"
 HASHES = {b"ssh-rsa": "sha1", b"rsa-sha2-256": "sha256", b"rsa-sha2-512": "sha512"}
 # RFC 8017, section 9.2, note 1.
@@ -125,31 +127,42 @@ class Ed25519Key:
 
 @dataclass
 class EcdsaKey:
+    name: bytes
     point: bytes
 
     @classmethod
-    def read(cls, reader: Reader) -> Key:
-        known(reader, b"nistp256")
-        return cls(sized(reader, 65))
+    def reader_of(cls, name: bytes) -> Callable[[Reader], Key]:
+        """What reads keys over the curve of this name."""
+
+        def read(reader: Reader) -> Key:
+            known(reader, name)
+            return cls(name, sized(reader, 1 + 2 * CURVES[name].size))
+
+        return read
+
+    @property
+    def curve(self) -> Curve:
+        return CURVES[self.name]
 
     def public_strings(self) -> list[bytes]:
-        return [b"nistp256", self.point]
+        return [self.name, self.point]
 
     def sign(self, private: Reader, certified: bool, message: bytes, flags: int) -> bytes:
         d = secret_number(private)
-        demand(0 < d < P256.n and P256.public_key(d) == self.point, "Mismatch")
-        signed = P256.sign(d, message)
-        r, s = int.from_bytes(signed[:32], "big"), int.from_bytes(signed[32:], "big")
-        return string(ECDSA) + string(string(mpint(r)) + string(mpint(s)))
+        demand(0 < d < self.curve.n and self.curve.public_key(d) == self.point, "Mismatch")
+        signed = self.curve.sign(d, message)
+        r, s = (int.from_bytes(half, "big") for half in (signed[: self.curve.size], signed[self.curve.size :]))
+        return string(b"ecdsa-sha2-" + self.name) + string(string(mpint(r)) + string(mpint(s)))
 
     def accepts(self, message: bytes, signature: bytes) -> bool:
         reader = Reader(signature)
-        demand(reader.string() == ECDSA, "Algorithm")
+        demand(reader.string() == b"ecdsa-sha2-" + self.name, "Algorithm")
         pair = Reader(reader.string())
         reader.end()
         r, s = number(pair), number(pair)
         pair.end()
-        return max(r, s) < P256.n and P256.verify(self.point, message, P256.octets(r) + P256.octets(s))
+        octets = self.curve.octets
+        return max(r, s) < self.curve.n and self.curve.verify(self.point, message, octets(r) + octets(s))
 
 
 @dataclass
@@ -201,7 +214,8 @@ class RsaKey:
         return len(signed) <= self.size() and self.opens(name, message, int.from_bytes(signed, "big"))
 
 
-READS: dict[bytes, Callable[[Reader], Key]] = {ED25519: Ed25519Key.read, ECDSA: EcdsaKey.read, RSA: RsaKey.read}
+READS: dict[bytes, Callable[[Reader], Key]] = {ED25519: Ed25519Key.read, RSA: RsaKey.read}
+READS |= {algorithm: EcdsaKey.reader_of(name) for algorithm, name in ECDSA.items()}
 OURS = (*READS, *(name + CERTIFIED for name in READS))
 
 

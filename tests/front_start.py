@@ -249,8 +249,8 @@ def a_helper_that_can_t_be_run_is_refused(folder):
 
 @check
 def one_helper_that_signs_is_enough(folder):
-    """The proved one alone signs but with keys over P-384 and P-521, the other one alone with all; -d says so."""
-    for left, refused in (("mortarleek_signer", ["p384"]), ("mortarleek-helper", [])):
+    """The proved one alone signs but with keys over P-521, the other one alone with all; -d says so."""
+    for left, refused in (("mortarleek_signer", ["p521"]), ("mortarleek-helper", [])):
         place = folder / left
         place.mkdir()
         installed = Installed(place)
@@ -260,8 +260,8 @@ def one_helper_that_signs_is_enough(folder):
             agent = agent_of(daemon.pid)
             words = pathlib.Path(f"/proc/{agent}/cmdline").read_text().split("\0")
             assert words[words.index("--helper") + 1].endswith(left) and "--helper-data" not in words, words
-            for name, kind in (("ed25519", "ed25519"), ("rsa", "rsa"), ("p256", "ecdsa"), ("p384", "ecdsa")):
-                key = keygen(place / name, *(["-b", "384"] if name == "p384" else []), kind=kind)
+            for name, kind in (("ed25519", "ed25519"), ("rsa", "rsa"), ("p256", "ecdsa"), ("p521", "ecdsa")):
+                key = keygen(place / name, *(["-b", "521"] if name == "p521" else []), kind=kind)
                 daemon.run("ssh-add", "-q", key)
                 # -T has the agent sign something, and verifies that.
                 daemon.run("ssh-add", "-T", f"{key}.pub", status=1 if name in refused else 0)
@@ -271,4 +271,4 @@ def one_helper_that_signs_is_enough(folder):
                 said = debugged.stdout.readline()
                 debugged.terminate()
                 debugged.communicate(timeout=20)
-            assert said == "mortarleek-agent: no mortarleek-helper: ECDSA keys over P-384 and P-521 can't sign\n", said
+            assert said == "mortarleek-agent: no mortarleek-helper: ECDSA keys over P-521 can't sign\n", said

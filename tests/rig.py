@@ -252,7 +252,7 @@ def serves(path, before=None):
     return True
 
 
-# The proved helper, and the one behind it, which knows keys over P-384 and P-521 too.
+# The proved helper, and the one behind it, which knows keys over P-521 too.
 HELPER, BEHIND = BUILT / "mortarleek_signer", BUILT / "mortarleek-helper"
 
 

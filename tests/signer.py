@@ -20,7 +20,7 @@ from openssh import accepts, certify, generate, signature_by_openssh, signed_tex
 check = rig.Checks("signer")
 PROGRAM = pathlib.Path(os.environ.get("MORTARLEEK_SIGNER", rig.BUILT / "mortarleek_signer"))
 SIGN, VERIFY, SIGNED, REFUSED, TRUE, FALSE = 1, 2, 101, 102, 103, 104
-KINDS = [("ed25519", "256"), ("ecdsa", "256"), ("rsa", "1024"), ("rsa", "2048"), ("rsa", "2049"), ("rsa", "3072")]
+KINDS = [("ed25519", "256"), ("ecdsa", "256"), ("ecdsa", "384"), ("rsa", "1024"), ("rsa", "2048"), ("rsa", "2049"), ("rsa", "3072")]
 MESSAGE = b"a message\n"
 TEXT = signed_text(MESSAGE)
 
@@ -139,12 +139,11 @@ def a_private_string_of_another_key_is_refused(folder):
 
 
 @check
-def keys_of_other_curves_are_refused_where_nothing_is_behind(folder):
+def keys_of_another_curve_are_refused_where_nothing_is_behind(folder):
+    key = generate(folder, "ecdsa", "521")
     with Helper() as helper:
-        for bits in "384", "521":
-            key = generate(folder, "ecdsa", bits)
-            assert helper.sign(key.private, key.blob) is None
-            assert not helper.verify(key.blob, signature_by_openssh(key, MESSAGE))
+        assert helper.sign(key.private, key.blob) is None
+        assert not helper.verify(key.blob, signature_by_openssh(key, MESSAGE))
 
 
 if __name__ == "__main__":

@@ -108,6 +108,37 @@ def random_requests_are_answered_as_by_the_model(_):
     print(f"mortarleek_signer: {differential.run(str(PROGRAM), 2 * vectors.COUNT, str(SEED))}", flush=True)
 
 
+# RFC 6979, section A.2.6, with SHA-384: the private number, the point, and r and s for each message.
+P384 = b"ecdsa-sha2-nistp384"
+P384_NUMBER = "6b9d3dad2e1b8c1c05b19875b6659f4de23c3b667bf297ba9aa47740787137d896d5724e4c70a825f872c9ea60d2edf5"
+P384_POINT = (
+    "04ec3a4e415b4e19a4568618029f427fa5da9a8bc4ae92e02e06aae5286b300c64def8f0ea9055866064a254515480bc13"
+    "8015d9b72d7d57244ea8ef9ac0c621896708a59367f9dfb9f54ca84b3f1c9db1288b231c3ae0d4fe7344fd2533264720"
+)
+P384_SIGNATURES = {
+    b"sample": (
+        "94edbb92a5ecb8aad4736e56c691916b3f88140666ce9fa73d64c4ea95ad133c81a648152e44acf96e36dd1e80fabe46",
+        "99ef4aeb15f178cea1fe40db2603138f130e740a19624526203b6351d0a3a94fa329c145786e679e7b82c71a38628ac8",
+    ),
+    b"test": (
+        "8203b63d3c853e8d77227fb377bcf7b7b772e97892a80f36ab775d509d7a5feb0542a7f0812998da8f1dd3ca3cf023db",
+        "ddd0760448d42d8a43af45af836fce4de8be06b485e9b61b827c2f13173923e06a739f040649a667bf3b828246baa5a5",
+    ),
+}
+
+
+@check
+def a_signature_over_p384_is_that_of_rfc_6979(_):
+    blob = string(P384) + string(b"nistp384") + string(bytes.fromhex(P384_POINT))
+    with Helper() as helper:
+        for message, numbers in P384_SIGNATURES.items():
+            # An mpint has a zero in front of a highest bit that is set.
+            r, s = (bytes(int(number, 16) >> 383) + bytes.fromhex(number) for number in numbers)
+            wanted = string(P384) + string(string(r) + string(s))
+            assert helper.sign(blob + string(bytes.fromhex(P384_NUMBER)), blob, message) == wanted, message
+            assert helper.verify(blob, wanted, message) and not helper.verify(blob, wanted, message + b"\0")
+
+
 def behind(folder, does):
     """A helper behind, which says its hello, and then does this in Python with its connection `here`."""
     text = f"""#!{sys.executable} -IS

@@ -25,7 +25,7 @@ sys.path.insert(0, str(TOP))
 sys.path.insert(0, str(TOP / "helper/tests"))
 
 import openssh
-from model import ecdsa
+from model.ecdsa import P256, P384
 from model import ed25519 as model
 
 check = rig.Checks("traces")
@@ -226,26 +226,26 @@ def numbered(name, number, size):
     return {name: text, f"{name}, the lowest byte first": text[::-1]}
 
 
-def ecdsa_secrets(d, message):
+def ecdsa_secrets(curve, d, message):
     """The private number and the nonce, both in Montgomery's form too, what they are multiplied to, and K and V."""
-    hashed = ecdsa.digest(message)
-    nonce, n, radix = next(ecdsa.nonces(d, hashed)), ecdsa.N, 2**256
-    signature = ecdsa.sign(d, message)
-    r = int.from_bytes(signature[:32], "big")
+    hashed, size = curve.digest(message), curve.size
+    nonce, n, radix = next(curve.nonces(d, hashed)), curve.n, 256**size
+    signature = curve.sign(d, message)
+    r = int.from_bytes(signature[:size], "big")
     texts = {}
     for name, number in {"number": d, "nonce": nonce, "inverse": pow(nonce, -1, n), "product": r * d % n, "sum": (int.from_bytes(hashed, "big") + r * d) % n}.items():
-        texts |= numbered(name, number, 32) | numbered(f"{name} in Montgomery's form", number * radix % n, 32)
-    for turn in range(1, 192):
-        texts |= {f"number after {turn} turns": (d >> turn).to_bytes(32, "little")}
-        texts |= {f"nonce after {turn} turns": (nonce >> turn).to_bytes(32, "little")}
-    value, key = b"\1" * 32, bytes(32)
-    seed = ecdsa.octets(d) + ecdsa.octets(int.from_bytes(hashed, "big") % n)
+        texts |= numbered(name, number, size) | numbered(f"{name} in Montgomery's form", number * radix % n, size)
+    for turn in range(1, 8 * size - 64):
+        texts |= {f"number after {turn} turns": (d >> turn).to_bytes(size, "little")}
+        texts |= {f"nonce after {turn} turns": (nonce >> turn).to_bytes(size, "little")}
+    value, key = b"\1" * len(hashed), bytes(len(hashed))
+    seed = curve.octets(d) + curve.octets(int.from_bytes(hashed, "big") % n)
     for mark in (b"\0", b"\1"):
-        key = hmac.digest(key, value + mark + seed, "sha256")
-        value = hmac.digest(key, value, "sha256")
+        key = hmac.digest(key, value + mark + seed, curve.hash_name)
+        value = hmac.digest(key, value, curve.hash_name)
         texts |= {f"K behind {mark}": key, f"V behind {mark}": value}
         texts |= {f"K behind {mark}, {pad:#x}": bytes(byte ^ pad for byte in key) for pad in (0x36, 0x5C)}
-    return pieces_of(texts, ecdsa.public_key(d) + hashed + signature + signature[:32][::-1] + signature[32:][::-1])
+    return pieces_of(texts, curve.public_key(d) + hashed + signature + signature[:size][::-1] + signature[size:][::-1])
 
 
 def rsa_secrets(numbers, signature):
@@ -268,7 +268,7 @@ def signing(private, blob, flags):
 @check
 def the_helper_s_answers_leave_nothing_of_other_keys(folder):
     """Signed, and refused since a private number is another one. The control: of a request that isn't whole, pieces stay."""
-    for kind, bits, flags in (("ecdsa", "256", 0), ("rsa", "2048", 4)):
+    for kind, bits, flags, curve in (("ecdsa", "256", 0, P256), ("ecdsa", "384", 0, P384), ("rsa", "2048", 4, None)):
         key = openssh.generate(folder, kind, bits)
         numbers = [int.from_bytes(field, "big") for field in key.fields]
         changed = list(key.fields)
@@ -278,7 +278,7 @@ def the_helper_s_answers_leave_nothing_of_other_keys(folder):
                 child.peer.send(signing(key.with_fields(fields).private, key.blob, flags))
                 answer = child.peer.reply()
                 assert answer[0] == (102 if fields is changed else 101), answer
-            pieces = ecdsa_secrets(numbers[2], MESSAGE) if kind == "ecdsa" else rsa_secrets(numbers, answer[-256:])
+            pieces = ecdsa_secrets(curve, numbers[2], MESSAGE) if curve else rsa_secrets(numbers, answer[-256:])
             found = found_in_helper(child, pieces)
             assert not found, sorted(set(found))
             child.peer.socket.sendall(string(signing(key.private, key.blob, flags))[:-1])

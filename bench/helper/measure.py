@@ -23,7 +23,7 @@ WORK, ROUNDS, WHAT = pathlib.Path(sys.argv[1]), int(sys.argv[2]), sys.argv[3]
 MESSAGE = bytes(200)
 PROVED, OTHER = rig.HELPER, rig.BEHIND
 # The types that the proved helper hands on.
-BEHIND = ("ecdsa-sha2-nistp384", "ecdsa-sha2-nistp521")
+BEHIND = ("ecdsa-sha2-nistp521",)
 # key, name for openssl speed, flags, requests in a round
 KEYS = [
     (("ed25519", "256"), "ed25519", 0, 1000),

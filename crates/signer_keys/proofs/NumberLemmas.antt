@@ -88,10 +88,11 @@ pub length-put : (before now text : List ℕ) → now ≡ before ++ string text 
 length-put before now text is =
     ap length is ∙ length-append before (string text) ∙ ap (λ (n : ℕ). length before + n) (length-string text) ∙ omega arith
 
--- a write over what follows 32 bytes
-pub joined : (front bytes tail : List ℕ) → length front ≡ 32 → length tail ≡ 32 → put_mid 32 32 (front ++ tail) bytes ≡ front ++ bytes
-joined front bytes tail long rest =
-    let behind : drop 32 (front ++ tail) ≡ tail = drop_at front tail 32 long in
-    let none : drop 32 (drop 32 (front ++ tail)) ≡ [] = ap (drop 32) behind ∙ drop_all 32 tail (omega arith) in
-    ap (λ (f : List ℕ). f ++ (bytes ++ drop 32 (drop 32 (front ++ tail)))) (take_at front tail 32 long)
+-- a write over what follows as many bytes
+pub joined : (len : ℕ) (front bytes tail : List ℕ) → length front ≡ len → length tail ≡ len
+    → put_mid len len (front ++ tail) bytes ≡ front ++ bytes
+joined len front bytes tail long rest =
+    let behind : drop len (front ++ tail) ≡ tail = drop_at front tail len long in
+    let none : drop len (drop len (front ++ tail)) ≡ [] = ap (drop len) behind ∙ drop_all len tail (omega (arith, rest)) in
+    ap (λ (f : List ℕ). f ++ (bytes ++ drop len (drop len (front ++ tail)))) (take_at front tail len long)
     ∙ ap (λ (r : List ℕ). front ++ (bytes ++ r)) none ∙ ap (λ (m : List ℕ). front ++ m) (append-nil bytes)

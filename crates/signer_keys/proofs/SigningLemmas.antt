@@ -1,58 +1,10 @@
--- Lemmas on signatures.
-use Rattle.std.proofs.Common.{◌≡◌, ◌≢◌, ◌≤◌, ◌⊎◌, inl, inr, ℕ, Bool, true, false, ◌&&◌, if◌then◌else◌, List, length, Option, Some, None, Result, Ok, Err, IfOk, IfSome, MatchOption, refl, sym, ◌∙◌, ◌%◌, ap, arith, nat_eq}
-use Rattle.std.specs.Str.{bytes_eq}
+-- Lemmas on signatures by RSA keys.
+use Rattle.std.proofs.Common.{◌≡◌, ◌≤◌, ℕ, Bool, true, false, ◌&&◌, if◌then◌else◌, List, length, Option, Some, None, Result, Ok, Err, IfOk, IfSome, MatchOption, refl, ◌%◌, ap, arith, nat_eq}
 use Rattle.std.proofs.lemmas.Bool.{and_parts, eqb-true}
-use Rattle.std.proofs.lemmas.Slice.Eq.{bytes_eq-Decides}
-use Rattle.p256_ecdsa.specs.Keys.{in_range, public_key}
-use Rattle.p256_ecdsa.specs.Signatures.{signature}
 use Rattle.rsa_octets.specs.Octets.{os2ip, significant}
 use Rattle.rsa_sign.specs.Keys.{has_key_sizes, signature as rsa_bytes, signed, signed_by, signed_sized}
 use Rattle.rsa_verify.proofs.VerifyingLemmas.{size-bounds}
 use Rattle.rsa_verify.specs.Verification.{accepts, has_size, opens}
-use Rattle.sha2.specs.Sha256.{sha256}
-use Rattle.signer_keys.specs.Ecdsa.{p256_signed}
-
--- ---- ECDSA
-
--- without a test that fails there is no signature
-not_both : (first second : Bool) (given : Option (List ℕ)) → (first ≡ false) ⊎ ((second ≡ false) ⊎ (given ≡ None))
-    → (if first && second then given else None) ≡ None
-not_both false second given why = refl
-not_both true false given why = refl
-not_both true true given (inl is) = cc is
-not_both true true given (inr (inl is)) = cc is
-not_both true true given (inr (inr is)) = is
-
-other-false : (xs ys : List ℕ) (test : Bool) → test ≡ bytes_eq xs ys → xs ≢ ys → test ≡ false
-other-false xs ys false is other = refl
-other-false xs ys true is other = absurd (other ((bytes_eq-Decides xs ys).0 (sym is)))
-
-pub p256-refused : (d : ℕ) (point message : List ℕ)
-    → (in_range d ≡ false) ⊎ ((point ≢ public_key d) ⊎ (signature d (sha256 message) ≡ None))
-    → None ≡ p256_signed d point message
-p256-refused d point message (inl is) =
-    sym (not_both (in_range d) (bytes_eq point (public_key d)) (signature d (sha256 message)) (inl is))
-p256-refused d point message (inr (inl other)) =
-    sym (not_both (in_range d) (bytes_eq point (public_key d)) (signature d (sha256 message))
-    (inr (inl (other-false point (public_key d) (bytes_eq point (public_key d)) refl other))))
-p256-refused d point message (inr (inr none)) =
-    sym (not_both (in_range d) (bytes_eq point (public_key d)) (signature d (sha256 message)) (inr (inr none)))
-
-both : (first second : Bool) (given : Option (List ℕ)) → first ≡ true → second ≡ true → (if first && second then given else None) ≡ given
-both true true given f s = refl
-both true false given f s = cc s
-both false second given f s = cc f
-
-equal-true : (xs ys : List ℕ) → xs ≡ ys → bytes_eq xs ys ≡ true
-equal-true xs ys is = (bytes_eq-Decides xs ys).1 is
-
-pub p256-given : (d : ℕ) (point message bytes : List ℕ) → in_range d ≡ true → point ≡ public_key d
-    → signature d (sha256 message) ≡ Some bytes → Some bytes ≡ p256_signed d point message
-p256-given d point message bytes within is some =
-    sym (both (in_range d) (bytes_eq point (public_key d)) (signature d (sha256 message)) within
-    (equal-true point (public_key d) is) ∙ some)
-
--- ---- RSA
 
 -- a signature that is accepted has no more than 1024 bytes
 accepted-short : (modulus : List ℕ) (e : ℕ) (info bytes : List ℕ) → accepts modulus e info bytes ≡ true → length bytes ≤ 1024

@@ -8,6 +8,7 @@ pub struct SignerKeys {
     pub(crate) alloc: Global,
     pub(crate) ed25519: ed25519::Doublings,
     pub(crate) p256: p256_ecdsa::Doublings,
+    pub(crate) p384: p384_ecdsa::Doublings,
 }
 
 impl SignerKeys {
@@ -17,6 +18,7 @@ impl SignerKeys {
             alloc,
             ed25519: ed25519::Doublings::new(alloc)?,
             p256: p256_ecdsa::Doublings::new(alloc)?,
+            p384: p384_ecdsa::Doublings::new(alloc)?,
         })
     }
 }

@@ -26,6 +26,19 @@ pub fn in_32_bytes(bytes: &[u8]) -> Result<[u8; 32], KeyFault>
     Ok(number)
 }
 
+// A number in 48 bytes.
+#[tactic(auto, unfolding(crate::specs::Numbers::filled))]
+pub fn in_48_bytes(bytes: &[u8]) -> Result<[u8; 48], KeyFault>
+    ensures { IsAnswer (λ number. number) result (filled 48 bytes.now) }
+{
+    if bytes.len() > 48 {
+        return Err(KeyFault::Unfit);
+    }
+    let mut number = [0; 48];
+    number[48 - bytes.len()..].copy_from_slice(bytes);
+    Ok(number)
+}
+
 // A number of at most eight bytes.
 #[tactic(auto, unfolding(crate::specs::Numbers::small))]
 pub fn in_a_word(bytes: &[u8]) -> Result<u64, KeyFault>
@@ -52,21 +65,21 @@ pub fn in_bytes(alloc: Global, len: usize, bytes: &[u8]) -> Result<Option<Vec<u8
     Ok(Some(number))
 }
 
-// Appends the mpint of a number of at most 32 bytes.
+// Appends the mpint of a number of at most 48 bytes.
 #[tactic(auto, unfolding(crate::specs::Numbers::mpint))]
 pub fn put_mpint(out: &mut Vec<u8>, bytes: &[u8]) -> Result<(), AllocError>
-    requires { length bytes.now ≤ 32 }
+    requires { length bytes.now ≤ 48 }
     ensures ok { OnOk result (out.new.items ≡ out.old.items ++ string (mpint bytes.now)) }
-    ensures sized { OnOk result (length out.new.items ≤ length out.old.items + 37) }
+    ensures sized { OnOk result (length out.new.items ≤ length out.old.items + 53) }
 {
     put_signed(out, without_zeros(bytes))
 }
 
 // The same of a number without zeros in front.
 fn put_signed(out: &mut Vec<u8>, bytes: &[u8]) -> Result<(), AllocError>
-    requires { length bytes.now ≤ 32 }
+    requires { length bytes.now ≤ 48 }
     ensures ok { OnOk result (out.new.items ≡ out.old.items ++ string (signed bytes.now)) }
-    ensures sized { OnOk result (length out.new.items ≤ length out.old.items + 37) }
+    ensures sized { OnOk result (length out.new.items ≤ length out.old.items + 53) }
 {
     match bytes.first() {
         Some(high) if *high >= 128 => put_behind_zero(out, bytes),
@@ -76,9 +89,9 @@ fn put_signed(out: &mut Vec<u8>, bytes: &[u8]) -> Result<(), AllocError>
 
 // Appends a string of a zero and these bytes.
 fn put_behind_zero(out: &mut Vec<u8>, bytes: &[u8]) -> Result<(), AllocError>
-    requires { length bytes.now ≤ 32 }
+    requires { length bytes.now ≤ 48 }
     ensures ok { OnOk result (out.new.items ≡ out.old.items ++ string (0 ∷ bytes.now)) }
-    ensures sized { OnOk result (length out.new.items ≤ length out.old.items + 37) }
+    ensures sized { OnOk result (length out.new.items ≤ length out.old.items + 53) }
 {
     put_u32(out, bytes.len() as u32 + 1)?;
     put_u8(out, 0)?;

@@ -4,8 +4,8 @@ ghost use Rattle.std.specs.Prelude.{◌≡◌, Ok, Err, length};
 ghost use Rattle.signer_keys.specs.Verifying.{certified_public, certified_public_behind, plain_public, public_of};
 ghost use Rattle.wire_core.specs.Readings.{IsAnswer};
 
-use crate::ecdsa_signatures::{as_point, p256_point};
 use crate::types::Kind;
+use crate::{p256_signatures, p384_signatures};
 use ecdsa_wire::{Curve, read_certified_point};
 use ed25519_wire::{read_authority, read_certified_key};
 use key_wire::KeyFault;
@@ -17,6 +17,7 @@ use wire_core::Cursor;
 pub enum Public<'a> {
     Ed25519([u8; 32]),
     EcdsaP256([u8; 65]),
+    EcdsaP384([u8; 97]),
     Rsa(rsa_wire::Public<'a>),
 }
 
@@ -29,7 +30,11 @@ pub fn read_plain(kind: Kind, blob: &[u8]) -> Result<Public<'_>, KeyFault>
         Kind::Ed25519 => Ok(Public::Ed25519(as_key(read_authority(blob)?))),
         Kind::EcdsaP256 => {
             let key = ecdsa_wire::read_public(blob)?;
-            Ok(Public::EcdsaP256(p256_point(key.curve, key.point)?))
+            Ok(Public::EcdsaP256(p256_signatures::point_of(key.curve, key.point)?))
+        }
+        Kind::EcdsaP384 => {
+            let key = ecdsa_wire::read_public(blob)?;
+            Ok(Public::EcdsaP384(p384_signatures::point_of(key.curve, key.point)?))
         }
         Kind::Rsa => Ok(Public::Rsa(rsa_wire::read_public(blob)?)),
     }
@@ -67,7 +72,11 @@ fn read_behind_name(kind: Kind, bytes: &[u8]) -> Result<(Public<'_>, &[u8]), Key
         }
         Kind::EcdsaP256 => {
             let (point, rest) = read_certified_point(bytes, Curve::P256)?;
-            Ok((Public::EcdsaP256(as_point(point)), rest))
+            Ok((Public::EcdsaP256(p256_signatures::as_point(point)), rest))
+        }
+        Kind::EcdsaP384 => {
+            let (point, rest) = read_certified_point(bytes, Curve::P384)?;
+            Ok((Public::EcdsaP384(p384_signatures::as_point(point)), rest))
         }
         Kind::Rsa => {
             let (key, rest) = read_certified_public(bytes)?;

@@ -15,6 +15,7 @@ use wire_core::Cursor;
 pub enum Kind {
     Ed25519,
     EcdsaP256,
+    EcdsaP384,
     Rsa,
 }
 
@@ -66,8 +67,12 @@ fn ecdsa_type(bytes: &[u8]) -> Option<KeyType>
 {
     match ecdsa_wire::key_type(bytes) {
         Some(ecdsa_wire::KeyType::Plain(Curve::P256)) => Some(KeyType::Plain(Kind::EcdsaP256)),
+        Some(ecdsa_wire::KeyType::Plain(Curve::P384)) => Some(KeyType::Plain(Kind::EcdsaP384)),
         Some(ecdsa_wire::KeyType::Certified(Curve::P256)) => {
             Some(KeyType::Certified(Kind::EcdsaP256))
+        }
+        Some(ecdsa_wire::KeyType::Certified(Curve::P384)) => {
+            Some(KeyType::Certified(Kind::EcdsaP384))
         }
         _ => None,
     }

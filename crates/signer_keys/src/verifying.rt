@@ -9,7 +9,7 @@ use crate::keys::SignerKeys;
 use crate::public::{Public, read_certified, read_plain};
 use crate::rsa_signatures::is_by_sha1;
 use crate::types::{KeyType, Kind, key_type};
-use crate::{ecdsa_signatures, ed25519_signatures, rsa_signatures};
+use crate::{ed25519_signatures, p256_signatures, p384_signatures, rsa_signatures};
 use key_wire::{Closing, read_closing};
 use std::alloc::AllocError;
 
@@ -174,7 +174,10 @@ fn signs(
             ))
         }
         Public::EcdsaP256(point) => {
-            Ok(ecdsa_signatures::judge(&keys.p256, point, message, signature).unwrap_or(false))
+            Ok(p256_signatures::judge(&keys.p256, point, message, signature).unwrap_or(false))
+        }
+        Public::EcdsaP384(point) => {
+            Ok(p384_signatures::judge(&keys.p384, point, message, signature).unwrap_or(false))
         }
         Public::Rsa(key) => rsa_signatures::signs(keys.alloc, key, message, signature),
     }

@@ -1,9 +1,9 @@
 use Rattle.std.proofs.Common.{◌++◌, List, ℕ, ap, refl, replicate, ◌∙◌}
 use Rattle.signer_keys.proofs.NumberLemmas.{joined}
-use Rattle.signer_keys.proofs.ecdsa_signatures.joined.Goals as goal
+use Rattle.signer_keys.proofs.p384_signatures.joined.Goals as goal
 
 pub returns : goal.returns
 returns c =
-    joined c.copy_from_slice.new.self c.copy_from_slice-2.new.self (replicate 32 0) c.copy_from_slice.ensures.len refl
+    joined 48 c.copy_from_slice.new.self c.copy_from_slice-2.new.self (replicate 48 0) c.copy_from_slice.ensures.len refl
     ∙ ap (λ (f : List ℕ). f ++ c.copy_from_slice-2.new.self) c.copy_from_slice.ensures.after
     ∙ ap (λ (b : List ℕ). c.args.r.now ++ b) c.copy_from_slice-2.ensures.after

@@ -2,7 +2,7 @@
 
 ghost use Rattle.std.specs.Prelude.{◌≡◌, ◌≤◌, ◌++◌, IfOk, Option, length, option_map};
 ghost use Rattle.ecdsa_wire.specs.Names.{point_len};
-ghost use Rattle.signer_keys.specs.Ecdsa.{ecdsa_judged, ecdsa_signature, ecdsa_text, p256_point, p256_signed};
+ghost use Rattle.signer_keys.specs.Ecdsa.{p256_judged, p256_point, p256_signature, p256_signed, p256_text};
 ghost use Rattle.wide_words.specs.Numbers.{big_endian};
 ghost use Rattle.wire_core.specs.Readings.{IsAnswer};
 
@@ -20,16 +20,16 @@ pub fn sign(
     blob: &[u8],
     message: &[u8],
 ) -> Result<[u8; 64], KeyFault>
-    ensures { IsAnswer (λ bytes. bytes) result (ecdsa_signature private.now blob.now message.now) }
+    ensures { IsAnswer (λ bytes. bytes) result (p256_signature private.now blob.now message.now) }
 {
     let pair = read_pair(private, blob)?;
-    let point = p256_point(pair.curve, pair.point)?;
+    let point = point_of(pair.curve, pair.point)?;
     let number = in_32_bytes(pair.secret)?;
     sign_by(doublings, &number, &point, message).ok_or(KeyFault::Unfit)
 }
 
 /// The bytes of a point, where the curve is P-256.
-pub fn p256_point(curve: Curve, point: &[u8]) -> Result<[u8; 65], KeyFault>
+pub fn point_of(curve: Curve, point: &[u8]) -> Result<[u8; 65], KeyFault>
     requires { length point.now ≡ point_len curve }
     ensures { IsAnswer (λ bytes. bytes) result (p256_point curve point.now) }
 {
@@ -64,7 +64,7 @@ fn sign_by(
 /// A signature as SSH carries it.
 #[tactic(auto, unfolding(crate::specs::Ecdsa::ecdsa_text))]
 pub fn text(alloc: Global, bytes: &[u8; 64]) -> Result<Vec<u8>, AllocError>
-    ensures ok { IfOk result (λ text. text.items ≡ ecdsa_text bytes.now) }
+    ensures ok { IfOk result (λ text. text.items ≡ p256_text bytes.now) }
     ensures sized { IfOk result (λ text. length text.items ≤ 1064) }
 {
     let mut numbers = Vec::new(alloc);
@@ -81,7 +81,7 @@ pub fn judge(
     message: &[u8],
     text: &[u8],
 ) -> Result<bool, KeyFault>
-    ensures { IsAnswer (λ holds. holds) result (ecdsa_judged point.now message.now text.now) }
+    ensures { IsAnswer (λ holds. holds) result (p256_judged point.now message.now text.now) }
 {
     let numbers = read_signature(text, Curve::P256)?;
     let r = in_32_bytes(numbers.r)?;
