@@ -1,5 +1,5 @@
-// What FIPS 186-5, section 6.4.2, and SEC 1, section 2.3.4, refuse. The key and the signature are
-// those of RFC 6979, section A.2.5, for "test".
+//! What FIPS 186-5, section 6.4.2, and SEC 1, section 2.3.4, refuse. The key and the signature are
+//! those of RFC 6979, section A.2.5, for "test".
 
 use hex::FromHex;
 use p256_ecdsa::{Doublings, public_key, sign_checked, verify};

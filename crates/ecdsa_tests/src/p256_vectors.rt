@@ -1,4 +1,4 @@
-// RFC 6979, section A.2.5: P-256 with SHA-256.
+//! RFC 6979, section A.2.5: P-256 with SHA-256.
 
 use hex::FromHex;
 use p256_ecdsa::{Doublings, public_key, sign_checked, verify};
