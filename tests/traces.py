@@ -3,7 +3,8 @@
 and of the hash that it comes from, in all writable memory and in the registers, while the program (signing_traces) waits
 behind the signature. With `sign_checked` pieces are found, with `sign_erased` none. Of the helper that signs
 (mortarleek_signer) nothing is found behind its answers, also of an ECDSA key's number and nonce and of an RSA key's numbers;
-while it signs, and while it waits for the rest of a request, pieces are. TRACES=PROGRAM and MORTARLEEK_SIGNER=PROGRAM put other programs in their places, as Rattle's own compiler's builds."""
+while it signs, and while it waits for the rest of a request, pieces are. TRACES=PROGRAM and MORTARLEEK_SIGNER=PROGRAM put
+other programs in their places, as Rattle's own compiler's builds."""
 
 import contextlib
 import hashlib
