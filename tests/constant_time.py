@@ -113,11 +113,6 @@ IN_MEMORY = 'eval "monitor make_memory defined 0x%lx 32", $made'
 IN_REGISTERS = "\n".join(f"set ${register}s1 = 0" for register in ("rax", "rdx", "rcx", "rsi"))
 
 
-def is_rattle_s(program):
-    """Whether Rattle's own compiler built the program."""
-    return "backend=rattle" in rig.run(["readelf", "-p", ".comment", program])
-
-
 def marked(register, text):
     """Says what stands at a register, and marks that as undefined."""
     words = len(text) // 8
@@ -205,7 +200,7 @@ def a_multiple_of_a_base_point_is_made_alike_for_each_number(folder):
 @check
 def the_helper_signs_alike_for_each_seed(folder):
     """From the seed to the signature; behind it that is copied and written, which memcheck tells."""
-    marks = IN_REGISTERS if is_rattle_s(rig.there(HELPER)) else IN_MEMORY
+    marks = IN_REGISTERS if rig.is_rattle_s(rig.there(HELPER)) else IN_MEMORY
     holds(folder, of_helper, HELPER, SIGNS, TAKEN, IS_PUBLIC.format(function=GIVES, marks=marks))
 
 
@@ -226,7 +221,7 @@ def jumps(function, program):
 @check
 def no_jump_stands_but_at_the_ends_of_loops(_):
     for program, table in ((TOOL, JUMPS), (rig.there(HELPER), JUMPS), (rig.there(ECDSA), ECDSA_JUMPS)):
-        if is_rattle_s(program):
+        if rig.is_rattle_s(program):
             raise rig.Skip("Rattle's own compiler leaves comparisons of places with lengths in the code")
         for function, most in table.items():
             found = jumps(function, program)

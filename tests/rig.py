@@ -395,6 +395,11 @@ def script(path, text):
     return path
 
 
+def is_rattle_s(program):
+    """Whether Rattle's own compiler built the program."""
+    return "backend=rattle" in run(["readelf", "-p", ".comment", program])
+
+
 # Counting.
 
 

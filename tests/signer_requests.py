@@ -157,7 +157,7 @@ here.sendall((29).to_bytes(4, "big") + b"\\1" + job + (16).to_bytes(4, "big") + 
     return path
 
 
-OTHER = string(b"ssh-rsa") + string(b"\x01\x00\x01") + string(bytes(128))
+OTHER = string(b"ecdsa-sha2-nistp521") + string(b"nistp521") + string(bytes(133))
 SEED_OF_ONE, PUBLIC_OF_ONE = (bytes.fromhex(text) for text in vectors.ROWS[0][:2])
 
 
@@ -177,7 +177,7 @@ def started(folder):
 def keys_of_other_types_are_refused_where_nothing_is_behind(_):
     with Helper() as helper:
         assert helper.sign(OTHER + string(b"private"), OTHER, b"message") is None
-        assert not helper.verify(OTHER, string(b"rsa-sha2-256") + string(b"signature"), b"session")
+        assert not helper.verify(OTHER, string(b"ecdsa-sha2-nistp521") + string(b"signature"), b"session")
         assert signs(helper) and children(helper.process.pid) == []
 
 
@@ -274,7 +274,7 @@ def what_is_tried_of_mortarleek_helper_holds_of_both(folder):
     rig.there(rig.BEHIND)
     both = rig.script(folder / "both", f'exec {PROGRAM.absolute()} "$@" {rig.BEHIND}')
     words = [sys.executable, "-B", "-m", "unittest", "-q", "test_keys", *(f"test_vectors.{name}" for name in ("Ed25519", "Ecdsa", "Rsa"))]
-    run(words, cwd=TOP / "helper/tests", env=dict(os.environ, HELPER=str(both)), timeout=900)
+    run(words, cwd=TOP / "helper/tests", env=dict(os.environ, HELPER=str(both), BEHIND="1"), timeout=900)
 
 
 # How it ends.

@@ -15,6 +15,8 @@ sys.path.append(str(FOLDER.parent / "tests"))
 from frames import Ended, Frames, string, strings
 
 PROGRAM = os.environ.get("HELPER", str(FOLDER / "target/release/mortarleek-helper"))
+# Whether mortarleek_signer stands before it, and hands on what it doesn't know.
+IS_BEHIND = "BEHIND" in os.environ
 
 SIGN, VERIFY, CONFIRM = 1, 2, 3
 HELLO, SIGNED, REFUSED, TRUE, FALSE = 1, 101, 102, 103, 104

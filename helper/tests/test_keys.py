@@ -5,7 +5,7 @@ import tempfile
 import unittest
 
 from openssh import FIELDS, KINDS, accepts, certify, generate, signature_by_openssh, signed_text
-from peer import Helper, mpint, string, strings
+from peer import IS_BEHIND, Helper, mpint, string, strings
 
 MESSAGE = b"a message\n"
 SIGNED = signed_text(MESSAGE)
@@ -141,6 +141,7 @@ class Keys(unittest.TestCase):
                     signature = self.sign(key.with_fields(fields))
                     self.assertTrue(self.helper.verify(key.blob, signature, SIGNED))
 
+    @unittest.skipIf(IS_BEHIND, "mortarleek_signer says nothing of keys")
     def test_why_a_key_cannot_sign_is_said_once(self):
         short = bytes([1]) * 96  # an RSA modulus of 761 bits
         blob = b"".join(map(string, (b"ssh-rsa", b"\3", short)))

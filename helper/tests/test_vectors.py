@@ -7,7 +7,7 @@ import subprocess
 import tempfile
 import unittest
 
-from peer import Helper, mpint, string, strings
+from peer import IS_BEHIND, Helper, mpint, string, strings
 
 # RFC 8032, section 7.1: seed, public key, message, signature.
 ED25519 = [
@@ -120,7 +120,8 @@ class Ecdsa(unittest.TestCase):
                     self.assertFalse(helper.verify(blob, given, message + b"s"))
                     own = helper.sign(private, blob, message)
                     self.assertTrue(helper.verify(blob, own, message))
-                    self.assertNotEqual(own, given)
+                    # Nonces are random, but those of mortarleek_signer.
+                    self.assertEqual(own == given, IS_BEHIND and curve != "nistp521")
 
 
 def rsa_key(p, q, e=65537):
