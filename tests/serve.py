@@ -561,7 +561,7 @@ def a_killed_helper_behind_is_started_again_at_the_next_request_for_it(folder):
     """It is a child of the proved helper, which stays and signs with its own keys."""
     rig.built("mortarleek-helper")
     rig.built("mortarleek_signer")
-    own, other = keygen(folder / "own"), keygen(folder / "other", kind="rsa", bits=2048)
+    own, other = keygen(folder / "own"), keygen(folder / "other", kind="ecdsa", bits=521)
     with serve(folder) as agent:
         agent.run("ssh-add", "-q", own, other)
         assert signed(agent, own)
