@@ -5,9 +5,10 @@ use Rattle.std.specs.BTreeMap.{is_at}
 use Rattle.std.specs.List.Sorted.{IsStrictlySortedBy}
 use Rattle.std.specs.Map.{keys_of, lookup, values_of}
 use Rattle.std.specs.Cmp.Lexicographic.{slice_cmp}
-use Rattle.identity_table.specs.Identities.{HeldKey, IsSound, answer_len, entries_len}
+use Rattle.identity_table.specs.Identities.{HeldKey, IsSound, answer_len, entries_len, kept_len}
 use Rattle.identity_table.specs.Indices.{IsChanged, IsIndexed, blob_key, death_cmp, death_key, held, held_at, key_if, number_key, place_of_blob, place_of_death, place_of_number}
 use Rattle.identity_table.specs.declared.records.Records.{Records}
+use Rattle.identity_table.proofs.KeptLemmas.{kept_len-none}
 use Rattle.identity_table.proofs.Theorems.{IsSound-none}
 use Rattle.identity_table.proofs.UpdateLemmas.{IsInverse-same, none_is_not}
 
@@ -27,8 +28,8 @@ pub IsIndexed-same : (old new : Records) → IsIndexed old → new.places.entrie
     ((key : List ℕ) → place_of_blob new key ≡ place_of_blob old key) →
     ((key : ℕ) → place_of_number new key ≡ place_of_number old key) →
     ((key : ℕ × ℕ) → place_of_death new key ≡ place_of_death old key) →
-    new.listed ≡ old.listed → new.last ≡ old.last → IsIndexed new
-IsIndexed-same old new indexed same blobs numbers deaths listed last =
+    new.listed ≡ old.listed → new.kept ≡ old.kept → new.last ≡ old.last → IsIndexed new
+IsIndexed-same old new indexed same blobs numbers deaths listed kept last =
     let at : (place : ℕ) → held_at new place ≡ held_at old place =
     λ place. ap (lookup (is_at (nat_cmp place))) same in
     let all : held new ≡ held old = ap values_of same in
@@ -42,6 +43,7 @@ IsIndexed-same old new indexed same blobs numbers deaths listed last =
           (place_of_death old) (place_of_death new) (λ place. ap (key_if death_key) (at place)) deaths indexed.deaths;
       within = λ place beyond. at place ∙ indexed.within place (subst (λ (n : ℕ). n < place) last beyond);
       listed = listed ∙ indexed.listed ∙ ap answer_len (sym all);
+      kept = kept ∙ indexed.kept ∙ ap kept_len (sym all);
       sound = subst (λ (n : ℕ). IsSound (held new) n) (sym last)
           (subst (λ (keys : List HeldKey). IsSound keys old.last) (sym all) indexed.sound);
     }
@@ -49,9 +51,9 @@ IsIndexed-same old new indexed same blobs numbers deaths listed last =
 -- ---- no identities
 
 pub IsIndexed-none : (new : Records) → new.places.entries ≡ [] → new.blobs.entries ≡ [] → new.numbers.entries ≡ [] →
-    new.deaths.entries ≡ [] → new.listed ≡ 5 → IsIndexed new
+    new.deaths.entries ≡ [] → new.listed ≡ 5 → new.kept ≡ 0 → IsIndexed new
 unfolding IsStrictlySortedBy entries_len
-IsIndexed-none new places blobs numbers deaths listed =
+IsIndexed-none new places blobs numbers deaths listed kept =
     let at : (place : ℕ) → held_at new place ≡ None = λ place. ap (lookup (is_at (nat_cmp place))) places in
     record {
       order = subst (λ (es : List (ℕ × HeldKey)). IsStrictlySortedBy nat_cmp (keys_of es)) (sym places) tt;
@@ -69,5 +71,6 @@ IsIndexed-none new places blobs numbers deaths listed =
       };
       within = λ place beyond. at place;
       listed = listed ∙ ap answer_len (sym (ap values_of places));
+      kept = kept ∙ sym (ap kept_len (ap values_of places) ∙ kept_len-none);
       sound = subst (λ (keys : List HeldKey). IsSound keys new.last) (sym (ap values_of places)) (IsSound-none new.last);
     }

@@ -5,13 +5,14 @@ use Rattle.std.specs.BTreeMap.{is_at}
 use Rattle.std.proofs.lemmas.List.Elements.{recursion_from_All}
 use Rattle.lists.specs.Keyed.{has_key}
 use Rattle.identity_table.specs.Deaths.{on_clock}
-use Rattle.identity_table.specs.Identities.{HeldKey, answer_len, entry_len, find_identity, find_number, has_blob, max_answer, number_of, put_identity, taken_by}
+use Rattle.identity_table.specs.Identities.{HeldKey, entry_len, find_identity, find_number, has_blob, is_full, max_answer, number_of, put_identity, taken_by}
 use Rattle.identity_table.specs.Indices.{IsIndexed, blob_key, death_by, death_key, held, held_at, key_if, number_key, place_of_blob, place_of_death, place_of_number}
 use Rattle.identity_table.specs.declared.records.Records.{Records}
 use Rattle.identity_table.proofs.FindLemmas.{only_blob}
 use Rattle.identity_table.proofs.NumberLemmas.{found_within, only_number}
 use Rattle.identity_table.proofs.UpdateLemmas.{none_is_not, same_some}
 use Rattle.lists.proofs.KeyedLemmas.{differ}
+use Rattle.identity_table.proofs.KeptLemmas.{not_full}
 use Rattle.identity_table.proofs.AdditionLemmas.{entries_len-put, other_bytes, same_bytes}
 use Rattle.identity_table.proofs.RecordLemmas.{all_held, entries_len-removed, found_at, none_found}
 
@@ -151,7 +152,7 @@ entry_within records indexed place one at =
     (entry.0, entry.1)
 
 -- what is to be added takes a part of the answer too
-pub entry_of_put : (one : HeldKey) (keys : List HeldKey) → answer_len (put_identity one keys) ≤ max_answer →
+pub entry_of_put : (one : HeldKey) (keys : List HeldKey) → is_full (put_identity one keys) ≡ false →
     entry_len one ≤ max_answer
 entry_of_put one keys fits =
-    omega (arith, fits, entries_len-put one keys, entries_len-removed one.blob keys)
+    omega (arith, (not_full (put_identity one keys) fits).0, entries_len-put one keys, entries_len-removed one.blob keys)

@@ -3,6 +3,7 @@ pub mod ChangeLemmas
 pub mod DeathLemmas
 pub mod FindLemmas
 pub mod IndexLemmas
+pub mod KeptLemmas
 pub mod NumberLaws
 pub mod NumberLemmas
 pub mod PushedLemmas
@@ -10,6 +11,7 @@ pub mod QueueLemmas
 pub mod RecordLemmas
 pub mod RemovedLemmas
 pub mod ReplacedLemmas
+pub mod RoomLemmas
 pub mod SpendLemmas
 pub mod SpentLemmas
 pub mod TableLemmas

@@ -5,7 +5,7 @@ use Rattle.std.specs.BTreeMap.{BTreeMap, IsOrdered, insert_entry, values}
 use Rattle.std.specs.Map.{values_of}
 use Rattle.std.proofs.lemmas.Bool.{cases_lt}
 use Rattle.identity_table.specs.Deaths.{on_clock}
-use Rattle.identity_table.specs.Identities.{HeldKey, IsSound, answer_len, entry_len, find_identity, longest_private, max_answer, put_identity, taken_by}
+use Rattle.identity_table.specs.Identities.{HeldKey, IsSound, answer_len, entry_len, find_identity, is_full, kept_by, kept_if, kept_len, longest_private, put_identity, taken_by}
 use Rattle.identity_table.specs.Indices.{IsChanged, IsIndexed, blob_key, death_key, held, held_at, key_if, number_key, place_of_blob, place_of_death, place_of_number}
 use Rattle.identity_table.specs.declared.records.Records.{Records}
 use Rattle.identity_table.proofs.Theorems.{IsSound-put}
@@ -13,6 +13,7 @@ use Rattle.identity_table.proofs.UpdateLemmas.{IsInverse-changed, same_some, tol
 use Rattle.identity_table.proofs.AdditionLemmas.{entries_len-put, put_identity-none}
 use Rattle.identity_table.proofs.ChangeLemmas.{keys-changed}
 use Rattle.identity_table.proofs.IndexLemmas.{blob_none, next_death_is_free, next_is_free}
+use Rattle.identity_table.proofs.KeptLemmas.{kept_len-put, not_full}
 use Rattle.identity_table.proofs.RecordLemmas.{values-push}
 
 -- the list after it
@@ -33,17 +34,19 @@ held-pushed old new one indexed none number entries =
 
 -- and the indices
 pub IsIndexed-pushed : (old new : Records) (one : HeldKey) → IsIndexed old → place_of_blob old one.blob ≡ None →
-    one.number ≡ old.last + 1 → answer_len (put_identity one (held old)) ≤ max_answer → length one.private ≤ longest_private → IfSome one.uses (λ uses. 1 ≤ uses) →
+    one.number ≡ old.last + 1 → is_full (put_identity one (held old)) ≡ false → length one.private ≤ longest_private → IfSome one.uses (λ uses. 1 ≤ uses) →
     IsOrdered nat_cmp new.places → new.places.entries ≡ insert_entry nat_cmp old.places.entries one.number one →
     IsChanged (held_at old) (Some one.number) (Some one) (held_at new) →
     IsChanged (place_of_blob old) (Some one.blob) (Some one.number) (place_of_blob new) →
     IsChanged (place_of_number old) (Some one.number) (Some one.number) (place_of_number new) →
     IsChanged (place_of_death old) (death_key one) (Some one.number) (place_of_death new) →
-    new.listed ≡ old.listed + entry_len one → new.last ≡ one.number → IsIndexed new
-IsIndexed-pushed old new one indexed none number fits short usable order entries places blobs numbers deaths listed last =
+    new.listed ≡ old.listed + entry_len one → new.kept ≡ old.kept + kept_by one → new.last ≡ one.number → IsIndexed new
+IsIndexed-pushed old new one indexed none number fits short usable order entries places blobs numbers deaths listed kept last =
     let all : held new ≡ put_identity one (held old) = held-pushed old new.places one indexed none number entries in
     let empty : held_at old one.number ≡ None = indexed.within one.number (omega (arith, number)) in
     let taken : taken_by (find_identity one.blob (held old)) ≡ 0 = ap taken_by (blob_none old indexed one.blob none) in
+    let free : kept_if (find_identity one.blob (held old)) ≡ 0 = ap kept_if (blob_none old indexed one.blob none) in
+    let room = not_full (put_identity one (held old)) fits in
     let next : new.last ≡ old.last + 1 = last ∙ number in
     record {
       order = order;
@@ -62,7 +65,8 @@ IsIndexed-pushed old new one indexed none number fits short usable order entries
       within = λ other beyond. places.apart other (λ e. absurd (omega (arith, same_some one.number other e, beyond, last)))
           ∙ indexed.within other (omega (arith, beyond, next));
       listed = omega (arith, listed, indexed.listed, entries_len-put one (held old), taken, ap answer_len all);
+      kept = omega (arith, kept, indexed.kept, kept_len-put one (held old), free, ap kept_len all);
       sound = subst (λ (n : ℕ). IsSound (held new) n) (sym next)
           (subst (λ (keys : List HeldKey). IsSound keys (old.last + 1)) (sym all)
-          (IsSound-put one (held old) old.last number fits short usable indexed.sound));
+          (IsSound-put one (held old) old.last number room.0 room.1 short usable indexed.sound));
     }

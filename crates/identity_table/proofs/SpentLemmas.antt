@@ -7,9 +7,10 @@ use Rattle.std.specs.Map.{lookup, set_value, values_of}
 use Rattle.std.proofs.lemmas.Bool.{cases_eq}
 use Rattle.lists.specs.Firsts.{IsOnly}
 use Rattle.lists.specs.Keyed.{has_key}
-use Rattle.identity_table.specs.Identities.{HeldKey, IsSound, entries_len, find_number, in_front, number_of, spend_identity, used}
+use Rattle.identity_table.specs.Identities.{HeldKey, IsSound, entries_len, find_number, in_front, kept_len, number_of, spend_identity, used_by}
 use Rattle.identity_table.specs.Indices.{IsChanged, IsIndexed, blob_key, death_key, held, held_at, key_if, number_key, place_of_blob, place_of_death, place_of_number}
 use Rattle.identity_table.specs.declared.records.Records.{Records}
+use Rattle.identity_table.proofs.KeptLemmas.{kept_len-left}
 use Rattle.identity_table.proofs.NumberLemmas.{only_number}
 use Rattle.identity_table.proofs.UpdateLemmas.{IsInverse-same, none_is_not, same_some}
 use Rattle.identity_table.proofs.RecordLemmas.{found_at}
@@ -22,7 +23,7 @@ own_number one = grind arith
 -- with less uses it stands where it stood
 pub values-spent : (at : ℕ → Bool) (number : ℕ) (es : List (ℕ × HeldKey)) (one after : HeldKey) →
     IsOnly (has_key number_of number) (values_of es) → lookup at es ≡ Some one → has_key number_of number one ≡ true →
-    used one ≡ Some after → values_of (set_value at es after) ≡ spend_identity number (values_of es)
+    used_by one.uses one ≡ Some after → values_of (set_value at es after) ≡ spend_identity number (values_of es)
 unfolding spend_identity
 values-spent at number [] one after only there passes is = absurd cc
 values-spent at number (e ∷ es) one after only there passes is =
@@ -36,9 +37,9 @@ values-spent at number (e ∷ es) one after only there passes is =
         (lookup at es ≡ Some one → find (has_key number_of number) (values_of es) ≡ Some one) →
         (lookup at es ≡ Some one → values_of (set_value at es after) ≡ spend_identity number (values_of es)) →
         values_of (cond here ((e.0, after) ∷ es) (e ∷ set_value at es after))
-        ≡ cond test (in_front (used e.1) (values_of es)) (e.1 ∷ spend_identity number (values_of es))
+        ≡ cond test (in_front (used_by e.1.uses e.1) (values_of es)) (e.1 ∷ spend_identity number (values_of es))
     by_tests true true has behind found later rest =
-        let left : used e.1 ≡ Some after = ap used (same_some e.1 one found) ∙ is in
+        let left : used_by e.1.uses e.1 ≡ Some after = ap (λ (k : HeldKey). used_by k.uses k) (same_some e.1 one found) ∙ is in
         rw left refl
     by_tests true false has behind found later rest =
         let yes : eqb e.1.number number ≡ true =
@@ -51,7 +52,7 @@ values-spent at number (e ∷ es) one after only there passes is =
 
 -- a use of what stands at a place leaves the records with what is left of it there
 pub held-spent : (old : Records) (new : BTreeMap ℕ HeldKey) (place : ℕ) (one after : HeldKey) → IsIndexed old →
-    held_at old place ≡ Some one → used one ≡ Some after →
+    held_at old place ≡ Some one → used_by one.uses one ≡ Some after →
     new.entries ≡ set_value (is_at (nat_cmp place)) old.places.entries after →
     values new ≡ spend_identity one.number (held old)
 held-spent old new place one after indexed at is entries =
@@ -69,17 +70,19 @@ number_at records indexed place one at =
 
 -- and the indices
 pub IsIndexed-spent : (old new : Records) (place : ℕ) (one after : HeldKey) → IsIndexed old → held_at old place ≡ Some one →
-    used one ≡ Some after → IsOrdered nat_cmp new.places →
+    used_by one.uses one ≡ Some after → IsOrdered nat_cmp new.places →
     new.places.entries ≡ set_value (is_at (nat_cmp place)) old.places.entries after →
     IsChanged (held_at old) (Some place) (Some after) (held_at new) →
     ((key : List ℕ) → place_of_blob new key ≡ place_of_blob old key) →
     ((key : ℕ) → place_of_number new key ≡ place_of_number old key) →
     ((key : ℕ × ℕ) → place_of_death new key ≡ place_of_death old key) →
-    new.listed ≡ old.listed → new.last ≡ old.last → IsIndexed new
-IsIndexed-spent old new place one after indexed at is order entries places blobs numbers deaths listed last =
+    new.listed ≡ old.listed → new.kept ≡ old.kept → new.last ≡ old.last → IsIndexed new
+IsIndexed-spent old new place one after indexed at is order entries places blobs numbers deaths listed kept last =
     let all : held new ≡ spend_identity one.number (held old) = held-spent old new.places place one after indexed at is entries in
     let len : entries_len (spend_identity one.number (held old)) ≡ entries_len (held old) =
     entries_len-left one.number (held old) one after (number_at old indexed place one at) is in
+    let room : kept_len (spend_identity one.number (held old)) ≡ kept_len (held old) =
+    kept_len-left one.number (held old) one after (number_at old indexed place one at) is in
     let same : after ≡ record one { uses = after.uses } = only_uses one.uses one after is in
     record {
       order = order;
@@ -94,6 +97,7 @@ IsIndexed-spent old new place one after indexed at is order entries places blobs
           (λ other. by_place death_key (ap death_key same) other (cases_eq place other)) deaths indexed.deaths;
       within = λ other beyond. within_by other (subst (λ (n : ℕ). n < other) last beyond) (cases_eq place other);
       listed = listed ∙ indexed.listed ∙ ap (λ (n : ℕ). 5 + n) (sym (ap entries_len all ∙ len));
+      kept = kept ∙ indexed.kept ∙ sym (ap kept_len all ∙ room);
       sound = subst (λ (n : ℕ). IsSound (held new) n) (sym last)
           (subst (λ (keys : List HeldKey). IsSound keys old.last) (sym all)
           (IsSound-spend one.number old.last (held old) indexed.sound));

@@ -1,18 +1,17 @@
 -- Tables over many calls, and what stands against an addition.
-use Rattle.std.proofs.Common.{◌≡◌, ◌+◌, ◌-◌, ◌^◌, ◌≤◌, ◌==◌, ℕ, nat_lt, Bool, true, false, cond, List, [], ◌∷◌, length, Some, None, IfSome, refl, subst, arith}
+use Rattle.std.proofs.Common.{◌≡◌, ◌+◌, ◌-◌, ◌^◌, ◌≤◌, ◌==◌, ℕ, Bool, true, false, cond, List, [], ◌∷◌, length, Some, None, IfSome, refl, subst, arith}
 use Rattle.std.specs.Str.{bytes_eq}
 use Rattle.constraint_rec.specs.declared.terms.Terms.{Terms}
 use Rattle.key_blob.specs.declared.added.AddedKey.{AddedKey}
-use Rattle.identity_table.specs.Identities.{HeldKey, TableState, AreShort, IsSound, added, answer_len, entries_len, entry_len, find_identity, identities_with, longest_private, max_answer, new_identity}
+use Rattle.identity_table.specs.Identities.{HeldKey, TableState, AreShort, IsSound, added, entries_len, entry_len, find_identity, identities_with, is_full, longest_private, max_answer, new_identity}
 use Rattle.identity_table.specs.Tables.{Call, Expire, Add, Remove, RemoveAll, Spend, RiseFrom, add_fault, add_fault_by, after_call, numbers_of}
+use Rattle.identity_table.proofs.KeptLemmas.{not_full}
 use Rattle.identity_table.proofs.Theorems.{IsSound-put}
 
--- one message lists all where nothing stands against an addition
-fits_if : (full spent : Bool) (len : ℕ) → nat_lt max_answer len ≡ full →
-    add_fault_by full spent ≡ None → len ≤ max_answer
-fits_if true spent len is none = absurd cc
-fits_if false true len is none = absurd cc
-fits_if false false len is none = grind arith
+-- they aren't too many where nothing stands against an addition
+fits_if : (full spent : Bool) → add_fault_by full spent ≡ None → full ≡ false
+fits_if true spent none = absurd cc
+fits_if false spent none = refl
 
 -- a table stays sound where nothing stands against an addition
 pub IsSound-added : (table : TableState) (key : AddedKey) (terms : Terms) (comment : List ℕ)
@@ -21,9 +20,9 @@ pub IsSound-added : (table : TableState) (key : AddedKey) (terms : Terms) (comme
     IfSome terms.uses (λ uses. 1 ≤ uses) → IsSound table.identities table.last →
     IsSound (added table key terms comment now).identities (table.last + 1)
 IsSound-added table key terms comment now none short usable sound =
-    let len = answer_len (identities_with table key terms comment now) in
-    IsSound-put (new_identity table key terms comment now) table.identities table.last refl
-    (fits_if (nat_lt max_answer len) (table.last == 2 ^ 64 - 1) len refl none) short usable sound
+    let after = identities_with table key terms comment now in
+    let room = not_full after (fits_if (is_full after) (table.last == 2 ^ 64 - 1) none) in
+    IsSound-put (new_identity table key terms comment now) table.identities table.last refl room.0 room.1 short usable sound
 
 -- a key that is held is as short as all of them
 pub held_is_short : (blob : List ℕ) (keys : List HeldKey) (key : HeldKey) →

@@ -2,8 +2,9 @@
 use Rattle.std.proofs.Common.{◌≡◌, ℕ, ◌+◌, ◌≤◌, length, IfSome, Bool, true, false, cond, List, [], ◌∷◌, arith}
 use Rattle.std.specs.Str.{bytes_eq}
 use Rattle.identity_table.specs.Deaths.{lives_at}
-use Rattle.identity_table.specs.Identities.{HeldKey, put_identity, remove_identity, alive_at, entry_len, entries_len, answer_len, max_answer, AreShort, AreUsable, HaveOwnBlobs, HaveOwnNumbers, IsSound, longest_private}
+use Rattle.identity_table.specs.Identities.{HeldKey, put_identity, remove_identity, alive_at, entry_len, entries_len, answer_len, max_answer, AreShort, AreUsable, HaveOwnBlobs, HaveOwnNumbers, IsSound, kept_len, longest_private}
 use Rattle.identity_table.proofs.FindLemmas.{own_blobs-put, own_blobs-remove, own_blobs-alive}
+use Rattle.identity_table.proofs.KeptLemmas.{kept_len-alive, kept_len-none, kept_len-removed}
 use Rattle.identity_table.proofs.NumberLemmas.{own_numbers-put, own_numbers-remove, own_numbers-alive}
 
 -- ---- the length of the answer
@@ -124,17 +125,19 @@ AreUsable-alive second (key ∷ keys) rest =
 -- an empty table
 pub IsSound-none : (last : ℕ) → IsSound [] last
 unfolding AreShort AreUsable HaveOwnBlobs HaveOwnNumbers entries_len
-IsSound-none last = record { blobs = tt; numbers = tt; fits = omega arith; short = tt; uses = tt }
+IsSound-none last =
+    record { blobs = tt; numbers = tt; fits = omega arith; small = omega (arith, kept_len-none); short = tt; uses = tt }
 
 -- after an addition that fits, under the next number
 pub IsSound-put : (new : HeldKey) (keys : List HeldKey) (last : ℕ) → new.number ≡ last + 1 →
-    answer_len (put_identity new keys) ≤ max_answer →
+    answer_len (put_identity new keys) ≤ max_answer → kept_len (put_identity new keys) ≤ 8388608 →
     length new.private ≤ longest_private → IfSome new.uses (λ uses. 1 ≤ uses) → IsSound keys last →
     IsSound (put_identity new keys) (last + 1)
-IsSound-put new keys last number fits short usable sound = record {
+IsSound-put new keys last number fits small short usable sound = record {
   blobs = own_blobs-put new keys sound.blobs;
   numbers = own_numbers-put last new keys number sound.numbers;
   fits = fits;
+  small = small;
   short = AreShort-put new keys short sound.short;
   uses = AreUsable-put new keys usable sound.uses;
 }
@@ -146,6 +149,7 @@ IsSound-remove blob keys last sound = record {
   blobs = own_blobs-remove blob keys sound.blobs;
   numbers = own_numbers-remove last blob keys sound.numbers;
   fits = omega (arith, entries_len-remove blob keys, sound.fits);
+  small = omega (arith, kept_len-removed blob keys, sound.small);
   short = AreShort-remove blob keys sound.short;
   uses = AreUsable-remove blob keys sound.uses;
 }
@@ -157,6 +161,7 @@ IsSound-alive second keys last sound = record {
   blobs = own_blobs-alive second keys sound.blobs;
   numbers = own_numbers-alive last second keys sound.numbers;
   fits = omega (arith, entries_len-alive second keys, sound.fits);
+  small = omega (arith, kept_len-alive second keys, sound.small);
   short = AreShort-alive second keys sound.short;
   uses = AreUsable-alive second keys sound.uses;
 }

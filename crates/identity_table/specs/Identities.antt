@@ -1,12 +1,13 @@
 -- The identities that an agent holds (draft-miller-ssh-agent, "Adding keys to the agent"). That they
 -- are a list in order of first addition is as in OpenSSH's ssh-agent.
-use Rattle.std.specs.Prelude.{◌≡◌, ℕ, ◌+◌, ◌-◌, ◌≤◌, ◌==◌, Bool, List, [], ◌∷◌, length, filter, Option, Some, None, IfSome, if◌then◌else◌}
-use Rattle.std.specs.List.{find}
+use Rattle.std.specs.Prelude.{◌≡◌, ℕ, ◌+◌, ◌-◌, ◌≤◌, ◌==◌, nat_lt, ◌||◌, Bool, List, [], ◌∷◌, length, filter, Option, Some, None, IfSome, if◌then◌else◌}
+use Rattle.std.specs.List.{find, sum_by}
 use Rattle.std.specs.Str.{bytes_eq}
 use Rattle.wire_text.specs.Bounds.{longest_body}
 use Rattle.lists.specs.Firsts.{remove_first}
 use Rattle.lists.specs.Keyed.{find_by}
 use Rattle.constraint_rec.specs.declared.constraint.Constraint.{Constraint}
+use Rattle.constraint_rec.specs.declared.constraint.Hop.{Hop}
 use Rattle.constraint_rec.specs.declared.terms.Terms.{Terms}
 use Rattle.key_blob.specs.declared.added.AddedKey.{AddedKey}
 use Rattle.identity_table.specs.Deaths.{death_of, lives_at, on_clock, earlier}
@@ -64,18 +65,12 @@ alive_at second keys = filter (λ key. lives_at second key.death) keys
 
 -- ---- what is used up (ours)
 
--- an identity with so many uses left, which is gone where none is
-abbrev pub with_uses : ℕ → HeldKey → Option HeldKey
-with_uses uses key = if uses == 0 then None else Some (record key { uses = Some uses })
-
--- an identity after one more use: one with a number of uses has one less
+-- an identity after one more use, by the number that it has left: it has one less, and is gone after
+-- its last
 abbrev pub used_by : Option ℕ → HeldKey → Option HeldKey
 used_by None key = Some key
-used_by (Some uses) key = with_uses (uses - 1) key
-
--- an identity after one more use, by the number that it has left
-abbrev pub used : HeldKey → Option HeldKey
-used key = used_by key.uses key
+used_by (Some uses) key =
+    if uses - 1 == 0 then None else Some (record key { uses = Some (uses - 1) })
 
 -- in front of these, where it is there
 abbrev pub in_front : Option HeldKey → List HeldKey → List HeldKey
@@ -86,7 +81,8 @@ in_front (Some key) keys = key ∷ keys
 unfoldable pub spend_identity : ℕ → List HeldKey → List HeldKey
 spend_identity number [] = []
 spend_identity number (key ∷ keys) =
-    if key.number == number then in_front (used key) keys else key ∷ spend_identity number keys
+    if key.number == number then in_front (used_by key.uses key) keys
+    else key ∷ spend_identity number keys
 
 -- ---- deaths
 
@@ -119,6 +115,31 @@ answer_len keys = 5 + entries_len keys
 abbrev pub max_answer : ℕ
 max_answer = longest_body
 
+-- ---- the room that they take (ours)
+
+-- what a hop takes: its user and its host, each of its keys, and 64 bytes more for it and for each
+abbrev pub hop_len : Hop → ℕ
+hop_len hop =
+    64 + length hop.user + length hop.host + sum_by (λ key. 64 + length key.blob) hop.keys
+
+-- what an identity takes, beside its entry: its private string and the hops of its constraints
+abbrev pub kept_by : HeldKey → ℕ
+kept_by key = length key.private + sum_by (λ rule. hop_len rule.from + hop_len rule.to) key.rules
+
+-- how much one takes, where it is there
+abbrev pub kept_if : Option HeldKey → ℕ
+kept_if None = 0
+kept_if (Some key) = kept_by key
+
+-- what all of them take
+unfoldable pub kept_len : List HeldKey → ℕ
+kept_len keys = sum_by kept_by keys
+
+-- these are too many: the answer that lists them all is longer than a message, or they take more than
+-- 8 MiB
+abbrev pub is_full : List HeldKey → Bool
+is_full keys = nat_lt longest_body (answer_len keys) || nat_lt 8388608 (kept_len keys)
+
 -- ---- what holds of every table
 
 -- no two have one blob
@@ -146,12 +167,13 @@ unfoldable pub AreUsable : List HeldKey → Type 0
 AreUsable [] = Unit {0}
 AreUsable (key ∷ keys) = IfSome key.uses (λ uses. 1 ≤ uses) × AreUsable keys
 
--- each identity has its own blob and its own number, one message lists them all, no private string
--- is longer than a message, and each number of uses that is left is at least 1
+-- each identity has its own blob and its own number, one message lists them all, they take at most
+-- 8 MiB, no private string is longer than a message, and each number of uses that is left is at least 1
 pub record IsSound (keys : List HeldKey) (last : ℕ) : Type 0 where
   pub blobs : HaveOwnBlobs keys
   pub numbers : HaveOwnNumbers last keys
   pub fits : answer_len keys ≤ max_answer
+  pub small : kept_len keys ≤ 8388608
   pub short : AreShort keys
   pub uses : AreUsable keys
 

@@ -6,7 +6,7 @@ use Rattle.std.specs.Ordering.{nat_cmp, ordering_then}
 use Rattle.std.specs.Cmp.Lexicographic.{slice_cmp}
 use Rattle.std.specs.BTreeMap.{IsOrdered, get, get_by, values}
 use Rattle.identity_table.specs.Deaths.{on_clock}
-use Rattle.identity_table.specs.Identities.{HeldKey, IsSound, answer_len}
+use Rattle.identity_table.specs.Identities.{HeldKey, IsSound, answer_len, kept_len}
 use Rattle.identity_table.specs.declared.records.Records.{Records}
 
 -- ---- what stands where
@@ -66,8 +66,8 @@ pub record IsInverse {K : Type 0} (key_at : ℕ → Option K) (place_of : K → 
   pub held : (key : K) (place : ℕ) → place_of key ≡ Some place → key_at place ≡ Some key
   pub found : (place : ℕ) (key : K) → key_at place ≡ Some key → place_of key ≡ Some place
 
--- each index finds what is held and nothing else; the answer that lists all is as long as is noted;
--- and no place is beyond the last number
+-- each index finds what is held and nothing else; the answer that lists all is as long as is noted,
+-- and all take what is noted; and no place is beyond the last number
 pub record IsIndexed (records : Records) : Type 0 where
   pub order : IsOrdered nat_cmp records.places
   pub blobs : IsInverse (λ place. key_if blob_key (held_at records place)) (place_of_blob records)
@@ -77,6 +77,7 @@ pub record IsIndexed (records : Records) : Type 0 where
       (place_of_death records)
   pub within : (place : ℕ) → records.last < place → held_at records place ≡ None
   pub listed : records.listed ≡ answer_len (held records)
+  pub kept : records.kept ≡ kept_len (held records)
   pub sound : IsSound (held records) records.last
 
 -- ---- one change of an index

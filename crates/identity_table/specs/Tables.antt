@@ -1,10 +1,10 @@
 -- What calls do to a table (draft-miller-ssh-agent, "Adding keys to the agent", "Removing keys from
 -- the agent"). Why a key isn't added is ours.
-use Rattle.std.specs.Prelude.{◌≡◌, ℕ, zero, suc, ◌+◌, ◌-◌, ◌^◌, ◌==◌, nat_lt, Bool, true, false, List, [], ◌∷◌, Option, Some, None}
+use Rattle.std.specs.Prelude.{◌≡◌, ℕ, zero, suc, ◌+◌, ◌-◌, ◌^◌, ◌==◌, Bool, true, false, List, [], ◌∷◌, Option, Some, None}
 use Rattle.constraint_rec.specs.declared.terms.Terms.{Terms}
 use Rattle.key_blob.specs.declared.added.AddedKey.{AddedKey}
 use Rattle.lists.specs.Rising.{IsRisingNumbers}
-use Rattle.identity_table.specs.Identities.{HeldKey, TableState, added, alive_at, answer_len, identities_with, max_answer, remove_identity, spend_identity}
+use Rattle.identity_table.specs.Identities.{HeldKey, TableState, added, alive_at, identities_with, is_full, remove_identity, spend_identity}
 use Rattle.identity_table.specs.declared.fault.AddFault.{AddFault}
 use Rattle.identity_table.specs.declared.fault.AddFault.TheVariants.{ListFull, NumbersSpent, Memory}
 
@@ -35,7 +35,7 @@ spent_often (suc times) number keys = spent_often times number (spend_identity n
 
 -- ---- why a key isn't added
 
--- by whether one message would not list all identities, and whether each number was given
+-- by whether the identities would be too many, and whether each number was given
 abbrev pub add_fault_by : Bool → Bool → Option AddFault
 add_fault_by true spent = Some ListFull
 add_fault_by false true = Some NumbersSpent
@@ -44,7 +44,7 @@ add_fault_by false false = None
 -- why a key isn't added at this second
 abbrev pub add_fault : TableState → AddedKey → Terms → List ℕ → ℕ → Option AddFault
 add_fault table key terms comment now =
-    add_fault_by (nat_lt max_answer (answer_len (identities_with table key terms comment now)))
+    add_fault_by (is_full (identities_with table key terms comment now))
     (table.last == 2 ^ 64 - 1)
 
 -- an addition is refused with this fault: memory is wanting only where nothing else stands against

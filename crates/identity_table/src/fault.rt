@@ -8,7 +8,8 @@ use std::alloc::AllocError;
 /// Why a key was not added. ListFull wins over NumbersSpent.
 #[derive(Clone, Copy, Debug, PartialEq, Eq)]
 pub enum AddFault {
-    /// The answer that lists all identities would be longer than a message may be.
+    /// The answer that lists all identities would be longer than a message may be, or their private
+    /// strings and constraints would take more than 8 MiB.
     ListFull,
     /// No number is left for the addition.
     NumbersSpent,

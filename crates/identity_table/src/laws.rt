@@ -1,6 +1,7 @@
 //! What stands of a table over many calls.
 
 ghost use Rattle.std.specs.Prelude.{◌≡◌, ◌+◌, ◌≤◌, ◌==◌, ℕ, suc, false, List, None, Some, IfSome, length};
+ghost use Rattle.std.specs.List.{sum_by};
 ghost use Rattle.constraint_rec.specs.declared.terms.Terms.{Terms};
 ghost use Rattle.key_blob.specs.declared.added.AddedKey.{AddedKey};
 ghost use Rattle.identity_table.specs.Identities.{HeldKey, IsSound, TableState, added, entry_len, find_identity, find_number, longest_private, max_answer, spend_identity};
@@ -64,4 +65,12 @@ pub fn what_is_held_is_short()
     ensures { (blob : List ℕ) (last : ℕ) (keys : List HeldKey) (key : HeldKey)
         → IsSound keys last → find_identity blob keys ≡ Some key
         → (entry_len key ≤ max_answer) × (length key.private ≤ longest_private) }
+{}
+
+/// All private strings that are held have at most 8 MiB, and at most 65536 constraints are held.
+pub fn what_is_held_takes_at_most_8_mib()
+    ensures private { (keys : List HeldKey) (last : ℕ) → IsSound keys last
+        → sum_by (λ key. length key.private) keys ≤ 8388608 }
+    ensures rules { (keys : List HeldKey) (last : ℕ) → IsSound keys last
+        → sum_by (λ key. length key.rules) keys ≤ 65536 }
 {}

@@ -1,14 +1,16 @@
 //! Where identities stand, and what finds them.
 
-ghost use Rattle.std.specs.Prelude.{◌≡◌, ◌+◌, ◌≤◌, ◌<◌, ◌↔◌, ℕ, [], false, IsSome, IsTrue, IfSome, IfNone, Some, None, MatchBool, OnOk, OnErr, length};
+ghost use Rattle.std.specs.Prelude.{◌≡◌, ◌+◌, ◌≤◌, ◌<◌, ◌↔◌, ℕ, [], false, not, IsSome, IsTrue, IfSome, IfNone, Some, None, MatchBool, OnOk, OnErr, length};
 ghost use Rattle.std.specs.Option.{option_copied};
 ghost use Rattle.std.specs.Ordering.{nat_cmp};
 ghost use Rattle.std.specs.BTreeMap.{btree_map_len, get};
 ghost use Rattle.identity_table.specs.Deaths.{lives_at};
-ghost use Rattle.identity_table.specs.Identities.{HeldKey, IsSound, alive_at, answer_len, entry_len, find_identity, find_number, longest_private, max_answer, next_death, put_identity, remove_identity, spend_identity, taken_by};
+ghost use Rattle.identity_table.specs.Identities.{HeldKey, IsSound, alive_at, answer_len, entry_len, find_identity, find_number, is_full, kept_by, kept_if, kept_len, longest_private, max_answer, next_death, put_identity, remove_identity, spend_identity, taken_by};
 ghost use Rattle.identity_table.specs.Indices.{IsIndexed, IsChanged, death_by, death_cmp, death_key, held, held_at, place_of_blob, place_of_death, place_of_number};
 
 use crate::identity::Identity;
+use crate::room::{is_room_beside, room_of};
+use constraint_rec::Constraint;
 use frame_core::LONGEST_BODY;
 use std::alloc::{AllocError, Global};
 use std::collections::BTreeMap;
@@ -30,6 +32,8 @@ pub struct Records {
     deaths: BTreeMap<(u64, u64), u64>,
     // How long the answer is that lists all.
     pub listed: usize,
+    // How much room the private strings and the constraints of all take.
+    pub kept: usize,
     // The number of the last addition.
     pub last: u64,
 }
@@ -48,6 +52,7 @@ impl Records {
             numbers: BTreeMap::new(alloc),
             deaths: BTreeMap::new(alloc),
             listed: 5,
+            kept: 0,
             last: 0,
         }
     }
@@ -97,14 +102,35 @@ impl Records {
         }
     }
 
-    /// Whether an answer can list them all after an addition of this blob and comment.
-    pub fn has_room(&self, blob: &[u8], comment: &[u8]) -> bool
+    /// How much room all take but the one with this blob.
+    fn others_kept(&self, blob: &[u8]) -> usize
         requires { IsIndexed self.now }
-        ensures { (new : HeldKey) → new.blob ≡ blob.now → new.comment ≡ comment.now →
-            MatchBool result (answer_len (put_identity new (held self.now)) ≤ max_answer)
-            (max_answer < answer_len (put_identity new (held self.now))) }
+        ensures { result + kept_if (find_identity blob.now (held self.now))
+            ≡ kept_len (held self.now) }
     {
-        fits(self.others_len(blob), blob, comment)
+        match self.find(blob) {
+            Some(identity) => self.kept - room_of_held(identity),
+            None => self.kept,
+        }
+    }
+
+    /// Whether an answer can list them all after an addition of these parts, and they take no more
+    /// room than they may.
+    pub fn has_room(
+        &self,
+        blob: &[u8],
+        private: usize,
+        comment: &[u8],
+        rules: &[Constraint],
+    ) -> bool
+        requires { IsIndexed self.now }
+        ensures { (new : HeldKey) → new.blob ≡ blob.now → length new.private ≡ private →
+            new.comment ≡ comment.now → new.rules ≡ rules.now →
+            result ≡ not (is_full (put_identity new (held self.now))) }
+    {
+        let lists = fits(self.others_len(blob), blob, comment);
+        let takes = is_room_beside(self.others_kept(blob), private, rules);
+        lists && takes
     }
 
     /// Puts `identity` into the place of the one with its blob, or at the end. On a refusal, all
@@ -112,7 +138,7 @@ impl Records {
     pub fn put(&mut self, identity: Identity) -> Result<(), AllocError>
         requires indexed { IsIndexed self.old }
         requires number { identity.number ≡ self.old.last + 1 }
-        requires fits { answer_len (put_identity identity (held self.old)) ≤ max_answer }
+        requires fits { is_full (put_identity identity (held self.old)) ≡ false }
         requires short { length identity.private ≤ longest_private }
         requires usable { IfSome identity.uses (λ uses. 1 ≤ uses) }
         ensures indexed { IsIndexed self.new }
@@ -135,7 +161,7 @@ impl Records {
         requires indexed { IsIndexed self.old }
         requires blob { place_of_blob self.old identity.blob ≡ None }
         requires number { identity.number ≡ self.old.last + 1 }
-        requires fits { answer_len (put_identity identity (held self.old)) ≤ max_answer }
+        requires fits { is_full (put_identity identity (held self.old)) ≡ false }
         requires short { length identity.private ≤ longest_private }
         requires usable { IfSome identity.uses (λ uses. 1 ≤ uses) }
         ensures indexed { IsIndexed self.new }
@@ -148,6 +174,7 @@ impl Records {
         let number = identity.addition();
         let death = identity.death();
         let len = entry_len_of(&identity);
+        let room = room_of_held(&identity);
         enter(&mut self.numbers, &mut self.deaths, number, death, number)?;
         if let Err(_) = self.blobs.insert(blob, number) {
             leave(&mut self.numbers, &mut self.deaths, number, death);
@@ -156,6 +183,7 @@ impl Records {
         match self.places.insert(number, identity) {
             Ok(_) => {
                 self.listed += len;
+                self.kept += room;
                 self.last = number;
                 Ok(())
             }
@@ -173,7 +201,7 @@ impl Records {
         requires indexed { IsIndexed self.old }
         requires blob { place_of_blob self.old identity.blob ≡ Some place }
         requires number { identity.number ≡ self.old.last + 1 }
-        requires fits { answer_len (put_identity identity (held self.old)) ≤ max_answer }
+        requires fits { is_full (put_identity identity (held self.old)) ≡ false }
         requires short { length identity.private ≤ longest_private }
         requires usable { IfSome identity.uses (λ uses. 1 ≤ uses) }
         ensures indexed { IsIndexed self.new }
@@ -184,6 +212,7 @@ impl Records {
     {
         let number = identity.addition();
         let len = entry_len_of(&identity);
+        let room = room_of_held(&identity);
         enter(
             &mut self.numbers,
             &mut self.deaths,
@@ -202,6 +231,7 @@ impl Records {
             old.death(),
         );
         self.listed = self.listed - entry_len_of(&old) + len;
+        self.kept = self.kept - room_of_held(&old) + room;
         self.last = number;
         Ok(())
     }
@@ -279,6 +309,7 @@ impl Records {
                 identity.death(),
             );
             self.listed -= entry_len_of(&identity);
+            self.kept -= room_of_held(&identity);
         }
     }
 
@@ -321,6 +352,7 @@ impl Records {
         self.numbers.clear();
         self.deaths.clear();
         self.listed = 5;
+        self.kept = 0;
     }
 }
 
@@ -380,6 +412,14 @@ fn entry_len_of(identity: &Identity) -> usize
     ensures { result ≡ entry_len identity.now }
 {
     8 + identity.blob().len() + identity.comment().len()
+}
+
+// How much room an identity takes, where that is no more than all may take.
+fn room_of_held(identity: &Identity) -> usize
+    requires { kept_by identity.now ≤ 8388608 }
+    ensures { result ≡ kept_by identity.now }
+{
+    room_of(identity.private().len(), identity.rules())
 }
 
 // Whether an answer of `others` bytes has room for one more blob and comment.

@@ -84,7 +84,13 @@ impl Table {
             (IsRefusedWith (add_fault self.old key terms comment.now now)) }
         ensures unchanged { OnErr result (self.new ≡ self.old) }
     {
-        if !self.records.has_room(key.blob.as_slice(), comment) {
+        let room = self.records.has_room(
+            key.blob.as_slice(),
+            key.private.len(),
+            comment,
+            terms.rules.as_slice(),
+        );
+        if !room {
             return Err(AddFault::ListFull);
         }
         if self.records.last == u64::MAX {

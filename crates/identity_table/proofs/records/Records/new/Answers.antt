@@ -4,4 +4,4 @@ use Rattle.identity_table.proofs.ChangeLemmas.{IsIndexed-none}
 
 pub returns-clause-indexed : goal.returns-clause-indexed
 returns-clause-indexed c =
-    IsIndexed-none _ c.new.ensures.empty c.new-2.ensures.empty c.new-3.ensures.empty c.new-4.ensures.empty refl
+    IsIndexed-none _ c.new.ensures.empty c.new-2.ensures.empty c.new-3.ensures.empty c.new-4.ensures.empty refl refl

@@ -11,9 +11,13 @@ use Rattle.identity_table.proofs.records.Records.push.Goals as goal
 use Rattle.identity_table.proofs.ChangeLemmas.{IsIndexed-same}
 use Rattle.identity_table.proofs.IndexLemmas.{entry_of_put, next_death_is_free, next_is_free}
 use Rattle.identity_table.proofs.PushedLemmas.{IsIndexed-pushed, held-pushed}
+use Rattle.identity_table.proofs.RoomLemmas.{room_of_put}
 
 pub entry_len_of-len-requires : goal.entry_len_of-len-requires
 entry_len_of-len-requires c = entry_of_put c.args.identity (held c.args.self.now) c.requires.fits
+
+pub room_of_held-room-requires : goal.room_of_held-room-requires
+room_of_held-room-requires c = room_of_put c.args.identity (held c.args.self.now) c.requires.fits
 
 pub enter-requires : goal.enter-requires
 enter-requires c = record {
@@ -33,7 +37,7 @@ returns-in-Err-clause-indexed c =
     (undone told_pairs (place_of_death old) (get death_cmp c.enter.new.deaths) (get death_cmp c.leave.new.deaths)
     (death_by c.death-death.result number) number c.in_ok-enter.ensures.deaths c.leave.ensures.deaths
     (next_death_is_free old c.requires.indexed number c.death-death.result next))
-    refl refl
+    refl refl refl
 
 pub overflow_add-self : goal.overflow_add-self
 overflow_add-self c = omega (
@@ -42,6 +46,15 @@ overflow_add-self c = omega (
   c.requires.indexed.sound.fits,
   c.entry_len_of-len.ensures,
   entry_of_put c.args.identity (held c.args.self.now) c.requires.fits,
+)
+
+pub overflow_add-self-in-Ok : goal.overflow_add-self-in-Ok
+overflow_add-self-in-Ok c = omega (
+  arith,
+  c.requires.indexed.kept,
+  c.requires.indexed.sound.small,
+  c.room_of_held-room.ensures,
+  room_of_put c.args.identity (held c.args.self.now) c.requires.fits,
 )
 
 pub returns-in-Ok-clause-indexed : goal.returns-in-Ok-clause-indexed
@@ -57,6 +70,7 @@ returns-in-Ok-clause-indexed c =
     (rw c.addition-number.ensures at c.in_ok-enter.ensures.numbers)
     (rw (c.addition-number.ensures, c.death-death.ensures) at c.in_ok-enter.ensures.deaths)
     (ap (λ (len : ℕ). old.listed + len) c.entry_len_of-len.ensures)
+    (ap (λ (room : ℕ). old.kept + room) c.room_of_held-room.ensures)
     c.addition-number.ensures
 
 pub returns-in-Ok-clause-ok : goal.returns-in-Ok-clause-ok
@@ -86,4 +100,4 @@ returns-clause-indexed c =
     (undone told_pairs (place_of_death old) (get death_cmp c.enter.new.deaths) (get death_cmp c.leave-in-Err-insert.new.deaths)
     (death_by c.death-death.result number) number c.in_ok-enter.ensures.deaths c.leave-in-Err-insert.ensures.deaths
     (next_death_is_free old c.requires.indexed number c.death-death.result next))
-    refl refl
+    refl refl refl

@@ -5,9 +5,13 @@ use Rattle.identity_table.proofs.UpdateLemmas.{get-changed, none_is_not}
 use Rattle.identity_table.proofs.records.Records.replace.Goals as goal
 use Rattle.identity_table.proofs.IndexLemmas.{entry_of_put, entry_within, next_is_free, there}
 use Rattle.identity_table.proofs.ReplacedLemmas.{IsIndexed-replaced, held-replaced}
+use Rattle.identity_table.proofs.RoomLemmas.{room_of_put, room_within}
 
 pub entry_len_of-len-requires : goal.entry_len_of-len-requires
 entry_len_of-len-requires c = entry_of_put c.args.identity (held c.args.self.now) c.requires.fits
+
+pub room_of_held-room-requires : goal.room_of_held-room-requires
+room_of_held-room-requires c = room_of_put c.args.identity (held c.args.self.now) c.requires.fits
 
 pub enter-requires : goal.enter-requires
 enter-requires c = record {
@@ -50,11 +54,30 @@ overflow_add-self c = omega (
   entry_of_put c.args.identity (held c.args.self.now) c.requires.fits,
 )
 
+pub room_of_held-requires : goal.room_of_held-requires
+room_of_held-requires c =
+    (room_within c.args.self.now c.requires.indexed c.args.place c.in-Some.old (sym c.in_ok-old.ensures.old ∙ c.in-Some.is)).0
+
+pub overflow_sub-self-2 : goal.overflow_sub-self-2
+overflow_sub-self-2 c =
+    let room = room_within c.args.self.now c.requires.indexed c.args.place c.in-Some.old (sym c.in_ok-old.ensures.old ∙ c.in-Some.is) in
+    omega (arith, room.1, c.room_of_held.ensures)
+
+pub overflow_add-self-2 : goal.overflow_add-self-2
+overflow_add-self-2 c = omega (
+  arith,
+  c.requires.indexed.kept,
+  c.requires.indexed.sound.small,
+  c.room_of_held-room.ensures,
+  room_of_put c.args.identity (held c.args.self.now) c.requires.fits,
+)
+
 pub returns-clause-indexed : goal.returns-clause-indexed
 returns-clause-indexed c =
     let old = c.args.self.now in
     let at : held_at old c.args.place ≡ Some c.in-Some.old = sym c.in_ok-old.ensures.old ∙ c.in-Some.is in
     let entry = entry_within old c.requires.indexed c.args.place c.in-Some.old at in
+    let room = room_within old c.requires.indexed c.args.place c.in-Some.old at in
     IsIndexed-replaced old (record old { numbers = c.enter.new.numbers; deaths = c.enter.new.deaths }) _ c.args.place
     c.args.identity c.in-Some.old c.requires.indexed c.requires.blob at c.requires.number c.requires.fits c.requires.short c.requires.usable
     c.in_ok-old.ensures.ordered c.in_ok-old.ensures.entries
@@ -65,6 +88,7 @@ returns-clause-indexed c =
     (rw (c.addition-number.ensures, c.death.ensures) at c.in_ok-enter.ensures.deaths)
     (rw (c.addition.ensures, c.death-2.ensures) at c.leave.ensures.deaths)
     (omega (arith, entry.1, c.entry_len_of.ensures, c.entry_len_of-len.ensures))
+    (omega (arith, room.1, c.room_of_held.ensures, c.room_of_held-room.ensures))
     c.addition-number.ensures
 
 pub returns-clause-ok : goal.returns-clause-ok

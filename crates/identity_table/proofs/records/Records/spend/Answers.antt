@@ -1,6 +1,6 @@
 use Rattle.std.proofs.Common.{◌≡◌, ◌≤◌, ℕ, Option, Some, None, IfSome, sym, ap, subst, ◌∙◌, arith}
 use Rattle.std.proofs.lemmas.Bool.Decides.{nat_tests}
-use Rattle.identity_table.specs.Identities.{HeldKey, find_number, spend_identity, used}
+use Rattle.identity_table.specs.Identities.{HeldKey, find_number, spend_identity, used_by}
 use Rattle.identity_table.specs.Indices.{held, held_at, key_if, number_key}
 use Rattle.identity_table.proofs.UpdateLemmas.{none_is_not, same_some}
 use Rattle.identity_table.proofs.IndexLemmas.{number_none, there}
@@ -43,7 +43,7 @@ returns-in-Some-2-clause-spent c =
     let least : 1 ≤ c.in-Some-uses.uses =
     subst (λ (u : Option ℕ). IfSome u (λ n. 1 ≤ n)) some (usable_found one.number (held old) one c.requires.sound.uses found) in
     let is : c.in-Some-uses.uses ≡ 1 = grind (arith, nat_tests, least, c.if-uses-gt1.false) in
-    let last : used one ≡ None = none_left one (some ∙ ap (λ (n : ℕ). Some n) is) in
+    let last : used_by one.uses one ≡ None = none_left one (some ∙ ap (λ (n : ℕ). Some n) is) in
     (rw at at c.take.ensures.removed)
     ∙ spend_last c.args.number (held old) one c.requires.sound.blobs (subst (λ (n : ℕ). find_number n (held old) ≡ Some one) own found) last
 
