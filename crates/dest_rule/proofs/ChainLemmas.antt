@@ -1,13 +1,15 @@
 -- Chains as lists: the newest binding, and the binding of a session.
-use Rattle.std.proofs.Common.{◌≡◌, ℕ, zero, suc, ◌-◌, ◌<◌, Bool, true, false, List, [], ◌∷◌, length, Option, Some, None, refl, sym, ap, ◌∙◌, subst, arith, length-append, cond}
+use Rattle.std.proofs.Common.{◌≡◌, ℕ, zero, suc, ◌-◌, ◌+◌, ◌<◌, ◌≤◌, ◌&&◌, nat_lt, Bool, true, false, List, [], ◌∷◌, length, Option, Some, None, refl, sym, ap, ◌∙◌, subst, arith, length-append, cond}
 use Rattle.std.specs.Prelude.{All, IsOk, ◌≢◌, ◌↔◌}
-use Rattle.std.specs.List.{slice_get}
+use Rattle.std.specs.List.{slice_get, sum_by}
 use Rattle.std.specs.Str.{bytes_eq}
-use Rattle.std.proofs.lemmas.Bool.{ltb-true}
+use Rattle.std.proofs.lemmas.Bool.{leb-true, ltb-true}
 use Rattle.std.proofs.lemmas.Slice.Eq.{bytes_eq-Decides}
 use Rattle.std.proofs.lemmas.List.Elements.{All-append}
+use Rattle.std.proofs.lemmas.List.Sums.{sum_by_push}
+use Rattle.wire_text.specs.Bounds.{longest_body}
 use Rattle.key_blob.specs.PublicKeys.{public_key_of}
-use Rattle.dest_rule.specs.Chains.{Binding, New, Same, Refuse, ChainFull, OtherKey, SessionLength, newest, newest_after, find_session, is_open, is_session, judge_known, judge_open, judge, bound, IsChain, most_bindings}
+use Rattle.dest_rule.specs.Chains.{Binding, New, Same, Refuse, ChainFull, OtherKey, SessionLength, newest, newest_after, find_session, has_room, is_open, is_session, judge_known, judge_open, judge, bound, IsChain, most_bindings}
 
 -- the newest binding stands at the end
 newest_at : (first : Binding) (later : List Binding)
@@ -39,13 +41,13 @@ room_for_new false is = absurd cc
 
 -- the same by the binding that the session has
 known_has_room : (host_key : List ℕ) (chain : List Binding) (known : Option Binding)
-    → judge_known host_key chain known ≡ New → length chain < most_bindings
+    → judge_known host_key chain known ≡ New → has_room host_key chain ≡ true
 known_has_room host_key chain (Some known) new = absurd (known_is_not_new _ new)
-known_has_room host_key chain None new = ltb-true _ _ (room_for_new _ new)
+known_has_room host_key chain None new = room_for_new _ new
 
 -- the same by whether more may follow
 open_has_room : (open_end : Bool) (host_key session : List ℕ) (chain : List Binding)
-    → judge_open open_end host_key session chain ≡ New → length chain < most_bindings
+    → judge_open open_end host_key session chain ≡ New → has_room host_key chain ≡ true
 open_has_room true host_key session chain new =
     known_has_room host_key chain (find_session session chain) new
 open_has_room false host_key session chain new = absurd cc
@@ -53,25 +55,39 @@ open_has_room false host_key session chain new = absurd cc
 -- the same by whether the session is one
 session_has_room : (long : Bool) (host_key session : List ℕ) (chain : List Binding)
     → cond long (judge_open (is_open (newest chain)) host_key session chain) (Refuse SessionLength) ≡ New
-    → length chain < most_bindings
+    → has_room host_key chain ≡ true
 session_has_room true host_key session chain new = open_has_room _ host_key session chain new
 session_has_room false host_key session chain new = absurd cc
 
 -- a new binding has room
 pub new_has_room : (host_key session : List ℕ) (chain : List Binding)
-    → judge host_key session chain ≡ New → length chain < most_bindings
+    → judge host_key session chain ≡ New → has_room host_key chain ≡ true
 unfolding judge
 new_has_room host_key session chain new = session_has_room _ host_key session chain new
+
+-- with room there are fewer than 16, and the host keys with this one are small
+room_is : (host_key : List ℕ) (chain : List Binding) → has_room host_key chain ≡ true
+    → (length chain < most_bindings) × (length host_key + sum_by (λ one. length one.host_key) chain ≤ longest_body)
+room_is host_key chain room =
+    let both = by_tests (nat_lt (length chain) most_bindings) _ room in
+    (ltb-true _ _ both.0, leb-true _ _ both.1)
+  where
+    by_tests : (few small : Bool) → (few && small) ≡ true → (few ≡ true) × (small ≡ true)
+    by_tests true small is = (refl, is)
+    by_tests false small is = absurd cc
 
 -- a chain stays one with a new binding
 pub IsChain-bound : (chain : List Binding) (binding : Binding) → IsChain chain
     → judge binding.host_key binding.session chain ≡ New → IsOk (public_key_of binding.host_key)
     → IsChain (bound binding chain)
-IsChain-bound chain binding is new key = record {
-  few = omega (arith, new_has_room binding.host_key binding.session chain new, length-append chain (binding ∷ []));
-  keys = All-append (λ one. IsOk (public_key_of one.host_key)) chain (binding ∷ []) is.keys
-      (all_one (λ one. IsOk (public_key_of one.host_key)) binding key);
-}
+IsChain-bound chain binding is new key =
+    let room = room_is binding.host_key chain (new_has_room binding.host_key binding.session chain new) in
+    record {
+      few = omega (arith, room.0, length-append chain (binding ∷ []));
+      small = omega (arith, room.1, sum_by_push (λ (one : Binding). length one.host_key) chain binding);
+      keys = All-append (λ one. IsOk (public_key_of one.host_key)) chain (binding ∷ []) is.keys
+          (all_one (λ one. IsOk (public_key_of one.host_key)) binding key);
+    }
 
 -- a chain stays one with a new binding, whatever list it is
 pub IsChain-pushed : (chain pushed : List Binding) (binding : Binding) (host_key session : List ℕ)

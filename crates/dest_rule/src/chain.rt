@@ -1,7 +1,9 @@
 ghost use Rattle.std.specs.Prelude.{◌≡◌, ◌≤◌, true, [], length, IfOk, OnOk, OnErr, IsOk};
+ghost use Rattle.std.specs.List.{sum_by};
 ghost use Rattle.std.specs.Option.{option_copied};
+ghost use Rattle.wire_text.specs.Bounds.{longest_body};
 ghost use Rattle.key_blob.specs.PublicKeys.{public_key_of};
-ghost use Rattle.dest_rule.specs.Chains.{IsChain, New, is_session, newest, find_session, is_open, judge, bound, no_chain, most_bindings};
+ghost use Rattle.dest_rule.specs.Chains.{IsChain, New, has_room, is_session, newest, find_session, is_open, judge, bound, no_chain};
 
 use crate::binding::Binding;
 use crate::fault::{ChainFault, Next};
@@ -11,6 +13,9 @@ use std::marker::Model;
 
 /// The most bindings of a connection.
 const MOST_BINDINGS: usize = 16;
+
+/// The most bytes of all host keys of a connection's bindings.
+const MOST_KEY_BYTES: usize = 262_144;
 
 /// The longest session identifier, in bytes.
 const LONGEST_SESSION: usize = 128;
@@ -62,6 +67,26 @@ fn find_session<'a>(bindings: &'a [Binding], session: &[u8]) -> Option<&'a Bindi
         }
     }
     None
+}
+
+/// How many bytes the host keys of these have in all.
+fn host_keys_len(bindings: &[Binding]) -> usize
+    requires { sum_by (λ one. length one.host_key) bindings.now ≤ longest_body }
+    ensures { result ≡ sum_by (λ one. length one.host_key) bindings.now }
+{
+    let mut len = 0;
+    for binding in bindings {
+        len += binding.host_key.len();
+    }
+    len
+}
+
+/// Whether these have room for one more, of this host key.
+fn has_room(bindings: &[Binding], host_key: &[u8]) -> bool
+    requires { IsChain bindings.now }
+    ensures { result ≡ has_room host_key.now bindings.now }
+{
+    bindings.len() < MOST_BINDINGS && host_key.len() <= MOST_KEY_BYTES - host_keys_len(bindings)
 }
 
 /// A binding of these parts.
@@ -119,7 +144,7 @@ impl Chain {
         match find_session(bindings, session) {
             Some(known) if known.host_key.as_slice() == host_key => Next::Same,
             Some(_) => Next::Refuse(ChainFault::OtherKey),
-            None if bindings.len() < MOST_BINDINGS => Next::New,
+            None if has_room(bindings, host_key) => Next::New,
             None => Next::Refuse(ChainFault::ChainFull),
         }
     }
@@ -148,7 +173,7 @@ impl Chain {
         Ok(())
     }
 
-    /// The bindings, lent: at most 16.
+    /// The bindings, lent: at most 16, with at most 262144 bytes of host keys in all.
     pub(crate) fn bindings(&self) -> &[Binding]
         ensures value { result.now ≡ self.now.bindings }
         ensures chain { IsChain self.now.bindings }

@@ -65,7 +65,8 @@ pub fn a_login_is_to_the_newest_host()
         (login_of (5 ∷ []) (Some (key 3))) 0 ≡ Some (BadHop 1) }
 {}
 
-/// Sessions have 1 to 128 bytes, a chain has 16 bindings at most, and nothing follows a login.
+/// Sessions have 1 to 128 bytes, a chain has 16 bindings at most and 262144 bytes of host keys, and
+/// nothing follows a login.
 pub fn bindings_are_judged_in_order()
     ensures new { judge (key 2) (replicate 128 7) [] ≡ New }
     ensures long { judge (key 2) (replicate 129 7) [] ≡ Refuse SessionLength }
@@ -77,6 +78,10 @@ pub fn bindings_are_judged_in_order()
     ensures full { judge (key 2) (6 ∷ []) (replicate 16 (passing (key 2) (5 ∷ [])))
         ≡ Refuse ChainFull }
     ensures last { judge (key 2) (6 ∷ []) (replicate 15 (passing (key 2) (5 ∷ []))) ≡ New }
+    ensures heavy { judge (replicate 65 7) (6 ∷ [])
+        (replicate 15 (passing (replicate 17472 7) (5 ∷ []))) ≡ Refuse ChainFull }
+    ensures fits { judge (replicate 64 7) (6 ∷ [])
+        (replicate 15 (passing (replicate 17472 7) (5 ∷ []))) ≡ New }
 {}
 
 /// A key is visible where it can be used, or could be behind the newest host.
