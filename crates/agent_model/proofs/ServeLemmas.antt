@@ -1,10 +1,10 @@
 -- What comes of a request: it is answered, or refused, or waits for the helper, or for the user.
-use Rattle.std.proofs.Common.{◌≡◌, ℕ, List, [], ◌∷◌, refl, subst, sym, IsOk, Bool, true, false, Option, Some, None, Result, Ok, Err, nat_lt, ◌==◌}
+use Rattle.std.proofs.Common.{◌≡◌, ℕ, List, [], ◌∷◌, refl, subst, sym, IsOk, Bool, true, false, Option, Some, None, Result, Ok, Err, ◌==◌}
 use Rattle.std.specs.Str.{bytes_eq}
-use Rattle.identity_table.specs.Identities.{HeldKey, find_identity, max_answer, remove_identity}
+use Rattle.identity_table.specs.Identities.{HeldKey, find_identity, identities_with, is_full, remove_identity}
 use Rattle.agent_msg.specs.declared.fault.MsgFault.{MsgFault}
 use Rattle.agent_msg.specs.Requests.{Addition, BindRequest, ClientRequest, Signing, ListIdentities, Sign, Add, Remove, RemoveAll, Lock, Unlock, Bind, OtherExtension, Unsupported}
-use Rattle.agent_model.specs.Dispatch.{with_addition, with_identities, Asker, Served, add_by, add_fault, add_seen, add_unless, answers, bind_by, keeps, length_with, lock_by, refuses, remove_by, remove_seen, seen_by, sees, serve, serve_by, serve_locked, serve_unlocked, sign_by, sign_unless, sign_with, unlock_by, unread, uses}
+use Rattle.agent_model.specs.Dispatch.{with_addition, with_identities, Asker, Served, add_by, add_fault, add_seen, add_unless, answers, bind_by, keeps, lock_by, refuses, remove_by, remove_seen, seen_by, sees, serve, serve_by, serve_locked, serve_unlocked, sign_by, sign_unless, sign_with, unlock_by, unread, uses}
 use Rattle.agent_model.specs.Errands.{Errand, Signs, Verifies, ask_fault, put_unless, raise_fault, raise_unless}
 use Rattle.agent_msg.specs.Reading.{request_of}
 use Rattle.key_blob.specs.PublicKeys.{KeyParts, public_key_of}
@@ -144,7 +144,7 @@ module _ (read : Result ClientRequest MsgFault) (asker : Asker) (held : KeyState
     serves-seen false = denies NotVisible
     serves-seen true =
         serves-unless
-        (add_fault (nat_lt max_answer (length_with addition asker.mono held.table)) (held.table.last == last_number))
+        (add_fault (is_full (identities_with held.table addition.key addition.terms addition.comment asker.mono)) (held.table.last == last_number))
 
     serves-add : (found : Option HeldKey) → Is (add_by found asker addition held under_way)
     serves-add None = serves-seen true

@@ -2,10 +2,10 @@
 -- draft-miller-ssh-agent, "Protocol Messages"; OpenSSH's agent for what isn't served; OpenSSH's
 -- PROTOCOL.agent for the request that binds a connection. Who sees which identity, and who is
 -- asked, is ours.
-use Rattle.std.specs.Prelude.{ℕ, ◌==◌, nat_lt, Bool, true, false, List, [], ◌∷◌, map, filter, Option, Some, None, Result, Ok, Err}
+use Rattle.std.specs.Prelude.{ℕ, ◌==◌, Bool, true, false, List, [], ◌∷◌, map, filter, Option, Some, None, Result, Ok, Err}
 use Rattle.std.specs.Str.{bytes_eq}
 use Rattle.constraint_rec.specs.declared.fault.TermFault.{TermFault}
-use Rattle.identity_table.specs.Identities.{HeldKey, TableState, added, answer_len, find_identity, identities_with, max_answer, remove_identity}
+use Rattle.identity_table.specs.Identities.{HeldKey, TableState, added, find_identity, identities_with, is_full, remove_identity}
 use Rattle.agent_msg.specs.declared.fault.MsgFault.{MsgFault}
 use Rattle.agent_msg.specs.declared.fault.MsgFault.TheVariants as fault
 use Rattle.agent_msg.specs.Requests.{Addition, BindRequest, ClientRequest, Signing, ListIdentities, Sign, Add, Remove, RemoveAll, Lock, Unlock, Bind, OtherExtension, Unsupported}
@@ -88,13 +88,7 @@ sign_by (Some key) asker signing under_way = sign_unless
 abbrev pub with_addition : Addition → ℕ → TableState → TableState
 with_addition addition now table = added table addition.key addition.terms addition.comment now
 
--- the length of the list that would answer after the addition
-abbrev pub length_with : Addition → ℕ → TableState → ℕ
-length_with addition now table =
-    answer_len (identities_with table addition.key addition.terms addition.comment now)
-
--- why the table doesn't take it: one message would not list all identities, or all numbers were
--- given
+-- why the table doesn't take it: the identities would be too many, or all numbers were given
 abbrev pub add_fault : Bool → Bool → Option Cause
 add_fault true spent = Some ListFull
 add_fault false true = Some AdditionsSpent
@@ -110,8 +104,8 @@ add_unless None addition now held under_way =
 abbrev pub add_seen : Bool → Addition → ℕ → KeyState → UnderWay → Served
 add_seen false addition now held under_way = refuses NotVisible held under_way
 add_seen true addition now held under_way =
-    add_unless (add_fault (nat_lt max_answer (length_with addition now held.table))
-    (held.table.last == last_number))
+    let all = identities_with held.table addition.key addition.terms addition.comment now in
+    add_unless (add_fault (is_full all) (held.table.last == last_number))
     addition now held under_way
 
 -- an addition, by the identity that has its blob, where one is held

@@ -31,7 +31,7 @@ pub data Cause : Type 0 where
   NotHeld : Cause
   NotVisible : Cause
   DestinationDenied : (denial : Denial) → Cause
-  -- the constraints don't read, or one message couldn't list all identities
+  -- the constraints don't read, or the identities would be too many
   Constraints : (fault : TermFault) → Cause
   ListFull : Cause
   -- the lock

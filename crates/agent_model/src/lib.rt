@@ -50,7 +50,8 @@ pub use laws::{
 };
 pub use rows::{
     a_locked_agent_does_nothing, a_request_waits_for_the_reply_before, a_signature_is_waited_for,
-    additions_are_listed, limits_are_these_numbers, moments_are_taken_in, refusals_are_failures,
+    additions_are_listed, an_addition_has_room_or_is_refused, limits_are_these_numbers,
+    moments_are_taken_in, refusals_are_failures,
 };
 pub use time_rows::{
     a_clock_that_jumps_ends_waits, a_confirmation_waits_for_five_minutes, a_late_helper_is_closed,

@@ -1,9 +1,16 @@
 //! Literal rows of the table of requests: laws that are proved by computing, one a row, a cause or
 //! a limit.
-#![tactic(auto, unfolding(wire_text::specs::Frames::front, wire_text::specs::Frames::split_up_to, wire_text::specs::Frames::split, wire_text::specs::Wire::uint32, wire_text::specs::Wire::uint64, wire_text::specs::Wire::string, wire_text::specs::Wire::announced_len, wire_core::specs::Fields::uint32_at, wire_core::specs::Fields::uint64_at, wire_core::specs::Fields::string_len, wire_core::specs::Fields::string_at, key_blob::specs::AddedKeys::blob_fields_at, key_blob::specs::AddedKeys::certificate_blob_at, key_blob::specs::AddedKeys::blob_at, key_blob::specs::AddedKeys::added_key_at, key_blob::specs::AddedKeys::private_at, key_blob::specs::KeyTypes::form_named, key_blob::specs::PublicKeys::public_key_of, key_blob::specs::Reading::field_at, key_blob::specs::Reading::fields_at, key_blob::specs::Reading::after_fields, key_blob::specs::Reading::form_at, constraint_rec::specs::Constraints::restrict_destination, constraint_rec::specs::Constraints::uses_name, constraint_rec::specs::Reading::kind_at, constraint_rec::specs::Reading::contents_at, constraint_rec::specs::Reading::next_at, constraint_rec::specs::Reading::terms_up_to, constraint_rec::specs::Reading::terms_of, agent_msg::specs::Reading::request_of_number, agent_msg::specs::Reading::request_of, agent_msg::specs::Reading::is_addition, agent_msg::specs::Requests::session_bind, agent_msg::specs::Requests::bind_front, agent_msg::specs::Requests::names_bind, identity_table::specs::Identities::find_identity, identity_table::specs::Identities::put_identity, identity_table::specs::Identities::remove_identity, identity_table::specs::Identities::spend_identity, identity_table::specs::Identities::alive_at, identity_table::specs::Identities::entries_len, dest_rule::specs::Rules::visible, dest_rule::specs::Rules::denial, dest_rule::specs::Rules::bad_place, dest_rule::specs::Rules::is_hop, dest_rule::specs::Chains::judge,))]
+#![tactic(auto, unfolding(wire_text::specs::Frames::front, wire_text::specs::Frames::split_up_to, wire_text::specs::Frames::split, wire_text::specs::Wire::uint32, wire_text::specs::Wire::uint64, wire_text::specs::Wire::string, wire_text::specs::Wire::announced_len, wire_core::specs::Fields::uint32_at, wire_core::specs::Fields::uint64_at, wire_core::specs::Fields::string_len, wire_core::specs::Fields::string_at, key_blob::specs::AddedKeys::blob_fields_at, key_blob::specs::AddedKeys::certificate_blob_at, key_blob::specs::AddedKeys::blob_at, key_blob::specs::AddedKeys::added_key_at, key_blob::specs::AddedKeys::private_at, key_blob::specs::KeyTypes::form_named, key_blob::specs::PublicKeys::public_key_of, key_blob::specs::Reading::field_at, key_blob::specs::Reading::fields_at, key_blob::specs::Reading::after_fields, key_blob::specs::Reading::form_at, constraint_rec::specs::Constraints::restrict_destination, constraint_rec::specs::Constraints::uses_name, constraint_rec::specs::Reading::kind_at, constraint_rec::specs::Reading::contents_at, constraint_rec::specs::Reading::next_at, constraint_rec::specs::Reading::terms_up_to, constraint_rec::specs::Reading::terms_of, agent_msg::specs::Reading::request_of_number, agent_msg::specs::Reading::request_of, agent_msg::specs::Reading::is_addition, agent_msg::specs::Requests::session_bind, agent_msg::specs::Requests::bind_front, agent_msg::specs::Requests::names_bind, identity_table::specs::Identities::find_identity, identity_table::specs::Identities::put_identity, identity_table::specs::Identities::remove_identity, identity_table::specs::Identities::spend_identity, identity_table::specs::Identities::alive_at, identity_table::specs::Identities::entries_len, identity_table::specs::Identities::kept_len, dest_rule::specs::Rules::visible, dest_rule::specs::Rules::denial, dest_rule::specs::Rules::bad_place, dest_rule::specs::Rules::is_hop, dest_rule::specs::Chains::judge,))]
 
-ghost use Rattle.std.specs.Prelude.{◌≡◌, ℕ, List, [], ◌∷◌, ◌++◌, codes, true, false};
+ghost use Rattle.std.specs.Prelude.{◌≡◌, ◌<◌, ◌≤◌, ◌==◌, ℕ, List, [], ◌∷◌, ◌++◌, codes, true, false, None};
 ghost use Rattle.world_ports.specs.declared.Door.TheVariants.{Clients};
+ghost use Rattle.agent_msg.specs.Requests.{Add, Addition};
+ghost use Rattle.identity_table.specs.Identities.{answer_len, find_identity, identities_with, kept_len};
+ghost use Rattle.agent_model.specs.Dispatch.{Asker, Served, answers, refuses, serve_unlocked, with_addition};
+ghost use Rattle.agent_model.specs.KeyStates.{KeyState};
+ghost use Rattle.agent_model.specs.Limits.{last_number};
+ghost use Rattle.agent_model.specs.State.{UnderWay};
+ghost use Rattle.agent_model.specs.Verdicts.{ListFull, Success};
 ghost use Rattle.agent_model.specs.Events.{Heard, Joined, Took, Tick};
 ghost use Rattle.agent_model.specs.State.{client_count, owed_of, starts, wants};
 ghost use Rattle.world_ports.specs.declared.JobKind.TheVariants as kinds;
@@ -24,6 +31,26 @@ pub fn additions_are_listed()
     ensures once { replies (now (add_once 17) ∷ now list ∷ []) ≡ done ∷ listed 17 ∷ [] }
     ensures numbered { (state_after (now (add 17) ∷ now remove_all ∷ now (add 18)
         ∷ [])).held.table.last ≡ 2 }
+{}
+
+/// An addition is refused where the identities would take more than 8 MiB, and taken where they
+/// take no more and one message of 262144 bytes lists them.
+pub fn an_addition_has_room_or_is_refused()
+    ensures refused { (addition : Addition) (asker : Asker) (held : KeyState) (under_way : UnderWay)
+        → find_identity addition.key.blob held.table.identities ≡ None
+        → 8388608 < kept_len (identities_with held.table addition.key addition.terms
+        addition.comment asker.mono)
+        → serve_unlocked (Add addition) asker held under_way ≡ refuses ListFull held under_way }
+    ensures taken { (addition : Addition) (asker : Asker) (held : KeyState) (under_way : UnderWay)
+        → find_identity addition.key.blob held.table.identities ≡ None
+        → kept_len (identities_with held.table addition.key addition.terms addition.comment
+        asker.mono) ≤ 8388608
+        → answer_len (identities_with held.table addition.key addition.terms addition.comment
+        asker.mono) ≤ 262144
+        → (held.table.last == last_number) ≡ false
+        → serve_unlocked (Add addition) asker held under_way
+        ≡ answers Success (record held { table = with_addition addition asker.mono held.table })
+        under_way }
 {}
 
 /// What isn't done is answered SSH_AGENT_FAILURE.

@@ -15,7 +15,7 @@ use Rattle.constraint_rec.specs.Constraints.{restrict_destination, uses_name}
 use Rattle.constraint_rec.specs.Reading.{kind_at, contents_at, next_at, terms_up_to, terms_of}
 use Rattle.agent_msg.specs.Reading.{request_of_number, request_of, is_addition}
 use Rattle.agent_msg.specs.Requests.{session_bind, bind_front, names_bind}
-use Rattle.identity_table.specs.Identities.{find_identity, put_identity, remove_identity, spend_identity, alive_at, entries_len, find_number}
+use Rattle.identity_table.specs.Identities.{find_identity, put_identity, remove_identity, spend_identity, alive_at, entries_len, kept_len, find_number}
 use Rattle.dest_rule.specs.Rules.{visible, denial, bad_place, is_hop}
 use Rattle.dest_rule.specs.Chains.{judge}
 use Rattle.child_msg.specs.Reading.{from_child_of_kind, from_child_of}
@@ -31,7 +31,7 @@ use Rattle.agent_model.proofs.RowLemmas.{event-plain, plain_at, plain_unanswered
 use Rattle.agent_model.proofs.consent_rows.confirmations_are_bounded.Goals as goal
 
 plain-asked : (plain_at (moment_at 0) (Heard 2 (granted 1)) (plain_unanswered 255)).under_way.link.last ≡ 256
-unfolding front split_up_to split uint32 uint64 string announced_len uint32_at uint64_at string_len string_at blob_fields_at certificate_blob_at blob_at added_key_at private_at form_named public_key_of field_at fields_at after_fields form_at restrict_destination uses_name kind_at contents_at next_at terms_up_to terms_of request_of_number request_of is_addition session_bind bind_front names_bind find_identity put_identity remove_identity spend_identity alive_at entries_len find_number visible denial bad_place is_hop judge from_child_of_kind from_child_of verdict settling is_match names_at holder_at times_at signer_at certificate_at are_strings_up_to are_strings names_host_up_to is_valid after_byte after_text session_at method_named method_at after_key host_key_at auth_of all_up_to all_of key_at after_reserved hop_in as_from as_to constraint_in constraint_at rules_in consent
+unfolding front split_up_to split uint32 uint64 string announced_len uint32_at uint64_at string_len string_at blob_fields_at certificate_blob_at blob_at added_key_at private_at form_named public_key_of field_at fields_at after_fields form_at restrict_destination uses_name kind_at contents_at next_at terms_up_to terms_of request_of_number request_of is_addition session_bind bind_front names_bind find_identity put_identity remove_identity spend_identity alive_at entries_len kept_len find_number visible denial bad_place is_hop judge from_child_of_kind from_child_of verdict settling is_match names_at holder_at times_at signer_at certificate_at are_strings_up_to are_strings names_host_up_to is_valid after_byte after_text session_at method_named method_at after_key host_key_at auth_of all_up_to all_of key_at after_reserved hop_in as_from as_to constraint_in constraint_at rules_in consent
 plain-asked = search rules
 
 pub returns-clause-asked : goal.returns-clause-asked
@@ -39,7 +39,7 @@ returns-clause-asked c =
     ap (λ (s : State). s.under_way.link.last) (event-plain 255 (Heard 2 (granted 1))) ∙ plain-asked
 
 plain-unasked : owed_of 1 (plain_at (moment_at 0) (Heard 2 (granted 1)) (plain_unanswered 256)) ≡ failed
-unfolding front split_up_to split uint32 uint64 string announced_len uint32_at uint64_at string_len string_at blob_fields_at certificate_blob_at blob_at added_key_at private_at form_named public_key_of field_at fields_at after_fields form_at restrict_destination uses_name kind_at contents_at next_at terms_up_to terms_of request_of_number request_of is_addition session_bind bind_front names_bind find_identity put_identity remove_identity spend_identity alive_at entries_len find_number visible denial bad_place is_hop judge from_child_of_kind from_child_of verdict settling is_match names_at holder_at times_at signer_at certificate_at are_strings_up_to are_strings names_host_up_to is_valid after_byte after_text session_at method_named method_at after_key host_key_at auth_of all_up_to all_of key_at after_reserved hop_in as_from as_to constraint_in constraint_at rules_in consent
+unfolding front split_up_to split uint32 uint64 string announced_len uint32_at uint64_at string_len string_at blob_fields_at certificate_blob_at blob_at added_key_at private_at form_named public_key_of field_at fields_at after_fields form_at restrict_destination uses_name kind_at contents_at next_at terms_up_to terms_of request_of_number request_of is_addition session_bind bind_front names_bind find_identity put_identity remove_identity spend_identity alive_at entries_len kept_len find_number visible denial bad_place is_hop judge from_child_of_kind from_child_of verdict settling is_match names_at holder_at times_at signer_at certificate_at are_strings_up_to are_strings names_host_up_to is_valid after_byte after_text session_at method_named method_at after_key host_key_at auth_of all_up_to all_of key_at after_reserved hop_in as_from as_to constraint_in constraint_at rules_in consent
 plain-unasked = search rules
 
 pub returns-clause-unasked : goal.returns-clause-unasked
