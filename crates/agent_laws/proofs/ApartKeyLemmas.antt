@@ -5,7 +5,7 @@ use Rattle.std.specs.Str.{bytes_eq}
 use Rattle.std.proofs.lemmas.Bool.Decides.{nat_tests}
 use Rattle.std.proofs.lemmas.Slice.Eq.{bytes_eq-Decides}
 use Rattle.identity_table.specs.Deaths.{lives_at}
-use Rattle.identity_table.specs.Identities.{HaveOwnNumbers, HeldKey, alive_at, find_identity, find_number, in_front, put_identity, remove_identity, spend_identity, used, used_by}
+use Rattle.identity_table.specs.Identities.{HaveOwnNumbers, HeldKey, alive_at, find_identity, find_number, in_front, put_identity, remove_identity, spend_identity, used_by}
 use Rattle.identity_table.proofs.NumberLaws.{number_of_found}
 use Rattle.dest_rule.specs.Rules.{visible}
 use Rattle.agent_model.specs.KeyStates.{shown}
@@ -249,7 +249,7 @@ module _ (who : Insiders) where
       by_test : (test : Bool) → cond test (Some key) (find_identity blob ones) ≡ Some one
           → cond test (Some (renumbered number key)) (find_identity blob twos) ≡ Some two
           → (find_identity blob ones ≡ Some one → find_identity blob twos ≡ Some two → AreAlikeKeys who (spend_identity one.number ones) (spend_identity two.number twos))
-          → AreAlikeKeys who (cond (key.number == one.number) (in_front (used key) ones) (key ∷ spend_identity one.number ones)) (cond (number == two.number) (in_front (used (renumbered number key)) twos) (renumbered number key ∷ spend_identity two.number twos))
+          → AreAlikeKeys who (cond (key.number == one.number) (in_front (used_by key.uses key) ones) (key ∷ spend_identity one.number ones)) (cond (number == two.number) (in_front (used_by (renumbered number key).uses (renumbered number key)) twos) (renumbered number key ∷ spend_identity two.number twos))
       by_test true here here_two later =
           let e : key ≡ one = cc in
           let e_two : renumbered number key ≡ two = cc in
@@ -263,12 +263,12 @@ module _ (who : Insiders) where
   spent-alike blob open_one one two last_one last_two (first_has {ones = ones} {twos = twos} key hidden rest) own own_two is is_two =
       let there : find_identity blob ones ≡ Some one = passed (bytes_eq key.blob blob) key (find_identity blob ones) one (differs key blob hidden open_one) is in
       let differ : (key.number == one.number) ≡ false = not_first blob key ones one last_one own.1 own.2 there in
-      subst (λ b. AreAlikeKeys who (cond b (in_front (used key) ones) (key ∷ spend_identity one.number ones)) (spend_identity two.number twos)) (sym differ)
+      subst (λ b. AreAlikeKeys who (cond b (in_front (used_by key.uses key) ones) (key ∷ spend_identity one.number ones)) (spend_identity two.number twos)) (sym differ)
       (first_has key hidden (spent-alike blob open_one one two last_one last_two rest own.2 own_two there is_two))
   spent-alike blob open_one one two last_one last_two (second_has {ones = ones} {twos = twos} key hidden rest) own own_two is is_two =
       let there : find_identity blob twos ≡ Some two = passed (bytes_eq key.blob blob) key (find_identity blob twos) two (differs key blob hidden open_one) is_two in
       let differ : (key.number == two.number) ≡ false = not_first blob key twos two last_two own_two.1 own_two.2 there in
-      subst (λ b. AreAlikeKeys who (spend_identity one.number ones) (cond b (in_front (used key) twos) (key ∷ spend_identity two.number twos))) (sym differ)
+      subst (λ b. AreAlikeKeys who (spend_identity one.number ones) (cond b (in_front (used_by key.uses key) twos) (key ∷ spend_identity two.number twos))) (sym differ)
       (second_has key hidden (spent-alike blob open_one one two last_one last_two rest own own_two.2 is there))
 
   -- ---- one relation behind another

@@ -10,10 +10,10 @@ use Rattle.dest_rule.specs.declared.denial.Denial.{Denial}
 use Rattle.dest_rule.specs.declared.fault.Next.{Next as Judgement}
 use Rattle.dest_rule.specs.declared.fault.Next.TheVariants.{New, Refuse, Same}
 use Rattle.identity_table.specs.Deaths.{death_of}
-use Rattle.identity_table.specs.Identities.{HeldKey, find_identity, identity_of, max_answer}
+use Rattle.identity_table.specs.Identities.{HeldKey, find_identity, identities_with, identity_of, is_full}
 use Rattle.world_ports.specs.declared.Moment.{Moment}
 use Rattle.agent_model.specs.Actions.{Work, settles}
-use Rattle.agent_model.specs.Dispatch.{Asker, Served, add_by, add_fault, add_seen, add_unless, bind_by, keeps, length_with, lock_by, refuses, remove_by, remove_seen, sees, serve, serve_by, serve_locked, serve_unlocked, sign_by, sign_unless, sign_with, unlock_by, uses}
+use Rattle.agent_model.specs.Dispatch.{Asker, Served, add_by, add_fault, add_seen, add_unless, bind_by, keeps, lock_by, refuses, remove_by, remove_seen, sees, serve, serve_by, serve_locked, serve_unlocked, sign_by, sign_unless, sign_with, unlock_by, uses}
 use Rattle.agent_model.specs.Errands.{Errand, Signs, ask_fault, put_unless}
 use Rattle.agent_model.specs.KeyStates.{KeyState, after_use}
 use Rattle.agent_model.specs.Limits.{last_number}
@@ -207,9 +207,9 @@ module _ (who : Insiders) (moment : Moment) (port : Port) (one two : KeyState) (
     add_seen_so false = refuses-alike _ _
     add_seen_so true =
         let fault_of : Bool → Bool → Option Cause = λ full spent. add_fault full spent in
-        let full : Bool = nat_lt max_answer (length_with addition moment.mono two.table) in
+        let full : Bool = is_full (identities_with two.table addition.key addition.terms addition.comment moment.mono) in
         let spent : Bool = two.table.last == last_number in
-        let same : fault_of (nat_lt max_answer (length_with addition moment.mono one.table)) (one.table.last == last_number) ≡ fault_of full spent =
+        let same : fault_of (is_full (identities_with one.table addition.key addition.terms addition.comment moment.mono)) (one.table.last == last_number) ≡ fault_of full spent =
         ap (λ f. fault_of f (one.table.last == last_number)) no_more.room ∙ ap (fault_of full) no_more.numbers in
         subst (λ f. Alike (add_unless f addition moment.mono one under_way) (add_unless (fault_of full spent) addition moment.mono two under_way)) (sym same) (add_with (fault_of full spent))
 

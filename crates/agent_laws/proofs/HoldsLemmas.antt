@@ -5,7 +5,7 @@ use Rattle.std.specs.Str.{bytes_eq}
 use Rattle.std.proofs.lemmas.Bool.Decides.{nat_tests}
 use Rattle.std.proofs.lemmas.Slice.Eq.{bytes_eq-Decides}
 use Rattle.identity_table.specs.Deaths.{death_of, lives_at}
-use Rattle.identity_table.specs.Identities.{HaveOwnBlobs, HaveOwnNumbers, HeldKey, TableState, alive_at, find_identity, find_number, identity_of, used, used_by}
+use Rattle.identity_table.specs.Identities.{HaveOwnBlobs, HaveOwnNumbers, HeldKey, TableState, alive_at, find_identity, find_number, identity_of, used_by}
 use Rattle.identity_table.proofs.FindLemmas.{found_has, find-alive, if_alive, own_blobs-alive}
 use Rattle.identity_table.proofs.NumberLaws.{find_number-alive, number_of_found, unless_blob}
 use Rattle.identity_table.proofs.NumberLemmas.{own_numbers-alive}
@@ -216,10 +216,10 @@ left-used base (Some uses) times has = by_more (nat_lt (times + 1) uses) refl
 
 module _ (life : Option ℕ) (later : ℕ) where
   -- what is dead stays dead
-  dead_used : (key : HeldKey) → lives_at later key.death ≡ false → if_alive later (used key) ≡ None
-  dead_used key dead = by_left (used key) refl
+  dead_used : (key : HeldKey) → lives_at later key.death ≡ false → if_alive later (used_by key.uses key) ≡ None
+  dead_used key dead = by_left (used_by key.uses key) refl
     where
-      by_left : (after : Option HeldKey) → used key ≡ after → if_alive later after ≡ None
+      by_left : (after : Option HeldKey) → used_by key.uses key ≡ after → if_alive later after ≡ None
       by_left None is = refl
       by_left (Some after) is =
           ap (λ (k : HeldKey). cond (lives_at later k.death) (Some after) None) (only_uses key.uses key after is) ∙ ap (λ b. cond b (Some after) None) dead
@@ -263,7 +263,7 @@ module _ (life : Option ℕ) (later : ℕ) where
   -- what is held after one more use is told by the past
   told_again : (past : PastAddition) → is_alive life later past ≡ true
       → has_uses past.addition.terms.uses past.uses ≡ true
-      → if_alive later (used (key_of life past)) ≡ option_map (key_of life) (held_by (Some (used_again past)) life later)
+      → if_alive later (used_by (key_of life past).uses (key_of life past)) ≡ option_map (key_of life) (held_by (Some (used_again past)) life later)
   told_again past alive has =
       let base : HeldKey = identity_of past.number past.addition.key past.addition.comment (death_of past.second past.addition.terms.life life) past.addition.terms in
       ap (if_alive later) (left-used base past.addition.terms.uses past.uses has) ∙ by_more (has_uses past.addition.terms.uses (past.uses + 1))
@@ -280,7 +280,7 @@ module _ (life : Option ℕ) (later : ℕ) where
 
   used-told : (key : HeldKey) (last : Option PastAddition)
       → if_alive later (Some key) ≡ option_map (key_of life) (held_by last life later)
-      → if_alive later (used key) ≡ option_map (key_of life) (held_by (option_map used_again last) life later)
+      → if_alive later (used_by key.uses key) ≡ option_map (key_of life) (held_by (option_map used_again last) life later)
   used-told key last told = by_life (lives_at later key.death) refl told
     where
       none_held : (now : Option PastAddition) → None ≡ option_map (key_of life) now → now ≡ None
@@ -289,12 +289,12 @@ module _ (life : Option ℕ) (later : ℕ) where
 
       by_life : (lives : Bool) → lives_at later key.death ≡ lives
           → cond lives (Some key) None ≡ option_map (key_of life) (held_by last life later)
-          → if_alive later (used key) ≡ option_map (key_of life) (held_by (option_map used_again last) life later)
+          → if_alive later (used_by key.uses key) ≡ option_map (key_of life) (held_by (option_map used_again last) life later)
       by_life false dead none =
           dead_used key dead ∙ ap (option_map (key_of life)) (sym (gone_again last (none_held (held_by last life later) none)))
       by_life true lives some =
           let made = made_by last key some in
-          ap (λ k. if_alive later (used k)) (sym made.same)
+          ap (λ (k : HeldKey). if_alive later (used_by k.uses k)) (sym made.same)
           ∙ told_again made.past made.alive made.has
           ∙ ap (λ one. option_map (key_of life) (held_by (option_map used_again one) life later)) (sym made.is)
 
@@ -311,13 +311,13 @@ used-holds life second facts held blob key found holds = record {
   found = λ other later after.
       let its_number = number_of_found blob held.table.last held.table.identities key holds.numbers found in
       ap (if_alive later) (find-used other key.number key held.table.identities holds.own its_number.1
-      ∙ ap (λ b. cond (bytes_eq b other) (used key) (find_identity other held.table.identities)) (found_has blob held.table.identities key found))
+      ∙ ap (λ b. cond (bytes_eq b other) (used_by key.uses key) (find_identity other held.table.identities)) (found_has blob held.table.identities key found))
       ∙ by_test other later after (bytes_eq blob other) refl;
 }
   where
     by_test : (other : List ℕ) (later : ℕ) → second ≤ later → (same : Bool)
         → bytes_eq blob other ≡ same
-        → if_alive later (cond same (used key) (find_identity other held.table.identities)) ≡ option_map (key_of life) (held_by (cond same (option_map used_again (facts.last other)) (facts.last other)) life later)
+        → if_alive later (cond same (used_by key.uses key) (find_identity other held.table.identities)) ≡ option_map (key_of life) (held_by (cond same (option_map used_again (facts.last other)) (facts.last other)) life later)
     by_test other later after true same =
         let equal : blob ≡ other = (bytes_eq-Decides blob other).0 same in
         used-told life later key (facts.last other)

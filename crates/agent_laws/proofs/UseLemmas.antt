@@ -4,7 +4,7 @@ use Rattle.std.specs.Str.{bytes_eq}
 use Rattle.std.proofs.lemmas.Bool.{eqb-true}
 use Rattle.std.proofs.lemmas.Bool.Decides.{nat_tests}
 use Rattle.std.proofs.lemmas.Slice.Eq.{bytes_eq-Decides}
-use Rattle.identity_table.specs.Identities.{HaveOwnBlobs, HaveOwnNumbers, HeldKey, find_identity, find_number, in_front, spend_identity, used, used_by}
+use Rattle.identity_table.specs.Identities.{HaveOwnBlobs, HaveOwnNumbers, HeldKey, find_identity, find_number, in_front, spend_identity, used_by}
 use Rattle.identity_table.proofs.NumberLaws.{blob_of_numbered}
 use Rattle.identity_table.proofs.SpendLemmas.{find_number-spend, find_number-spend_other, only_uses, spend_nowhere}
 use Rattle.agent_laws.specs.Grants.{AreNoMore, IsUsed, WasHeld}
@@ -33,7 +33,7 @@ used_in_turn {one = one} {two = two} {three = three} first later = record {
     fewer (Some n) (Some m) (Some l) ab bc = omega (arith, ab, bc)
 
 -- what is left of it was it
-pub used_then : (key after : HeldKey) → used key ≡ Some after → IsUsed key after
+pub used_then : (key after : HeldKey) → used_by key.uses key ≡ Some after → IsUsed key after
 used_then key after is = record {
   same = only_uses key.uses key after is;
   left = by_uses key.uses refl is;
@@ -90,14 +90,14 @@ was_held-used used_one number last keys key own found = by_test (eqb used_one nu
 -- what a blob finds after a use: what is left of the one that was used, where it is that one's
 pub find-used : (blob : List ℕ) (number : ℕ) (one : HeldKey) (keys : List HeldKey)
     → HaveOwnBlobs keys → find_number number keys ≡ Some one
-    → find_identity blob (spend_identity number keys) ≡ cond (bytes_eq one.blob blob) (used one) (find_identity blob keys)
+    → find_identity blob (spend_identity number keys) ≡ cond (bytes_eq one.blob blob) (used_by one.uses one) (find_identity blob keys)
 unfolding find_identity find_number spend_identity HaveOwnBlobs
 find-used blob number one [] own found = absurd cc
 find-used blob number one (key ∷ keys) own found =
     by_test (eqb key.number number) found (λ there. blob_of_numbered number keys one own.1 there) (λ there. find-used blob number one keys own.1 there)
   where
     -- the first one is used
-    fronted : (after : Option HeldKey) → used key ≡ after → (same : Bool)
+    fronted : (after : Option HeldKey) → used_by key.uses key ≡ after → (same : Bool)
         → bytes_eq key.blob blob ≡ same
         → find_identity blob (in_front after keys) ≡ cond same after (cond same (Some key) (find_identity blob keys))
     fronted None is true same =
@@ -115,8 +115,8 @@ find-used blob number one (key ∷ keys) own found =
     -- or a later one, which has another blob than the first
     behind : (first own_one : Bool) → bytes_eq key.blob blob ≡ first
         → bytes_eq one.blob blob ≡ own_one → find_identity one.blob keys ≡ Some one
-        → find_identity blob (spend_identity number keys) ≡ cond own_one (used one) (find_identity blob keys)
-        → cond first (Some key) (find_identity blob (spend_identity number keys)) ≡ cond own_one (used one) (cond first (Some key) (find_identity blob keys))
+        → find_identity blob (spend_identity number keys) ≡ cond own_one (used_by one.uses one) (find_identity blob keys)
+        → cond first (Some key) (find_identity blob (spend_identity number keys)) ≡ cond own_one (used_by one.uses one) (cond first (Some key) (find_identity blob keys))
     behind true true is_first is_own there later =
         let equal : key.blob ≡ one.blob = (bytes_eq-Decides key.blob blob).0 is_first ∙ sym ((bytes_eq-Decides one.blob blob).0 is_own) in
         let none : None ≡ Some one = sym own.0 ∙ ap (λ b. find_identity b keys) equal ∙ there in
@@ -126,11 +126,11 @@ find-used blob number one (key ∷ keys) own found =
 
     by_test : (is : Bool) → cond is (Some key) (find_number number keys) ≡ Some one
         → (find_number number keys ≡ Some one → find_identity one.blob keys ≡ Some one)
-        → (find_number number keys ≡ Some one → find_identity blob (spend_identity number keys) ≡ cond (bytes_eq one.blob blob) (used one) (find_identity blob keys))
-        → find_identity blob (cond is (in_front (used key) keys) (key ∷ spend_identity number keys)) ≡ cond (bytes_eq one.blob blob) (used one) (cond (bytes_eq key.blob blob) (Some key) (find_identity blob keys))
+        → (find_number number keys ≡ Some one → find_identity blob (spend_identity number keys) ≡ cond (bytes_eq one.blob blob) (used_by one.uses one) (find_identity blob keys))
+        → find_identity blob (cond is (in_front (used_by key.uses key) keys) (key ∷ spend_identity number keys)) ≡ cond (bytes_eq one.blob blob) (used_by one.uses one) (cond (bytes_eq key.blob blob) (Some key) (find_identity blob keys))
     by_test true here there later =
         let e : key ≡ one = cc in
-        subst (λ (k : HeldKey). find_identity blob (in_front (used key) keys) ≡ cond (bytes_eq k.blob blob) (used k) (cond (bytes_eq key.blob blob) (Some key) (find_identity blob keys))) e
-        (fronted (used key) refl (bytes_eq key.blob blob) refl)
+        subst (λ (k : HeldKey). find_identity blob (in_front (used_by key.uses key) keys) ≡ cond (bytes_eq k.blob blob) (used_by k.uses k) (cond (bytes_eq key.blob blob) (Some key) (find_identity blob keys))) e
+        (fronted (used_by key.uses key) refl (bytes_eq key.blob blob) refl)
     by_test false here there later =
         behind (bytes_eq key.blob blob) (bytes_eq one.blob blob) refl refl (there here) (later here)

@@ -1,16 +1,15 @@
 -- Two runs that differ in keys that some clients never see, and in who adds and removes these
 -- (ours). `Insiders` are the clients that do so; the others are outsiders. The file is read from
 -- its end.
-use Rattle.std.specs.Prelude.{◌≡◌, ◌≢◌, ℕ, Bool, true, false, List, [], ◌∷◌, Some, Ok, nat_lt, ◌==◌}
+use Rattle.std.specs.Prelude.{◌≡◌, ◌≢◌, ℕ, Bool, true, false, List, [], ◌∷◌, Some, Ok, ◌==◌}
 use Rattle.world_ports.specs.declared.Door.TheVariants.{Clients}
 use Rattle.wire_text.specs.Frames.{Bad, Whole, front_body}
 use Rattle.agent_msg.specs.Requests.{Addition, ClientRequest, ListIdentities, Sign, Add, Remove, RemoveAll, Lock, Unlock, Bind, OtherExtension, Unsupported}
-use Rattle.identity_table.specs.Identities.{HeldKey, TableState, max_answer}
+use Rattle.identity_table.specs.Identities.{HeldKey, TableState, identities_with, is_full}
 use Rattle.dest_rule.specs.Rules.{visible}
 use Rattle.agent_model.specs.Actions.{Outcome}
 use Rattle.agent_model.specs.Binds.{agent_request_of}
 use Rattle.agent_model.specs.Children.{heard_more}
-use Rattle.agent_model.specs.Dispatch.{length_with}
 use Rattle.agent_model.specs.Events.{Happening, Timed, Joined, Heard, Ended, Took, Started, StartFailed, Tick}
 use Rattle.agent_model.specs.KeyStates.{KeyState}
 use Rattle.agent_model.specs.Limits.{last_number}
@@ -89,8 +88,8 @@ pub record SaysNoMore (who : Insiders) (addition : Addition) (now : ℕ) (one tw
     : Type 0 where
   pub shown : who.is_hidden addition.key.blob ≡ false
   pub plain : addition.terms.confirm ≡ false
-  pub room : nat_lt max_answer (length_with addition now one)
-      ≡ nat_lt max_answer (length_with addition now two)
+  pub room : is_full (identities_with one addition.key addition.terms addition.comment now)
+      ≡ is_full (identities_with two addition.key addition.terms addition.comment now)
   pub numbers : (one.last == last_number) ≡ (two.last == last_number)
 
 -- an outsider at this port sees no hidden key, and an addition that is taken of it behind a change

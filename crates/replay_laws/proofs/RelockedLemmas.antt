@@ -4,12 +4,12 @@ use Rattle.std.specs.Option.{option_map}
 use Rattle.std.specs.Str.{bytes_eq}
 use Rattle.std.proofs.lemmas.Bool.Decides.{same_from_decides}
 use Rattle.std.proofs.lemmas.Slice.Eq.{bytes_eq-Decides}
-use Rattle.identity_table.specs.Identities.{HeldKey, find_identity, max_answer}
+use Rattle.identity_table.specs.Identities.{HeldKey, find_identity, identities_with, is_full}
 use Rattle.agent_msg.specs.declared.fault.MsgFault.{MsgFault}
 use Rattle.agent_msg.specs.declared.fault.MsgFault.TheVariants as fault
 use Rattle.agent_msg.specs.Requests.{Addition, ClientRequest, ListIdentities, Sign, Add, Remove, RemoveAll, Lock, Unlock, Bind, OtherExtension, Unsupported}
 use Rattle.agent_model.specs.Actions.{Work}
-use Rattle.agent_model.specs.Dispatch.{Asker, Served, add_by, add_fault, add_seen, add_unless, answers, length_with, lock_by, refuses, remove_by, remove_seen, sees, serve, serve_by, serve_locked, serve_unlocked, sign_by, unlock_by, unread, uses}
+use Rattle.agent_model.specs.Dispatch.{Asker, Served, add_by, add_fault, add_seen, add_unless, answers, lock_by, refuses, remove_by, remove_seen, sees, serve, serve_by, serve_locked, serve_unlocked, sign_by, unlock_by, unread, uses}
 use Rattle.agent_model.specs.KeyStates.{KeyState}
 use Rattle.agent_model.specs.Limits.{last_number}
 use Rattle.agent_model.specs.State.{UnderWay}
@@ -53,7 +53,7 @@ module _ (rename : List ℕ → List ℕ) (renaming : IsRenaming rename) where
   add_seen-relocked false addition now held under_way = refl
   add_seen-relocked true addition now held under_way =
       add_unless-relocked
-      (add_fault (nat_lt max_answer (length_with addition now held.table)) (held.table.last == last_number)) addition now held under_way
+      (add_fault (is_full (identities_with held.table addition.key addition.terms addition.comment now)) (held.table.last == last_number)) addition now held under_way
 
   add_by-relocked : (found : Option HeldKey) (asker : Asker) (addition : Addition) (held : KeyState) (under_way : UnderWay)
       → add_by found asker addition (relocked rename held) under_way
