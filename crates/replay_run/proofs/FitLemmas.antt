@@ -1,5 +1,5 @@
 -- The events of a schedule may come, each in the state that it finds.
-use Rattle.std.proofs.Common.{◌≡◌, ℕ, zero, suc, ◌+◌, ◌-◌, ◌^◌, ◌<◌, ◌≤◌, ◌==◌, nat_lt, if◌then◌else◌, Bool, true, false, List, [], ◌∷◌, ◌++◌, length, refl, ap, arith, sym, subst, Option, None, Some, IsSome, Result, Ok, Err}
+use Rattle.std.proofs.Common.{◌≡◌, ℕ, zero, suc, ◌+◌, ◌-◌, ◌^◌, ◌<◌, ◌≤◌, ◌==◌, nat_lt, if◌then◌else◌, Bool, true, false, List, [], ◌∷◌, ◌++◌, length, refl, arith, sym, subst, Option, None, Some, IsSome, Result, Ok, Err}
 use Rattle.std.specs.List.{list_any}
 use Rattle.std.proofs.lemmas.Bool.Decides.{nat_tests}
 use Rattle.world_ports.specs.declared.Job.{Job}
@@ -20,8 +20,8 @@ use Rattle.schedule_text.specs.declared.step.Step.TheVariants.{Skip, Format2, At
 use Rattle.replay_run.specs.Counts.{IsCounted}
 use Rattle.replay_run.specs.Formats.{settings_by}
 use Rattle.replay_run.specs.Holding.{free_port, hold_port}
-use Rattle.replay_run.specs.Replay.{Brought, Brings, Refuses, Run, Turned, at_job, at_peer, at_port, brought_turned, comes, course, events_of, happens, last_turned, line_brings, longest_schedule, parts_of, run_of, settings_of, settles, skips, start_run, step_at, step_brings, turned, turned_by, whole_turned}
-use Rattle.replay_run.specs.Settling.{after_event, closed_at, delivered, next_to_take, takings, takings_by, takings_from}
+use Rattle.replay_run.specs.Replay.{Brought, Brings, Refuses, Run, Turned, at_job, at_peer, at_port, brought_turned, course, events_of, happens, last_turned, line_brings, longest_schedule, parts_of, run_of, settings_of, settles, skips, start_run, step_at, step_brings, turned, turned_by, whole_turned}
+use Rattle.replay_run.specs.Settling.{after_event, comes, delivered, next_to_take, takings, takings_by, takings_from}
 use Rattle.replay_run.specs.Told.{Told, Barred, Came, events_in, told_from}
 use Rattle.replay_run.proofs.BroughtLemmas.{IsCourse, schedule-course}
 use Rattle.replay_run.proofs.RunCounts.{turned-next}
@@ -58,7 +58,7 @@ told-fit line state (timed ∷ later) fit =
 
 -- ---- an event, and the settling after it
 
-run-steady : (state : State) (events : List Timed) → IsSteady state → IsSteady (run state events)
+pub run-steady : (state : State) (events : List Timed) → IsSteady state → IsSteady (run state events)
 run-steady state [] steady = steady
 run-steady state (timed ∷ later) steady =
     run-steady (step state timed.moment timed.event).state later (step_keeps-steady state timed.moment timed.event steady)
@@ -85,13 +85,10 @@ settling-fits : (moment : Moment) (held : List ℕ) (state : State) → IsSteady
 unfolding takings
 settling-fits moment held state steady = takings-fit moment held _ state steady
 
-comes-fit : (event : Happening) (before : Run) → IsSteady before.agent → Fits event before.agent
-    → AllFit before.agent (comes event before)
-comes-fit event before steady fits = (
-  fits,
-  settling-fits before.moment before.held (after_event before.moment before.agent event)
-      (step_keeps-steady before.agent before.moment event steady),
-)
+pub comes-fit : (moment : Moment) (held : List ℕ) (event : Happening) (state : State) → IsSteady state
+    → Fits event state → AllFit state (comes moment held state event)
+comes-fit moment held event state steady fits =
+    (fits, settling-fits moment held (after_event moment state event) (step_keeps-steady state moment event steady))
 
 -- ---- a line
 
@@ -100,7 +97,7 @@ abbrev IsFit : Brought → Type 0
 IsFit (Brings found events) = IsSteady found.agent × AllFit found.agent events
 IsFit (Refuses fault) = Unit {0}
 
-first-steady : (settings : Settings) → IsSteady (first_state settings)
+pub first-steady : (settings : Settings) → IsSteady (first_state settings)
 first-steady settings = record { rising = omega arith; order = omega arith }
 
 fit-if : (test : Bool) (one other : Brought) → IsFit one → IsFit other
@@ -126,7 +123,7 @@ fit-job (Some job) brought is = is refl
 
 module _ (before : Run) (steady : IsSteady before.agent) where
   happens-fit : (event : Happening) → Fits event before.agent → IsFit (happens event before)
-  happens-fit event fits = (steady, comes-fit event before steady fits)
+  happens-fit event fits = (steady, comes-fit before.moment before.held event before.agent steady fits)
 
   settles-fit : (held : List ℕ) → IsFit (settles (record before { held = held }))
   settles-fit held = (steady, settling-fits before.moment held before.agent steady)
@@ -146,7 +143,7 @@ module _ (before : Run) (steady : IsSteady before.agent) where
       fit-if (before.line == 0) (skips (record before { agent = first_state (settings_by true before.life) })) (Refuses Word)
       (first-steady (settings_by true before.life), tt) tt
   step-fits (At moment) last some =
-      (steady, comes-fit Tick (record before { moment = moment; closed = closed_at moment before.agent Tick }) steady tt)
+      (steady, comes-fit moment before.held Tick before.agent steady tt)
   step-fits (Join door) last some = happens-fit (Joined door) last
   step-fits (Hear port bytes) last some =
       fit-peer (find_port port before.agent.ports) port (happens (Heard port bytes) before) before steady (λ there. happens-fit (Heard port bytes) (there, some))

@@ -14,3 +14,5 @@ pub mod BroughtLemmas
 pub mod FitLemmas
 pub mod TallyLemmas
 pub mod DrillLemmas
+pub mod KeptLemmas
+pub mod DrillFitLemmas

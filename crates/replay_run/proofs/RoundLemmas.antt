@@ -14,8 +14,8 @@ use Rattle.replay_run.specs.Claims.{Seen, HasRead, HoldsOfInput, IsAgentOf, IsRe
 use Rattle.replay_run.specs.Finishing.{Finishes, agent_at, ending_run, ending_text}
 use Rattle.replay_run.specs.Rounds.{IsLonger, IsUnderWay}
 use Rattle.replay_run.proofs.RunLemmas.{printed-refused, ran-refused}
-use Rattle.replay_run.proofs.GoesOnLemmas.{goes_on-same, begun-nothing, begun-same}
-use Rattle.replay_run.proofs.FeedsLemmas.{feeds_by, feeds_then, feeds_halts}
+use Rattle.replay_run.proofs.GoesOnLemmas.{begun-nothing, begun-same}
+use Rattle.replay_run.proofs.FeedsLemmas.{feeds_then, feeds_halts}
 
 -- ---- claims of the input
 

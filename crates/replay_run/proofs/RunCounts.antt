@@ -1,5 +1,5 @@
 -- A line keeps what the numbers of a run say.
-use Rattle.std.proofs.Common.{◌≡◌, ℕ, suc, ◌+◌, ◌<◌, ◌≤◌, List, [], length, refl, ap, sym, ◌∙◌, arith, Option, Some, None, Bool, true, false, nat_lt, ◌==◌, if◌then◌else◌, Result, Ok, Err}
+use Rattle.std.proofs.Common.{◌≡◌, ℕ, suc, ◌+◌, ◌<◌, ◌≤◌, List, length, refl, ap, sym, ◌∙◌, arith, Option, Some, None, Bool, true, false, nat_lt, ◌==◌, if◌then◌else◌, Result, Ok, Err}
 use Rattle.std.proofs.lemmas.Bool.Decides.{nat_tests}
 use Rattle.std.specs.List.{list_any}
 use Rattle.world_ports.specs.declared.Job.{Job}
@@ -14,9 +14,9 @@ use Rattle.schedule_text.specs.declared.step.Step.{Step}
 use Rattle.schedule_text.specs.declared.step.Step.TheVariants.{Skip, Format2, At, Join, Hear, End, Hold, Free, Take, Started as StartedStep, Failed}
 use Rattle.schedule_text.specs.Lines.{step_of}
 use Rattle.replay_run.specs.Holding.{free_port, hold_port}
-use Rattle.replay_run.specs.Settling.{after_event, closed_at, settled}
+use Rattle.replay_run.specs.Settling.{after_event, closed_at, comes, settled}
 use Rattle.replay_run.specs.Formats.{settings_by}
-use Rattle.replay_run.specs.Replay.{Brought, Brings, Refuses, Run, at_job, at_peer, at_port, brought_turned, comes, happens, line_brings, longest_schedule, settles, skips, step_brings, turned, turned_by}
+use Rattle.replay_run.specs.Replay.{Brought, Brings, Refuses, Run, at_job, at_peer, at_port, brought_turned, happens, line_brings, longest_schedule, settles, skips, step_brings, turned, turned_by}
 use Rattle.replay_run.specs.Counts.{IsCounted, IsNext}
 use Rattle.replay_run.proofs.SettlingLemmas.{settled-last_port}
 
@@ -59,7 +59,7 @@ small-settled moment held state most is = omega (arith, settled-last_port moment
 
 -- an event, and the settling after it
 small-comes : (event : Happening) (run : Run)
-    → (runs.run run.agent (comes event run)).last_port ≤ suc run.agent.last_port
+    → (runs.run run.agent (comes run.moment run.held run.agent event)).last_port ≤ suc run.agent.last_port
 small-comes event run =
     small-settled run.moment run.held (after_event run.moment run.agent event) (suc run.agent.last_port)
     (omega (arith, step-last_port run.agent run.moment event, last_after-most event run.agent.last_port))

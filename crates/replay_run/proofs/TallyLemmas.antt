@@ -1,7 +1,6 @@
 -- Lemmas on what is drawn, and on the frames that are counted: requests are short, and a frame in front is found.
-use Rattle.std.proofs.Common.{◌≡◌, sym, ℕ, ◌+◌, ◌^◌, ◌==◌, ◌<◌, ◌≤◌, Bool, true, false, List, [], ◌∷◌, ◌++◌, length, take, drop, refl, ap, ◌∙◌, arith, nat_lt, if◌then◌else◌, ◌-◌, decimal, replicate, length-append, length-drop}
+use Rattle.std.proofs.Common.{◌≡◌, sym, ℕ, ◌^◌, ◌==◌, ◌<◌, ◌≤◌, Bool, true, false, List, [], ◌∷◌, ◌++◌, length, refl, ap, ◌∙◌, arith, nat_lt, if◌then◌else◌, decimal, length-append}
 use Rattle.std.proofs.lemmas.Fmt.{length-decimal-le}
-use Rattle.std.proofs.lemmas.List.{take_all}
 use Rattle.wire_text.specs.Bounds.{longest_to_child}
 use Rattle.wire_text.specs.Frames.{Whole, after_front, front, front_body, split, then_split}
 use Rattle.wire_text.proofs.SplitLemmas.{length-after_front, split-whole}

@@ -1,8 +1,7 @@
 -- The drill: what comes of the requests that a seed draws, and the line that sums it up, `summary` (ours: docs/PROTOCOL.md,
 -- "The drill"). The file is read from its end. Requests are drawn by specs/Draws.antt; each line is an event of the
--- abstract agent and a settling, as those of a schedule are (specs/Settling.antt).
-use Rattle.std.specs.Prelude.{ℕ, zero, suc, ◌+◌, ◌==◌, Bool, true, false, is_some, List, [], ◌∷◌, ◌++◌, length, replicate, count_by, Option, None, Some, Result, Ok, Err, codes, decimal}
-use Rattle.world_ports.specs.declared.Door.{Door}
+-- abstract agent and a settling, as those of a schedule are (specs/Settling.antt), and a drill is the run of its events.
+use Rattle.std.specs.Prelude.{ℕ, zero, suc, ◌+◌, ◌==◌, Bool, true, false, if◌then◌else◌, is_some, not, List, [], ◌∷◌, ◌++◌, length, replicate, take, count_by, Option, None, Some, Result, Ok, Err, codes, decimal}
 use Rattle.world_ports.specs.declared.Door.TheVariants.{Clients, Children}
 use Rattle.world_ports.specs.declared.Moment.{Moment}
 use Rattle.wire_text.specs.Bounds.{longest_to_child}
@@ -13,11 +12,32 @@ use Rattle.child_msg.specs.Messages.{Hello, Signed, Sign, ToChildMessage, Verify
 use Rattle.child_msg.specs.Reading.{to_child_of}
 use Rattle.child_msg.specs.declared.fault.ChildFault.{ChildFault}
 use Rattle.agent_core.specs.Owing.{is_client_at}
-use Rattle.agent_model.specs.Budget.{budget}
-use Rattle.agent_model.specs.Events.{Happening, Joined, Heard, Started, Tick}
-use Rattle.agent_model.specs.State.{State, find_port, find_to_start, first_state, next_owed, no_settings, owed_of, starts}
+use Rattle.agent_model.specs.Events.{Happening, Timed, Joined, Heard, Started, Took, Tick}
+use Rattle.agent_model.specs.Runs.{run}
+use Rattle.agent_model.specs.State.{Port, State, find_port, find_to_start, first_state, no_settings, owed_of, starts}
+use Rattle.agent_model.specs.Step.{step}
 use Rattle.replay_run.specs.Draws.{Draws, Asking, asking_of, draws_of}
-use Rattle.replay_run.specs.Settling.{after_event, delivered}
+use Rattle.replay_run.specs.Settling.{comes}
+
+-- ---- what ports take
+
+-- the messages that a port takes at an event, where it is one of theirs. No message of the agent has a longer body than
+-- one to a child process
+abbrev pub taken_at : (Option Port → Bool) → State → Happening → List (List ℕ)
+taken_at is_theirs state (Took port count) =
+    if is_theirs (find_port port state.ports)
+    then (split longest_to_child (take count (owed_of port state))).bodies else []
+taken_at is_theirs state other = []
+
+-- the messages that their ports take at these events, from this state on
+abbrev pub taken : (Option Port → Bool) → State → List Timed → List (List ℕ)
+taken is_theirs state [] = []
+taken is_theirs state (timed ∷ later) =
+    taken_at is_theirs state timed.event ++ taken is_theirs (step state timed.moment timed.event).state later
+
+-- the port isn't a client's
+abbrev pub is_child_at : Option Port → Bool
+is_child_at found = not (is_client_at found)
 
 -- ---- what is counted
 
@@ -28,22 +48,18 @@ pub record Tally : Type 0 where
   pub lists : ℕ
   pub signatures : ℕ
 
--- nothing was taken
-abbrev pub no_counts : Tally
-no_counts = record { successes = 0; failures = 0; lists = 0; signatures = 0 }
-
 -- the body is a message of this number
 abbrev pub has_number : ℕ → List ℕ → Bool
 has_number number [] = false
 has_number number (first ∷ bytes) = first == number
 
--- these bodies too
-abbrev pub counts_with : List (List ℕ) → Tally → Tally
-counts_with bodies counts = record {
-  successes = counts.successes + count_by (has_number 6) bodies;
-  failures = counts.failures + count_by (has_number 5) bodies;
-  lists = counts.lists + count_by (has_number 12) bodies;
-  signatures = counts.signatures + count_by (has_number 14) bodies;
+-- how many of these bodies there are of each
+abbrev pub counts_of : List (List ℕ) → Tally
+counts_of bodies = record {
+  successes = count_by (has_number 6) bodies;
+  failures = count_by (has_number 5) bodies;
+  lists = count_by (has_number 12) bodies;
+  signatures = count_by (has_number 14) bodies;
 }
 
 -- ---- what the helper is asked
@@ -62,54 +78,36 @@ last_ask (body ∷ bodies) before = last_ask bodies (ask_of (to_child_of body) b
 
 -- ---- a drill
 
--- a drill so far: the agent, what clients took, the ask that the helper hasn't answered, and the last number drawn
+-- a drill so far: its events, the ask that the helper hasn't answered, and the last number drawn
 pub record Drilled : Type 0 where
-  pub agent : State
-  pub counts : Tally
+  pub events : List Timed
   pub ask : Option ℕ
   pub number : ℕ
 
 -- before the first line
 abbrev pub start_drill : ℕ → Drilled
-start_drill seed = record {
-  agent = first_state no_settings;
-  counts = no_counts;
-  ask = None;
-  number = seed;
-}
+start_drill seed = record { events = []; ask = None; number = seed }
+
+-- the agent after the events of a drill
+abbrev pub agent_of : Drilled → State
+agent_of drill = run (first_state no_settings) drill.events
+
+-- the replies that clients took at the events of a drill
+abbrev pub replies : Drilled → List (List ℕ)
+replies drill = taken is_client_at (first_state no_settings) drill.events
 
 -- ---- a line
 
--- what a port takes is noted: replies by a client, asks by a child process. No message of the agent has a
--- longer body than one to a child process
-unfoldable pub noted : Bool → List ℕ → Drilled → Drilled
-noted true bytes drill = record drill { counts = counts_with (split longest_to_child bytes).bodies drill.counts }
-noted false bytes drill = record drill { ask = last_ask (split longest_to_child bytes).bodies drill.ask }
-
--- a port takes all that it is owed
-unfoldable pub taking : Moment → ℕ → Drilled → Drilled
-taking moment port drill =
-    record (noted (is_client_at (find_port port drill.agent.ports)) (owed_of port drill.agent) drill) {
-      agent = delivered moment port drill.agent;
-    }
-
--- one taking of the next port, where there is one, and then what follows later
-abbrev pub takings_from : Moment → (Drilled → Drilled) → Drilled → Option ℕ → Drilled
-takings_from moment later drill None = drill
-takings_from moment later drill (Some port) = later (taking moment port drill)
-
--- at most so many takings, each of the open port of the least number that is owed bytes
-abbrev pub takings_by : Moment → ℕ → Drilled → Drilled
-takings_by moment zero drill = drill
-takings_by moment (suc fuel) drill = takings_from moment (takings_by moment fuel) drill (next_owed 0 drill.agent)
-
--- takings until no port is owed bytes
-unfoldable pub drill_settled : Moment → Drilled → Drilled
-drill_settled moment drill = takings_by moment (budget drill.agent) drill
+-- these events come too: what child processes take at them may be an ask
+abbrev pub with_events : List Timed → Drilled → Drilled
+with_events events drill = record drill {
+  events = drill.events ++ events;
+  ask = last_ask (taken is_child_at (agent_of drill) events) drill.ask;
+}
 
 -- a line's event, and the settling after it
 unfoldable pub lined : Moment → Happening → Drilled → Drilled
-lined moment event drill = drill_settled moment (record drill { agent = after_event moment drill.agent event })
+lined moment event drill = with_events (comes moment [] (agent_of drill) event) drill
 
 -- the line `hear` with the frame of this body, where the port is open
 abbrev pub heard_by : Bool → Moment → ℕ → List ℕ → Drilled → Drilled
@@ -118,7 +116,8 @@ heard_by false moment port body drill = drill
 
 -- the line `hear` with the frame of this body at the port, which does nothing where that one is closed
 unfoldable pub heard : Moment → ℕ → List ℕ → Drilled → Drilled
-heard moment port body drill = heard_by (is_some (find_port port drill.agent.ports)) moment port body drill
+heard moment port body drill =
+    heard_by (is_some (find_port port (agent_of drill).ports)) moment port body drill
 
 -- ---- a round
 
@@ -139,7 +138,7 @@ helped_by false moment drill = drill
 
 -- the lines that start the helper and let it say hello, where job 1 waits to be started
 unfoldable pub helped : Moment → Drilled → Drilled
-helped moment drill = helped_by (is_some (find_to_start 1 (starts drill.agent))) moment drill
+helped moment drill = helped_by (is_some (find_to_start 1 (starts (agent_of drill)))) moment drill
 
 -- where the helper was asked, it signs with the bytes of the round
 abbrev pub signed_by : Option ℕ → Moment → ℕ → Drilled → Drilled
@@ -192,14 +191,16 @@ drilled (suc round) seed = round_of (suc round) (drilled round seed)
 abbrev pub told : List ℕ → ℕ → List ℕ
 told word number = word ++ decimal number
 
--- the line that sums up so many rounds of a seed, which left this drill
-unfoldable pub summary_of : ℕ → ℕ → Drilled → List ℕ
-summary_of rounds seed drill =
+-- the line that sums up so many rounds of a seed, by what was counted and how many identities are held
+unfoldable pub summary_of : ℕ → ℕ → Tally → ℕ → List ℕ
+summary_of rounds seed counts held =
     told (codes "drill ") rounds ++ told (codes " ") seed ++ told (codes ": requests ") rounds
-    ++ told (codes ", successes ") drill.counts.successes ++ told (codes ", failures ") drill.counts.failures
-    ++ told (codes ", lists ") drill.counts.lists ++ told (codes ", signatures ") drill.counts.signatures
-    ++ told (codes ", held ") (length drill.agent.held.table.identities) ++ codes "\n"
+    ++ told (codes ", successes ") counts.successes ++ told (codes ", failures ") counts.failures
+    ++ told (codes ", lists ") counts.lists ++ told (codes ", signatures ") counts.signatures
+    ++ told (codes ", held ") held ++ codes "\n"
 
 -- the line that sums up the drill of so many rounds from this seed
 abbrev pub summary : ℕ → ℕ → List ℕ
-summary rounds seed = summary_of rounds seed (drilled rounds seed)
+summary rounds seed =
+    let drill = drilled rounds seed in
+    summary_of rounds seed (counts_of (replies drill)) (length (agent_of drill).held.table.identities)

@@ -11,6 +11,7 @@ pub mod Drill
 pub mod DrillClaims
 -- of private functions
 pub mod Counts
+pub mod Drilling
 pub mod GoesOn
 pub mod Feeding
 pub mod Rounds

@@ -18,7 +18,7 @@ use Rattle.schedule_text.specs.Deeds.{end_line}
 use Rattle.schedule_text.specs.Lines.{step_of}
 use Rattle.replay_run.specs.Formats.{is_second, settings_by}
 use Rattle.replay_run.specs.Holding.{hold_port, free_port}
-use Rattle.replay_run.specs.Settling.{after_event, at_moment, closed_at, takings}
+use Rattle.replay_run.specs.Settling.{closed_at, comes, takings}
 use Rattle.replay_run.specs.Told.{Told, Barred, events_in, text_of, told_from}
 
 -- a run so far: for how many seconds identities live that come without a lifetime, the agent, the moment of the last
@@ -63,13 +63,8 @@ abbrev pub settles : Run → Brought
 settles run = Brings (record run { closed = [] }) (takings run.moment run.held run.agent)
 
 -- an event, and the settling after it
-abbrev pub comes : Happening → Run → List Timed
-comes event run =
-    at_moment run.moment event ∷ takings run.moment run.held (after_event run.moment run.agent event)
-
--- the event alone, and the settling after it
 abbrev pub happens : Happening → Run → Brought
-happens event run = Brings (record run { closed = [] }) (comes event run)
+happens event run = Brings (record run { closed = [] }) (comes run.moment run.held run.agent event)
 
 -- what the line of a port brings, where that one is open
 abbrev pub at_port : Option Port → Brought → Brought
@@ -95,7 +90,8 @@ step_brings Skip run = skips run
 step_brings Format2 run =
     if run.line == 0 then skips (record run { agent = first_state (settings_by true run.life) }) else Refuses Word
 step_brings (At moment) run =
-    let now = record run { moment = moment; closed = closed_at moment run.agent Tick } in Brings now (comes Tick now)
+    let now = record run { moment = moment; closed = closed_at moment run.agent Tick } in
+    Brings now (comes moment run.held run.agent Tick)
 step_brings (Join door) run = happens (Joined door) run
 step_brings (Hear port bytes) run =
     at_peer (find_port port run.agent.ports) port (happens (Heard port bytes) run) run

@@ -47,3 +47,8 @@ takings moment held state = takings_by moment held (budget state) state
 -- the state that a settling leaves
 abbrev pub settled : Moment → List ℕ → State → State
 settled moment held state = run state (takings moment held state)
+
+-- an event at a moment, and the settling after it
+abbrev pub comes : Moment → List ℕ → State → Happening → List Timed
+comes moment held state event =
+    at_moment moment event ∷ takings moment held (after_event moment state event)

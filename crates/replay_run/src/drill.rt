@@ -1,8 +1,9 @@
 //! A schedule that is made as it is run, of requests that a seed draws.
 
 ghost use Rattle.std.specs.Prelude.{◌≡◌, ◌≤◌};
-ghost use Rattle.replay_run.specs.Drill.{drilled, start_drill};
+ghost use Rattle.replay_run.specs.Drill.{agent_of, drilled, start_drill};
 ghost use Rattle.replay_run.specs.DrillClaims.{DrillEnds, left_at};
+ghost use Rattle.replay_run.specs.Drilling.{kept};
 ghost use Rattle.replay_run.specs.Finishing.{state_left};
 ghost use Rattle.world_ports.specs.Streams.{OnlyWrites};
 
@@ -21,9 +22,9 @@ use world_ports::{Sink, write_all};
 // Runs the rounds, and writes the summary.
 fn drill_to_end<O: Sink>(drill: &mut Drill, rounds: u32, seed: u64, output: &mut O) -> RunEnd
     requires few { rounds ≤ 100000 }
-    requires start { drill.old ≡ start_drill seed }
+    requires start { drill.old ≡ kept (start_drill seed) }
     ensures ends { DrillEnds rounds seed result (O.seen output.old) (O.seen output.new) }
-    ensures agent { left_at result drill.new.agent ≡ left_at result (drilled rounds seed).agent }
+    ensures agent { left_at result drill.new.agent ≡ left_at result (agent_of (drilled rounds seed)) }
     ensures output_only { OnlyWrites (O.seen output.old) (O.seen output.new) }
 {
     let Ok(text) = drill.run_to_summary(rounds, seed) else {
@@ -48,7 +49,7 @@ pub fn run_drill<O: Sink>(
 ) -> (RunEnd, Option<Agent>)
     requires { rounds ≤ 100000 }
     ensures ends { DrillEnds rounds seed result.0 (O.seen output.old) (O.seen output.new) }
-    ensures agent { state_left result.1 ≡ left_at result.0 (drilled rounds seed).agent }
+    ensures agent { state_left result.1 ≡ left_at result.0 (agent_of (drilled rounds seed)) }
     ensures output_only { OnlyWrites (O.seen output.old) (O.seen output.new) }
 {
     let mut drill = Drill::new(alloc, seed);

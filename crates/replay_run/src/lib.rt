@@ -19,7 +19,7 @@ mod watch;
 pub use drill::run_drill;
 use feed::Feed;
 pub use held::Held;
-pub use lawful::a_schedule_is_lawful;
+pub use lawful::{a_drill_is_lawful, a_schedule_is_lawful};
 pub use laws::{a_moment_without_limits_closes_nothing, nothing_is_owed_after_settling};
 pub use limits::{ASK_LIMIT, CONFIRM_LIMIT, LONGEST_SCHEDULE};
 pub use replay::Replay;

@@ -4,7 +4,8 @@ ghost use Rattle.std.specs.Prelude.{◌≡◌, ◌+◌, ◌∷◌, ◌<◌, [], 
 ghost use Rattle.wire_text.specs.Bounds.{longest_to_child};
 ghost use Rattle.wire_text.specs.Frames.{split, then_split, unsplit};
 ghost use Rattle.child_msg.specs.Reading.{to_child_of};
-ghost use Rattle.replay_run.specs.Drill.{ask_of, counts_with, last_ask, no_counts};
+ghost use Rattle.replay_run.specs.Drill.{ask_of, last_ask};
+ghost use Rattle.replay_run.specs.Drilling.{counts_with, no_counts};
 
 use child_msg::{LONGEST_TO_CHILD, ToChild, read_to_child};
 use frame_core::{Front, first};

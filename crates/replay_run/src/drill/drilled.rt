@@ -1,16 +1,18 @@
 //! A drill: requests that are drawn, and an agent that takes them.
 
-ghost use Rattle.std.specs.Prelude.{◌≡◌, ◌↔◌, ◌+◌, ◌-◌, ◌<◌, ◌≤◌, ◌^◌, IfOk, IsSome, IsTrue, OnOk, is_some, length};
+ghost use Rattle.std.specs.Prelude.{◌≡◌, ◌↔◌, ◌+◌, ◌-◌, ◌∷◌, ◌<◌, ◌≤◌, ◌^◌, [], IfOk, IsSome, IsTrue, OnOk, is_some, length};
 ghost use Rattle.agent_core.specs.Happenings.{happening};
 ghost use Rattle.agent_core.specs.Owing.{is_client_at};
+ghost use Rattle.agent_model.specs.Events.{Took};
+ghost use Rattle.agent_model.specs.Runs.{last_after};
 ghost use Rattle.agent_model.specs.Sound.{IsSteady};
 ghost use Rattle.agent_model.specs.State.{Fits, find_port, find_to_start, next_owed, owed_of, starts};
 ghost use Rattle.replay_run.specs.Draws.{draws_of};
-ghost use Rattle.replay_run.specs.Drill.{drawn_asking, drill_settled, drilled, heard, helped, joined, lined, noted};
-ghost use Rattle.replay_run.specs.Drill.{round_of, signed, start_drill, summary_of, taking};
+ghost use Rattle.replay_run.specs.Drill.{drawn_asking, drilled, heard, helped, joined, lined, round_of, signed, start_drill, summary, summary_of};
 ghost use Rattle.replay_run.specs.DrillClaims.{left_at};
+ghost use Rattle.replay_run.specs.Drilling.{Keeps, TakesNothing, kept, kept_after, noted};
 ghost use Rattle.replay_run.specs.Finishing.{state_left};
-ghost use Rattle.replay_run.specs.Settling.{after_event};
+ghost use Rattle.replay_run.specs.Settling.{after_event, at_moment, takings};
 
 use crate::RunEnd;
 use crate::drill::asking::{put_asking, put_hello, put_signed};
@@ -45,9 +47,9 @@ pub struct Drill {
 }
 
 impl Model for Drill {
-    ghost use Rattle.replay_run.specs.Drill.{Drilled};
+    ghost use Rattle.replay_run.specs.Drilling.{Kept};
 
-    ghost Value = { Drilled };
+    ghost Value = { Kept };
 
     ghost view = { λ d. record {
       agent = d.agent.state;
@@ -59,7 +61,7 @@ impl Model for Drill {
 
 impl Drill {
     pub fn new(alloc: Global, seed: u64) -> Self
-        ensures { result ≡ start_drill seed }
+        ensures { result ≡ kept (start_drill seed) }
     {
         let settings = Settings {
             default_life: None,
@@ -104,7 +106,7 @@ impl Drill {
     }
 
     // Notes what a port is about to take: replies of a client, asks of a child process.
-    #[tactic(auto, unfolding(crate::specs::Drill::noted))]
+    #[tactic(auto, unfolding(crate::specs::Drilling::noted))]
     fn note(&mut self, port: u64) -> Result<(), AllocError>
         ensures noted { OnOk result
             (self.new ≡ noted (is_client_at (find_port port self.old.agent.ports))
@@ -132,7 +134,8 @@ impl Drill {
     // The port takes all that it is owed.
     fn take(&mut self, moment: Moment, port: u64) -> Result<(), AllocError>
         requires { 0 < length (owed_of port self.old.agent) }
-        ensures { OnOk result (self.new ≡ taking moment port self.old) }
+        ensures { OnOk result (self.new ≡ kept_after
+            (at_moment moment (Took port (length (owed_of port self.old.agent))) ∷ []) self.old) }
     {
         let count = self.owed_len(port);
         self.note(port)?;
@@ -142,7 +145,7 @@ impl Drill {
 
     // Every port takes what it is owed, the least number first.
     fn settle(&mut self, moment: Moment) -> Result<(), AllocError>
-        ensures { OnOk result (self.new ≡ drill_settled moment self.old) }
+        ensures { OnOk result (self.new ≡ kept_after (takings moment [] self.old.agent) self.old) }
     {
         'takings: while let Some(port) = self.next_owed() {
             self.take(moment, port)?;
@@ -151,10 +154,12 @@ impl Drill {
     }
 
     // A line's event, and the settling after it.
-    #[tactic(auto, unfolding(crate::specs::Drill::lined))]
     fn line(&mut self, moment: Moment, event: &Event<'_>) -> Result<(), AllocError>
-        requires { Fits (happening event.now) self.old.agent }
-        ensures { OnOk result (self.new ≡ lined moment (happening event.now) self.old) }
+        requires fits { Fits (happening event.now) self.old.agent }
+        requires quiet { TakesNothing (happening event.now) }
+        ensures line { OnOk result (Keeps (lined moment (happening event.now)) self.old self.new) }
+        ensures ports { OnOk result
+            (self.new.agent.last_port ≡ last_after (happening event.now) self.old.agent.last_port) }
     {
         self.step(moment, event)?;
         self.settle(moment)?;
@@ -164,7 +169,8 @@ impl Drill {
     // The frame of this body comes from a port, where that is open.
     fn hear(&mut self, moment: Moment, port: u64, body: &[u8]) -> Result<(), AllocError>
         requires { length body.now < 2 ^ 32 }
-        ensures { OnOk result (self.new ≡ heard moment port body.now self.old) }
+        ensures heard { OnOk result (Keeps (heard moment port body.now) self.old self.new) }
+        ensures ports { OnOk result (self.new.agent.last_port ≡ self.old.agent.last_port) }
     {
         if !self.is_open(port) {
             return Ok(());
@@ -179,7 +185,7 @@ impl Drill {
     // The helper is started, joins and says hello, where the agent wants one.
     fn help(&mut self, moment: Moment) -> Result<(), AllocError>
         requires { self.old.agent.last_port < 2 ^ 64 - 1 }
-        ensures { OnOk result (self.new ≡ helped moment self.old) }
+        ensures { OnOk result (Keeps (helped moment) self.old self.new) }
     {
         if !self.wants_helper() {
             return Ok(());
@@ -197,9 +203,8 @@ impl Drill {
     }
 
     // The helper signs, where it was asked.
-    #[tactic(auto, unfolding(crate::specs::Drill::signed))]
     fn sign(&mut self, moment: Moment, round: u64) -> Result<(), AllocError>
-        ensures { OnOk result (self.new ≡ signed moment round self.old) }
+        ensures { OnOk result (Keeps (signed moment round) self.old self.new) }
     {
         let Some(ask) = self.ask.take() else {
             return Ok(());
@@ -235,7 +240,7 @@ impl Drill {
     // A client asks for something, and all that comes of it happens.
     fn round(&mut self, round: u64) -> Result<(), AllocError>
         requires { self.old.agent.last_port < 2 ^ 64 - 1 }
-        ensures { OnOk result (self.new ≡ round_of round self.old) }
+        ensures { OnOk result (Keeps (round_of round) self.old self.new) }
     {
         let moment = Moment {
             mono: round,
@@ -252,8 +257,8 @@ impl Drill {
     // The clients join, and so many rounds follow.
     fn run(&mut self, rounds: u32) -> Result<(), AllocError>
         requires few { rounds ≤ 100000 }
-        requires start { self.old ≡ start_drill self.old.number }
-        ensures { OnOk result (self.new ≡ drilled rounds self.old.number) }
+        requires start { self.old ≡ kept (start_drill self.old.number) }
+        ensures { OnOk result (self.new ≡ kept (drilled rounds self.old.number)) }
     {
         self.join_clients()?;
         'rounds: for round in 0..rounds {
@@ -263,8 +268,8 @@ impl Drill {
     }
 
     fn join_clients(&mut self) -> Result<(), AllocError>
-        requires { self.old ≡ start_drill self.old.number }
-        ensures { OnOk result (self.new ≡ joined 8 self.old) }
+        requires { self.old ≡ kept (start_drill self.old.number) }
+        ensures { OnOk result (self.new ≡ kept (joined 8 (start_drill self.old.number))) }
     {
         let start = Moment { mono: 0, wall: 0 };
         'clients: for _client in 0..CLIENTS {
@@ -276,7 +281,8 @@ impl Drill {
     // The line that sums up these rounds.
     #[tactic(auto, unfolding(crate::specs::Drill::summary_of))]
     fn summary(&self, rounds: u32, seed: u64) -> Result<Vec<u8>, AllocError>
-        ensures { IfOk result (λ text. text.items ≡ summary_of rounds seed self.now) }
+        ensures { IfOk result (λ text. text.items ≡ summary_of rounds seed self.now.counts
+            (length self.now.agent.held.table.identities)) }
     {
         let mut text = Vec::new(self.alloc);
         put_told(&mut text, b"drill ", u64::from(rounds))?;
@@ -294,9 +300,9 @@ impl Drill {
     /// Runs so many rounds of this seed, and sums them up.
     pub fn run_to_summary(&mut self, rounds: u32, seed: u64) -> Result<Vec<u8>, AllocError>
         requires few { rounds ≤ 100000 }
-        requires start { self.old ≡ start_drill seed }
-        ensures run { OnOk result (self.new ≡ drilled rounds seed) }
-        ensures text { IfOk result (λ text. text.items ≡ summary_of rounds seed self.new) }
+        requires start { self.old ≡ kept (start_drill seed) }
+        ensures run { OnOk result (self.new ≡ kept (drilled rounds seed)) }
+        ensures text { IfOk result (λ text. text.items ≡ summary rounds seed) }
     {
         self.run(rounds)?;
         Ok(self.summary(rounds, seed)?)

@@ -1,4 +1,3 @@
-use Rattle.replay_run.specs.Claims.{Seen}
 use Rattle.replay_run.proofs.RoundLemmas.{ends-start, hands-start}
 use Rattle.replay_run.proofs.run.run_replay.Goals as goal
 

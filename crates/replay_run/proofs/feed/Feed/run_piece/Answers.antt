@@ -1,4 +1,4 @@
-use Rattle.std.proofs.Common.{◌+◌, ◌-◌, ◌∙◌, length, take, drop, arith, [], refl}
+use Rattle.std.proofs.Common.{◌+◌, ◌-◌, length, take, drop, arith, [], refl}
 use Rattle.world_ports.proofs.StreamLemmas.{OnlyWrites-trans}
 use Rattle.replay_run.proofs.FeedsLemmas.{piece_halts, piece_fed, last_fed, line_cut, feeds_same}
 use Rattle.replay_run.proofs.feed.Feed.run_piece.Goals as goal

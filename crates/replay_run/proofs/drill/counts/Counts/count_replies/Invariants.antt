@@ -1,7 +1,7 @@
 use Rattle.std.proofs.Common.{◌≡◌, length}
 use Rattle.wire_text.specs.Bounds.{longest_to_child}
 use Rattle.wire_text.specs.Frames.{split}
-use Rattle.replay_run.specs.Drill.{counts_with}
+use Rattle.replay_run.specs.Drilling.{counts_with}
 use Rattle.replay_run.proofs.drill.counts.Counts.count_replies.Given as goal
 
 -- what is counted, and the replies that are left, are all replies

@@ -1,5 +1,5 @@
 use Rattle.std.proofs.Common.{◌∙◌}
-use Rattle.replay_run.proofs.DrillLemmas.{taking_by}
+use Rattle.replay_run.proofs.KeptLemmas.{taking_by}
 use Rattle.replay_run.proofs.drill.drilled.Drill.take.Goals as goal
 
 pub returns : goal.returns
