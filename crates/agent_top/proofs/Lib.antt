@@ -1,3 +1,4 @@
+pub mod LawfulRunLemmas
 pub mod ProgramLemmas
 pub mod ServeLemmas
 pub mod RecordLemmas

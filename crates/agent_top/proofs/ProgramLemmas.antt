@@ -4,14 +4,14 @@ use Rattle.std.specs.Io.KnownBytes.{Consumes}
 use Rattle.schedule_text.specs.declared.fault.LineFault.{LineFault}
 use Rattle.replay_run.specs.declared.run_end.RunEnd.{RunEnd}
 use Rattle.replay_run.specs.declared.run_end.RunEnd.TheVariants.{Done, Refused, Memory, ReadFault, WriteFault}
-use Rattle.agent_laws.proofs.AnsweredLemmas.{first-answered}
-use Rattle.agent_laws.proofs.HistoryLemmas.{first-puts}
 use Rattle.replay_run.specs.Replay.{events_of, run_of, settings_of}
 use Rattle.replay_run.specs.Claims.{Seen, IsRefused, Ends}
 use Rattle.replay_run.proofs.RoundLemmas.{some_of}
-use Rattle.replay_run.proofs.BroughtLemmas.{run-schedule, schedule-lawful}
+use Rattle.replay_run.proofs.BroughtLemmas.{run-schedule}
 use Rattle.replay_run.proofs.FitLemmas.{schedule-fits}
-use Rattle.agent_top.specs.Program.{status_of, ReplaysExactly, IsComplete, IsFinished, IsLawfulRun, HasNoFault, Completes, RunsLawfully}
+use Rattle.agent_top.specs.Program.{status_of, ReplaysExactly, IsComplete, IsFinished, HasNoFault, Completes, RunsLawfully}
+use Rattle.agent_top.specs.LawfulRun.{IsFitRun}
+use Rattle.agent_top.proofs.LawfulRunLemmas.{lawful_run}
 
 -- each end says what its status says
 pub replays_by : (life : Option ℕ) (end : RunEnd) (old new : Seen) → Ends life end old new
@@ -65,17 +65,18 @@ completes_by life end old new ends = record {
 
 -- ---- the law of history
 
-lawful_run : (life : Option ℕ) (text : List ℕ) → IsLawfulRun life text
-lawful_run life text = record {
-  agent = run-schedule life text;
+-- the run of any schedule is lawful
+abbrev RunsByLaw : Option ℕ → List ℕ → Type 0
+RunsByLaw life text = IsFitRun (settings_of life text) (events_of life text) (run_of life text).agent
+
+schedule-runs : (life : Option ℕ) (text : List ℕ) → RunsByLaw life text
+schedule-runs life text = record {
   fit = schedule-fits life text;
-  lawful = schedule-lawful life text;
-  answered = first-answered (settings_of life text) (events_of life text);
-  put = first-puts (settings_of life text) (events_of life text);
+  lawful = lawful_run (settings_of life text) (events_of life text) (run_of life text).agent (run-schedule life text);
 }
 
 pub lawful_by : (life : Option ℕ) (old new : Seen) → RunsLawfully life old new
 lawful_by life old new = λ bytes read. record {
-  read = lawful_run life bytes;
-  whole = some_of new.input.left (λ rest. IsLawfulRun life (bytes ++ rest)) (λ rest. lawful_run life (bytes ++ rest));
+  read = schedule-runs life bytes;
+  whole = some_of new.input.left (λ rest. RunsByLaw life (bytes ++ rest)) (λ rest. schedule-runs life (bytes ++ rest));
 }

@@ -16,7 +16,7 @@ use Rattle.loop_model.proofs.FairnessLemmas.{served_between}
 use Rattle.loop_model.proofs.QuietLemmas.{quiet_taken}
 use Rattle.ready_loop.specs.Serving.{Setting, Stage, Unbound, HalfBound, Running, Refused, after_bind, begun, bound, children_path, gone_on, may_come, ran, running_if, stage_if}
 use Rattle.ready_loop.proofs.ServingLemmas.{ran-append}
-use Rattle.agent_top.specs.ServeFair.{IsFair, ServeTwice, ServesFairly}
+use Rattle.agent_top.specs.ServeFair.{IsFair, ServesFairly}
 
 -- ---- one part after another
 

@@ -1,23 +1,21 @@
 -- The calls of a loop lead to the state of the events that they bring, and the law of history holds of these.
-use Rattle.std.proofs.Common.{◌≡◌, ◌∙◌, ℕ, List, [], ◌∷◌, ◌++◌, ap, refl, subst, sym, Option, Some, None, IfSome, Bool, true, false, Result, Ok, Err, ◌&&◌, option_and_then, option_map}
+use Rattle.std.proofs.Common.{◌≡◌, ◌∙◌, ℕ, List, [], ◌∷◌, ◌++◌, ap, refl, sym, Option, Some, None, IfSome, Bool, true, false, Result, Ok, Err, ◌&&◌, option_and_then, option_map}
 use Rattle.std.specs.Str.{bytes_eq}
 use Rattle.world_ports.specs.declared.answers.WorldFault.{WorldFault}
 use Rattle.world_ports.specs.declared.entry.Entry.{Entry}
 use Rattle.world_ports.specs.declared.entry.Entry.TheVariants as entry
 use Rattle.world_ports.specs.declared.events.Door.{Door}
 use Rattle.world_ports.specs.declared.events.Door.TheVariants.{Clients, Children}
-use Rattle.agent_laws.proofs.AnsweredLemmas.{first-answered}
-use Rattle.agent_laws.proofs.HistoryLemmas.{first-lawful, first-puts}
-use Rattle.agent_laws.specs.History.{HasNumbers}
 use Rattle.agent_model.specs.Events.{Timed}
 use Rattle.agent_model.specs.Runs.{run}
 use Rattle.agent_model.specs.State.{State, first_state}
-use Rattle.agent_model.specs.Step.{step}
 use Rattle.loop_model.specs.LegalJournal.{LoopState, after_if, comes_next, events_brought}
 use Rattle.loop_model.specs.Things.{same_door}
 use Rattle.ready_loop.specs.Serving.{Setting, Stage, Unbound, HalfBound, Running, Refused, after_bind, begun, bound, children_path, gone_on, may_come, ran, running_if, stage_if}
 use Rattle.agent_top.specs.Words.{served_with}
-use Rattle.agent_top.specs.ServeLaw.{IsLawfulServing, ServesLawfully, agent_at, call_events, calls_events, later_events}
+use Rattle.agent_top.specs.ServeLaw.{ServesLawfully, agent_at, call_events, calls_events, later_events}
+use Rattle.agent_top.proofs.LawfulRunLemmas.{lawful_run}
+use Rattle.replay_run.proofs.DrillLemmas.{run-append}
 
 -- ---- which stage leads where
 
@@ -66,13 +64,6 @@ stage-leads setting Refused next = tt
 
 -- ---- all calls
 
--- events after events
-run-append : (state : State) (some more : List Timed)
-    → run state (some ++ more) ≡ run (run state some) more
-run-append state [] more = refl
-run-append state (timed ∷ some) more =
-    run-append (step state timed.moment timed.event).state some more
-
 same_stage : {one other : Stage} → Some one ≡ Some other → other ≡ one
 same_stage same = cc
 
@@ -101,11 +92,6 @@ calls-run setting stage to (next ∷ later) legal =
 pub serves_lawfully : (life : Option ℕ) (setting : Setting) (old new : Option (List Entry))
     → setting.state ≡ first_state (served_with life) → ServesLawfully life setting old new
 serves_lawfully life setting old new first = λ calls to told legal.
-    let same : agent_at setting to ≡ run (first_state (served_with life)) (calls_events setting Unbound calls) =
-    calls-run setting Unbound to calls legal ∙ ap (λ (state : State). run state (calls_events setting Unbound calls)) first in
-    record {
-      agent = same;
-      lawful = λ numbers. first-lawful (served_with life) (calls_events setting Unbound calls) (subst HasNumbers same numbers);
-      answered = first-answered (served_with life) (calls_events setting Unbound calls);
-      put = first-puts (served_with life) (calls_events setting Unbound calls);
-    }
+    let events = calls_events setting Unbound calls in
+    lawful_run (served_with life) events (agent_at setting to)
+    (calls-run setting Unbound to calls legal ∙ ap (λ (state : State). run state events) first)

@@ -7,7 +7,7 @@ use Rattle.std.proofs.lemmas.Slice.Eq.{bytes_eq-Decides}
 use Rattle.world_ports.specs.declared.entry.Entry.{Entry}
 use Rattle.world_ports.specs.Journal.{Grows}
 use Rattle.agent_model.specs.State.{State, first_state}
-use Rattle.serve_words.specs.Serve.{begins, is_set, is_usage, life_in, value_of}
+use Rattle.serve_words.specs.Serve.{begins, is_set, life_in, value_of}
 use Rattle.ready_loop.specs.Serving.{RunsOut, Serves, Setting, Unbound}
 use Rattle.ready_loop.specs.declared.outcome.ServeEnd.{ServeEnd}
 use Rattle.ready_loop.specs.declared.outcome.ServeEnd.TheVariants as ends

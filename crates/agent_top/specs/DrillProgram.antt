@@ -1,12 +1,13 @@
--- What the end of the program says of the output of a drill (ours): `DrillsExactly`, a line a status. The summary is that
--- of replay_run, specs/Drill.antt.
-use Rattle.std.specs.Prelude.{ℕ}
+-- What the end of the program says of the output of a drill (ours): `DrillsExactly`, a line a status, and `DrillsLawfully` of
+-- its events. The summary and the events are those of replay_run, specs/Drill.antt.
 use Rattle.world_ports.specs.Causes.{Rose}
 use Rattle.world_ports.specs.Streams.{StreamView, WritesPart}
 use Rattle.agent_top.specs.declared.status.Status.{Status}
 use Rattle.agent_top.specs.declared.status.Status.TheVariants as status
+use Rattle.agent_top.specs.LawfulRun.{IsFitRun}
 use Rattle.agent_top.specs.Words.{Drilling}
-use Rattle.replay_run.specs.Drill.{summary}
+use Rattle.agent_model.specs.State.{no_settings}
+use Rattle.replay_run.specs.Drill.{agent_of, drilled, summary}
 use Rattle.replay_run.specs.DrillClaims.{DrillEndsAtWriteFault}
 use Rattle.replay_run.specs.Feeding.{Wrote}
 
@@ -38,3 +39,8 @@ IsDrilled other = ⊥
 -- where no write failed, it was
 abbrev pub DrillCompletes : Status → StreamView → StreamView → Type 0
 DrillCompletes result old new = ¬ (Rose old.write_faults new.write_faults) → IsDrilled result
+
+-- the drill that is summed up is the run of the events which its lines and their settlings bring
+abbrev pub DrillsLawfully : Drilling → Type 0
+DrillsLawfully asked =
+    let drill = drilled asked.rounds asked.seed in IsFitRun no_settings drill.events (agent_of drill)

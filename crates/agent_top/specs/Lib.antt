@@ -1,4 +1,5 @@
 pub mod Words
+pub mod LawfulRun
 pub mod Program
 pub mod DrillProgram
 pub mod ServeProgram

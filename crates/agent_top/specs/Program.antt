@@ -4,18 +4,13 @@
 --   replay_run, specs/Replay.antt: the events that each line brings, and the run that they lead to
 --   replay_run, specs/Settling.antt: what ports take after each line
 --   replay_run, specs/Told.antt: what is printed of each event
---   agent_laws, specs/History.antt from `IsLawful`, Dues.antt, Past.antt: which signature is put to the helper, by what was
---   done before; specs/Answered.antt: who is answered; specs/Puts.antt: by which message it is put
+--   specs/LawfulRun.antt: the laws of its run
 --   schedule_text, specs/Lines.antt and Deeds.antt: the lines that are read, and those that are printed
 --   agent_model, specs/Step.antt: one step of the abstract agent
 --   agent_model, specs/Dispatch.antt: the table of requests
-use Rattle.std.specs.Prelude.{◌≡◌, ℕ, List, [], Option, None, IfSome}
+use Rattle.std.specs.Prelude.{◌≡◌, ℕ, List, Option, None, IfSome}
 use Rattle.world_ports.specs.Causes.{Rose}
-use Rattle.agent_laws.specs.Answered.{IsAnswered}
-use Rattle.agent_laws.specs.History.{HasNumbers, IsLawful}
-use Rattle.agent_laws.specs.Puts.{IsPutAsAsked}
-use Rattle.agent_model.specs.Runs.{AllFit, history, run}
-use Rattle.agent_model.specs.State.{first_state}
+use Rattle.agent_top.specs.LawfulRun.{IsFitRun}
 use Rattle.agent_top.specs.declared.status.Status.{Status}
 use Rattle.agent_top.specs.declared.status.Status.TheVariants as status
 use Rattle.replay_run.specs.declared.run_end.RunEnd.{RunEnd}
@@ -80,23 +75,11 @@ pub record Completes (life : Option ℕ) (result : Status) (old new : Seen) : Ty
   pub finished : HasNoFault old new →
       IfSome old.input.left (λ input. (run_of life input).refused ≡ None → IsFinished result)
 
--- the run of a schedule is that of the events which its lines and their settlings bring, each of which may come in the state
--- that it finds; and while neither the numbers of asks nor those of jobs are spent, a signature is put to the helper in it
--- exactly where what was done before says so; and whoever waits for the helper gets its first answer to the own request, or
--- is told that the helper was lost; and the messages that are put to the helper, and appended to what it is owed, are those
--- of what was asked for
-pub record IsLawfulRun (life : Option ℕ) (text : List ℕ) : Type 0 where
-  pub agent : (run_of life text).agent ≡ run (first_state (settings_of life text)) (events_of life text)
-  pub fit : AllFit (first_state (settings_of life text)) (events_of life text)
-  pub lawful : HasNumbers (run_of life text).agent
-      → IsLawful life [] (history (first_state (settings_of life text)) (events_of life text))
-  pub answered : IsAnswered (first_state (settings_of life text)) (events_of life text)
-  pub put : IsPutAsAsked (first_state (settings_of life text)) (events_of life text)
-
--- the run of what was read is such a run, and that of the whole input, where that is told
+-- the run of what was read is that of the events which its lines and their settlings bring, and so is that of the whole
+-- input, where that is told
 abbrev pub RunsLawfully : Option ℕ → Seen → Seen → Type 0
-RunsLawfully life old new =
-    (bytes : List ℕ) → HasRead old new bytes → HoldsOfInput new.input.left bytes (IsLawfulRun life)
+RunsLawfully life old new = (bytes : List ℕ) → HasRead old new bytes → HoldsOfInput new.input.left bytes
+    (λ text. IsFitRun (settings_of life text) (events_of life text) (run_of life text).agent)
 
 -- the exit status
 abbrev pub code_of : Status → ℕ

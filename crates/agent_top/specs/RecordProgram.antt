@@ -2,7 +2,7 @@
 -- end:
 --   record_world, specs/Recording.antt: the lines of each call, and when they are written
 --   redact_core, specs/Redaction.antt: a message without its secrets
-use Rattle.std.specs.Prelude.{◌≡◌, Bool, true, false, ℕ, List, Option, Some, None}
+use Rattle.std.specs.Prelude.{◌≡◌, ℕ, List, Option, Some, None}
 use Rattle.std.specs.Io.KnownBytes.{Appends}
 use Rattle.world_ports.specs.Causes.{Rose}
 use Rattle.world_ports.specs.Journal.{Grows}

@@ -1,7 +1,7 @@
 //! The program over any input, output and world.
 
 ghost use Rattle.std.specs.Prelude.{◌≡◌, ◌⊎◌, ℕ, None, Option, true, false};
-ghost use Rattle.agent_top.specs.DrillProgram.{DrillCompletes, DrillsExactly};
+ghost use Rattle.agent_top.specs.DrillProgram.{DrillCompletes, DrillsExactly, DrillsLawfully};
 ghost use Rattle.agent_top.specs.Program.{ReplaysExactly, Completes, RunsLawfully};
 ghost use Rattle.agent_top.specs.RecordProgram.{RecordsExactly};
 ghost use Rattle.agent_top.specs.ServeFair.{ServesFairly};
@@ -34,11 +34,11 @@ use world_ports::{Sink, Source, World};
 /// `drill N SEED` it makes N requests that are drawn from a seed, and writes a line that sums up what came
 /// of them. With any other words it touches none of the three.
 ///
-/// With both commands a signature is put to the helper exactly where what was done before says so, while
-/// neither the numbers of asks nor those of jobs are spent: `lawful` and `serves_lawfully`. With `serve` each thing that is
-/// ready and can be served is served between two services of any other: `serves_fairly`.
+/// With each of these commands a signature is put to the helper exactly where what was done before says so, while
+/// neither the numbers of asks nor those of jobs are spent: `lawful`, `serves_lawfully` and `drills_lawfully`. With `serve`
+/// each thing that is ready and can be served is served between two services of any other: `serves_fairly`.
 ///
-/// What the clauses say stands in specs/Program.antt, DrillProgram.antt, ServeProgram.antt, ServeLaw.antt,
+/// What the clauses say stands in specs/Program.antt, DrillProgram.antt, ServeProgram.antt, ServeLaw.antt, LawfulRun.antt,
 /// ServeFair.antt and RecordProgram.antt, whose heads name where to read on, down to the table of requests.
 pub fn agent_main<R: Wait, W: World, I: Source, O: Sink>(
     rt: &R,
@@ -81,6 +81,7 @@ pub fn agent_main<R: Wait, W: World, I: Source, O: Sink>(
         (O.seen output.old) (O.seen output.new) }
     ensures drill_completes { (asked : Drilling) → IsDrill words.now asked
         → DrillCompletes result (O.seen output.old) (O.seen output.new) }
+    ensures drills_lawfully { (asked : Drilling) → IsDrill words.now asked → DrillsLawfully asked }
     ensures drill_alone { (asked : Drilling) → IsDrill words.now asked
         → (input.new ≡ input.old) × (world.new ≡ world.old) }
     // of other words
