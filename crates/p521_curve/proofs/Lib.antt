@@ -1,0 +1,3 @@
+pub mod AdditionLemmas
+pub mod DecodingLemmas
+pub mod MultipleLemmas

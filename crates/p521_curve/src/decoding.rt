@@ -1,0 +1,70 @@
+// Encoding and decoding of points that aren't secret, of SEC 1, sections 2.3.3 and 2.3.4.
+
+ghost use Rattle.std.specs.Prelude.{◌≡◌, ◌∷◌, ◌++◌};
+ghost use Rattle.p521_curve.specs.Encoding.{decoded, encoded, is_on_curve, valid_point};
+
+use crate::constants;
+use crate::point::Point;
+use p521_field::Element;
+use wide_words::U576;
+
+/// The point with this encoding, if there is one: None where the first byte isn't 04, where x or y
+/// isn't below p, and where they aren't on the curve. The point at infinity has no such encoding.
+pub fn decode(bytes: &[u8; 133]) -> Option<Point>
+    ensures { result ≡ decoded bytes.now }
+{
+    if bytes[0] != 4 {
+        return None;
+    }
+    let x = U576::from_bytes(&bytes[1..67]);
+    let y = U576::from_bytes(&bytes[67..]);
+    point_of(&x, &y)
+}
+
+// The point of two numbers, if they are below p and on the curve.
+fn point_of(x: &U576, y: &U576) -> Option<Point>
+    ensures { result ≡ valid_point x.now y.now }
+{
+    let prime = constants::prime();
+    if !x.is_below(&prime) {
+        return None;
+    }
+    if !y.is_below(&prime) {
+        return None;
+    }
+    let x = Element::from_words(x);
+    let y = Element::from_words(y);
+    if !is_on_curve(&x, &y) {
+        return None;
+    }
+    Some(Point::at(x, y))
+}
+
+// Whether x and y are on the curve.
+fn is_on_curve(x: &Element, y: &Element) -> bool
+    ensures { result ≡ is_on_curve x.now y.now }
+{
+    let cube = x.mul(x).mul(x);
+    let right = cube
+        .sub(&constants::three().mul(x))
+        .add(&constants::b_of_curve());
+    y.mul(y).equals(&right)
+}
+
+/// The encoding of a point that isn't the one at infinity.
+pub fn encode(point: &Point) -> [u8; 133]
+    ensures { result ≡ encoded point.now }
+{
+    let (x, y) = point.affine();
+    joined(&x.to_bytes(), &y.to_bytes())
+}
+
+// The byte 04 and two numbers' bytes.
+fn joined(x: &[u8; 66], y: &[u8; 66]) -> [u8; 133]
+    ensures { result ≡ 4 ∷ (x.now ++ y.now) }
+{
+    let mut bytes = [4u8; 133];
+    bytes[1..67].copy_from_slice(x);
+    bytes[67..].copy_from_slice(y);
+    bytes
+}

@@ -1,0 +1,23 @@
+ghost use Rattle.std.specs.Prelude.{◌≡◌};
+ghost use Rattle.p521_curve.specs.Multiples.{multiply};
+
+use crate::point::Point;
+use wide_words::U576;
+
+const BITS: usize = 521;
+
+/// [s]P, for numbers and points that aren't secret: nothing is claimed of its time.
+pub fn multiple(point: &Point, s: &U576) -> Point
+    ensures { result ≡ multiply s.now point.now }
+{
+    let mut sum = Point::neutral();
+    let mut power = point.copied();
+    let mut rest = s.copied();
+    for _turn in 0..BITS {
+        let next = sum.add(&power);
+        sum.replace_if(&next, rest.low_bit());
+        power = power.add(&power);
+        rest = rest.halved();
+    }
+    sum
+}
