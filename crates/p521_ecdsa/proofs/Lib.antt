@@ -1,0 +1,4 @@
+pub mod KeyLemmas
+pub mod NonceLemmas
+pub mod SigningLemmas
+pub mod VerifyingLemmas

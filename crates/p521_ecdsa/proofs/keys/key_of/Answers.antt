@@ -1,0 +1,5 @@
+use Rattle.p521_ecdsa.proofs.KeyLemmas.{public_key-made}
+use Rattle.p521_ecdsa.proofs.keys.key_of.Goals as goal
+
+pub returns : goal.returns
+returns c = public_key-made c.args.d.now _ _ c.multiple.ensures c.encode.ensures

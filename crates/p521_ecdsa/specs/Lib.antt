@@ -1,0 +1,4 @@
+pub mod Keys
+pub mod Nonces
+pub mod Signatures
+pub mod Verification
