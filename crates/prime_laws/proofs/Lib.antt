@@ -1,0 +1,9 @@
+pub mod PigeonholeLemmas
+pub mod PowerLemmas
+pub mod InverseLemmas
+pub mod OrderLemmas
+pub mod PrimeLemmas
+pub mod FermatLemmas
+pub mod P256Chain
+pub mod P384Chain
+pub mod P521Chain

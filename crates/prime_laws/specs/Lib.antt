@@ -1,0 +1,2 @@
+-- primes, and inverses modulo them
+pub mod Primes
