@@ -1,0 +1,16 @@
+pub mod DifferenceLemmas
+pub mod StepLemmas
+pub mod LineLemmas
+pub mod CaseLemmas
+pub mod FieldLemmas
+pub mod UnitLemmas
+pub mod CubicLemmas
+pub mod P256Lemmas
+pub mod P256RootLemmas
+pub mod P256GroupLemmas
+pub mod P384Lemmas
+pub mod P384RootLemmas
+pub mod P384GroupLemmas
+pub mod P521Lemmas
+pub mod P521RootLemmas
+pub mod P521GroupLemmas

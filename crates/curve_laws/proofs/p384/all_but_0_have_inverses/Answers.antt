@@ -1,0 +1,5 @@
+use Rattle.curve_laws.proofs.P384RootLemmas.{inverse-at}
+use Rattle.curve_laws.proofs.p384.all_but_0_have_inverses.Goals as goal
+
+pub returns : goal.returns
+returns c = inverse-at

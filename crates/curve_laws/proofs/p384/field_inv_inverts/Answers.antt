@@ -1,0 +1,5 @@
+use Rattle.curve_laws.proofs.P384RootLemmas.{power-is-inverse}
+use Rattle.curve_laws.proofs.p384.field_inv_inverts.Goals as goal
+
+pub returns : goal.returns
+returns c = power-is-inverse

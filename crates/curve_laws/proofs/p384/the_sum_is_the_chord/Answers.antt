@@ -1,0 +1,5 @@
+use Rattle.curve_laws.proofs.P384Lemmas.{chord-sum}
+use Rattle.curve_laws.proofs.p384.the_sum_is_the_chord.Goals as goal
+
+pub returns : goal.returns
+returns c = chord-sum

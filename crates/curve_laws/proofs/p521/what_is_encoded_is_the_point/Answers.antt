@@ -1,0 +1,8 @@
+use Rattle.curve_laws.proofs.P521RootLemmas.{quotient-x, quotient-y}
+use Rattle.curve_laws.proofs.p521.what_is_encoded_is_the_point.Goals as goal
+
+pub returns-clause-x : goal.returns-clause-x
+returns-clause-x c = quotient-x
+
+pub returns-clause-y : goal.returns-clause-y
+returns-clause-y c = quotient-y
