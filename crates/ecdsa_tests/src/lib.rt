@@ -1,5 +1,5 @@
 //! Tests of the crates of ECDSA by the vectors of RFC 6979, and by what they have to refuse.
-//! Stands on p256_ecdsa, p384_ecdsa and hex.
+//! Stands on p256_ecdsa, p384_ecdsa, p521_ecdsa and hex.
 #![tactic(auto)]
 
 #[cfg(test)]
@@ -10,3 +10,7 @@ mod p256_vectors;
 mod p384_refused;
 #[cfg(test)]
 mod p384_vectors;
+#[cfg(test)]
+mod p521_refused;
+#[cfg(test)]
+mod p521_vectors;

@@ -5,6 +5,7 @@
 mod answer;
 mod p256;
 mod p384;
+mod p521;
 
 use crate::answer::Answer;
 use std::alloc::{AllocError, Global};
@@ -16,6 +17,7 @@ use std::{env, fs, io};
 struct Curves {
     p256: p256_ecdsa::Doublings,
     p384: p384_ecdsa::Doublings,
+    p521: p521_ecdsa::Doublings,
 }
 
 impl Curves {
@@ -23,6 +25,7 @@ impl Curves {
         Ok(Curves {
             p256: p256_ecdsa::Doublings::new(alloc)?,
             p384: p384_ecdsa::Doublings::new(alloc)?,
+            p521: p521_ecdsa::Doublings::new(alloc)?,
         })
     }
 }
@@ -70,6 +73,7 @@ fn answer_of(rt: &impl AllocGlobal, curves: &Curves, line: &str) -> io::Result<A
     match curve {
         "p256" => p256::answer_of(rt, &curves.p256, verb, first, second, &message),
         "p384" => p384::answer_of(rt, &curves.p384, verb, first, second, &message),
+        "p521" => p521::answer_of(rt, &curves.p521, verb, first, second, &message),
         _ => Ok(Answer::NotALine),
     }
 }

@@ -1,0 +1,77 @@
+//! The answers over P-521.
+
+use crate::answer::Answer;
+use hex::FromHex;
+use p521_ecdsa::{Doublings, public_key, sign_checked, verify};
+use std::io;
+
+/// The answer to a line's words: `key` and a private key; `sign`, a private and a public key;
+/// `verify`, a public key and a signature.
+pub(crate) fn answer_of(
+    rt: &impl AllocGlobal,
+    doublings: &Doublings,
+    verb: &str,
+    first: &str,
+    second: &str,
+    message: &[u8],
+) -> io::Result<Answer> {
+    match verb {
+        "key" => key_answer(rt, doublings, first),
+        "sign" => sign_answer(rt, doublings, first, second, message),
+        "verify" => Ok(verify_answer(doublings, first, second, message)),
+        _ => Ok(Answer::NotALine),
+    }
+}
+
+/// The public key of a private key.
+fn key_answer(rt: &impl AllocGlobal, doublings: &Doublings, private: &str) -> io::Result<Answer> {
+    match private_of(private) {
+        Some(private) => match public_key(doublings, &private) {
+            Some(key) => Ok(Answer::Bytes(hex::encode(rt.alloc(), &key)?)),
+            None => Ok(Answer::Refused),
+        },
+        None => Ok(Answer::NotALine),
+    }
+}
+
+/// The signature of a message under a private key.
+fn sign_answer(
+    rt: &impl AllocGlobal,
+    doublings: &Doublings,
+    private: &str,
+    public: &str,
+    message: &[u8],
+) -> io::Result<Answer> {
+    match (private_of(private), public_of(public)) {
+        (Some(private), Some(public)) => match sign_checked(doublings, &private, &public, message) {
+            Some(signature) => Ok(Answer::Bytes(hex::encode(rt.alloc(), &signature)?)),
+            None => Ok(Answer::Refused),
+        },
+        _ => Ok(Answer::NotALine),
+    }
+}
+
+/// Whether a signature is right.
+fn verify_answer(doublings: &Doublings, public: &str, signature: &str, message: &[u8]) -> Answer {
+    match (public_of(public), signature_of(signature)) {
+        (Some(public), Some(signature)) => {
+            Answer::Verdict(verify(doublings, &public, message, &signature))
+        }
+        _ => Answer::NotALine,
+    }
+}
+
+/// 66 bytes in hexadecimal.
+fn private_of(word: &str) -> Option<[u8; 66]> {
+    <[u8; 66] as FromHex>::from_hex(word).ok()
+}
+
+/// 133 bytes in hexadecimal.
+fn public_of(word: &str) -> Option<[u8; 133]> {
+    <[u8; 133] as FromHex>::from_hex(word).ok()
+}
+
+/// 132 bytes in hexadecimal.
+fn signature_of(word: &str) -> Option<[u8; 132]> {
+    <[u8; 132] as FromHex>::from_hex(word).ok()
+}
