@@ -1,4 +1,4 @@
-//! The helper that signs and verifies with Ed25519 keys, ECDSA keys over P-256 and P-384, and RSA keys:
+//! The helper that signs and verifies with Ed25519 keys, ECDSA keys over P-256, P-384 and P-521, and RSA keys:
 //! `mortarleek_signer SOCKET JOB TICKET [HELPER]` answers the agent's requests, and hands those with keys of other types
 //! on to the program HELPER. A SOCKET of `-` is its standard input, and a TICKET of `-` stands in the environment.
 //! `signer_main` of signer_keys is the program; here are its words, its connection, the helper behind, and what it says on

@@ -7,9 +7,9 @@ use Rattle.key_wire.specs.declared.fault.KeyFault.{KeyFault}
 use Rattle.key_wire.specs.declared.fault.KeyFault.TheVariants.{Unfit}
 use Rattle.signer_keys.specs.declared.request.Request.{Request}
 use Rattle.signer_keys.specs.declared.types.Kind.{Kind}
-use Rattle.signer_keys.specs.declared.types.Kind.TheVariants.{Ed25519, EcdsaP256, EcdsaP384, Rsa}
+use Rattle.signer_keys.specs.declared.types.Kind.TheVariants.{Ed25519, EcdsaP256, EcdsaP384, EcdsaP521, Rsa}
 use Rattle.signer_keys.specs.declared.types.KeyType.{KeyType}
-use Rattle.signer_keys.specs.Ecdsa.{p256_signature, p256_text, p384_signature, p384_text}
+use Rattle.signer_keys.specs.Ecdsa.{p256_signature, p256_text, p384_signature, p384_text, p521_signature, p521_text}
 use Rattle.signer_keys.specs.Ed25519.{ed25519_signature, ed25519_text}
 use Rattle.signer_keys.specs.Rsa.{asked_for, rsa_signature, rsa_text}
 use Rattle.signer_keys.specs.Types.{is_known, kind_of, type_of}
@@ -36,6 +36,9 @@ signature_by EcdsaP256 request = do
 signature_by EcdsaP384 request = do
   bytes ← p384_signature request.private request.blob request.message
   Ok (p384_text bytes)
+signature_by EcdsaP521 request = do
+  bytes ← p521_signature request.private request.blob request.message
+  Ok (p521_text bytes)
 signature_by Rsa request = do
   bytes ← rsa_signature request.private request.blob (asked_for request.flags) request.message
   Ok (rsa_text (asked_for request.flags) bytes)

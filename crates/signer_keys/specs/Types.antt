@@ -10,7 +10,7 @@ use Rattle.rsa_wire.specs.declared.names.KeyType.{KeyType as RsaType}
 use Rattle.rsa_wire.specs.declared.names.KeyType.TheVariants as rsa
 use Rattle.rsa_wire.specs.Names.{type_of as rsa_type_of}
 use Rattle.signer_keys.specs.declared.types.Kind.{Kind}
-use Rattle.signer_keys.specs.declared.types.Kind.TheVariants.{Ed25519, EcdsaP256, EcdsaP384, Rsa}
+use Rattle.signer_keys.specs.declared.types.Kind.TheVariants.{Ed25519, EcdsaP256, EcdsaP384, EcdsaP521, Rsa}
 use Rattle.signer_keys.specs.declared.types.KeyType.{KeyType}
 use Rattle.signer_keys.specs.declared.types.KeyType.TheVariants.{Plain, Certified}
 use Rattle.wire_core.specs.Fields.{string_at}
@@ -23,14 +23,14 @@ ed25519_type (Some name) =
     else None
 ed25519_type None = None
 
--- an ECDSA key over P-256 or P-384
+-- an ECDSA key over P-256, P-384 or P-521
 abbrev pub ecdsa_type : Option EcdsaType → Option KeyType
 ecdsa_type (Some (ecdsa.Plain P256)) = Some (Plain EcdsaP256)
 ecdsa_type (Some (ecdsa.Plain P384)) = Some (Plain EcdsaP384)
-ecdsa_type (Some (ecdsa.Plain P521)) = None
+ecdsa_type (Some (ecdsa.Plain P521)) = Some (Plain EcdsaP521)
 ecdsa_type (Some (ecdsa.Certified P256)) = Some (Certified EcdsaP256)
 ecdsa_type (Some (ecdsa.Certified P384)) = Some (Certified EcdsaP384)
-ecdsa_type (Some (ecdsa.Certified P521)) = None
+ecdsa_type (Some (ecdsa.Certified P521)) = Some (Certified EcdsaP521)
 ecdsa_type None = None
 
 -- an RSA key

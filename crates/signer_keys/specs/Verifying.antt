@@ -2,7 +2,7 @@
 use Rattle.std.specs.Prelude.{ℕ, Bool, true, false, ◌&&◌, not, List, Option, Some, None, Result, Ok, Err}
 use Rattle.std.specs.Result.{result_unwrap_or}
 use Rattle.child_msg.specs.Messages.{True, False}
-use Rattle.ecdsa_wire.specs.declared.names.Curve.TheVariants.{P256, P384}
+use Rattle.ecdsa_wire.specs.declared.names.Curve.TheVariants.{P256, P384, P521}
 use Rattle.ecdsa_wire.specs.Reading.{certified_point_at, public_in as ecdsa_public_in}
 use Rattle.ed25519_wire.specs.Reading.{authority_key, certified_key_at}
 use Rattle.helper_core.specs.declared.asked.Asked.TheVariants as asked
@@ -19,7 +19,7 @@ use Rattle.signer_keys.specs.declared.types.KeyType.{KeyType}
 use Rattle.signer_keys.specs.declared.types.KeyType.TheVariants.{Plain, Certified}
 use Rattle.signer_keys.specs.declared.verifying.Verdict.{Verdict}
 use Rattle.signer_keys.specs.declared.verifying.Verdict.TheVariants as verdict
-use Rattle.signer_keys.specs.Ecdsa.{p256_judged, p256_point, p384_judged, p384_point}
+use Rattle.signer_keys.specs.Ecdsa.{p256_judged, p256_point, p384_judged, p384_point, p521_judged, p521_point}
 use Rattle.signer_keys.specs.Ed25519.{ed25519_judged}
 use Rattle.signer_keys.specs.Rsa.{is_by_sha1, rsa_judged}
 use Rattle.signer_keys.specs.Types.{type_of}
@@ -33,6 +33,7 @@ pub data PublicKey : Type 0 where
   Ed25519 : (public : List ℕ) → PublicKey
   EcdsaP256 : (point : List ℕ) → PublicKey
   EcdsaP384 : (point : List ℕ) → PublicKey
+  EcdsaP521 : (point : List ℕ) → PublicKey
   Rsa : (key : RsaKey) → PublicKey
 
 -- the public key that the code's value is
@@ -40,6 +41,7 @@ abbrev pub public_of : Public → PublicKey
 public_of (code.Ed25519 public) = Ed25519 public
 public_of (code.EcdsaP256 point) = EcdsaP256 point
 public_of (code.EcdsaP384 point) = EcdsaP384 point
+public_of (code.EcdsaP521 point) = EcdsaP521 point
 public_of (code.Rsa key) = Rsa (rsa_key_of key)
 
 -- the key of a plain blob
@@ -55,6 +57,10 @@ plain_public kind.EcdsaP384 blob = do
   public ← ecdsa_public_in blob
   point ← p384_point public.curve public.point
   Ok (EcdsaP384 point)
+plain_public kind.EcdsaP521 blob = do
+  public ← ecdsa_public_in blob
+  point ← p521_point public.curve public.point
+  Ok (EcdsaP521 point)
 plain_public kind.Rsa blob = do
   key ← rsa_public_in blob
   Ok (Rsa key)
@@ -70,6 +76,9 @@ certified_public_behind kind.EcdsaP256 bytes = do
 certified_public_behind kind.EcdsaP384 bytes = do
   key ← certified_point_at P384 bytes
   Ok (EcdsaP384 key.0, key.1)
+certified_public_behind kind.EcdsaP521 bytes = do
+  key ← certified_point_at P521 bytes
+  Ok (EcdsaP521 key.0, key.1)
 certified_public_behind kind.Rsa bytes = do
   key ← certified_public_at bytes
   Ok (Rsa key.0, key.1)
@@ -87,6 +96,7 @@ abbrev pub judged : PublicKey → List ℕ → List ℕ → Result Bool KeyFault
 judged (Ed25519 public) message text = ed25519_judged public message text
 judged (EcdsaP256 point) message text = p256_judged point message text
 judged (EcdsaP384 point) message text = p384_judged point message text
+judged (EcdsaP521 point) message text = p521_judged point message text
 judged (Rsa key) message text = rsa_judged key message text
 
 -- the key signed the message

@@ -15,7 +15,9 @@ use crate::keys::SignerKeys;
 use crate::request::Request;
 use crate::types::{Kind, is_known, key_type};
 use crate::verifying::{Verdict, judge};
-use crate::{ed25519_signatures, p256_signatures, p384_signatures, rsa_signatures};
+use crate::{
+    ed25519_signatures, p256_signatures, p384_signatures, p521_signatures, rsa_signatures,
+};
 use child_msg::{FromChild, ToChild, read_to_child, write_from_child};
 use helper_core::{Answerer, Asked, Routed};
 use secret_buf::ScrubBuf;
@@ -125,6 +127,7 @@ fn signature_by(
         Kind::Ed25519 => ed25519_signature(keys, request),
         Kind::EcdsaP256 => p256_signature(keys, request),
         Kind::EcdsaP384 => p384_signature(keys, request),
+        Kind::EcdsaP521 => p521_signature(keys, request),
         Kind::Rsa => rsa_signature(keys, request),
     }
 }
@@ -169,6 +172,18 @@ fn p384_signature(keys: &SignerKeys, request: &Request<'_>) -> Result<Option<Vec
 {
     match p384_signatures::sign(&keys.p384, request.private, request.blob, request.message) {
         Ok(bytes) => Ok(Some(p384_signatures::text(keys.alloc, &bytes)?)),
+        Err(_) => Ok(None),
+    }
+}
+
+fn p521_signature(keys: &SignerKeys, request: &Request<'_>) -> Result<Option<Vec<u8>>, AllocError>
+    ensures ok { IfOk result (λ text. MatchOption text
+        (signature_by Kind.EcdsaP521 (signing_of request.now) ≡ Err Unfit)
+        (λ t. signature_by Kind.EcdsaP521 (signing_of request.now) ≡ Ok t.items)) }
+    ensures sized { IfOk result (λ text. IfSome text (λ t. length t.items ≤ 1064)) }
+{
+    match p521_signatures::sign(&keys.p521, request.private, request.blob, request.message) {
+        Ok(bytes) => Ok(Some(p521_signatures::text(keys.alloc, &bytes)?)),
         Err(_) => Ok(None),
     }
 }

@@ -9,6 +9,7 @@ pub struct SignerKeys {
     pub(crate) ed25519: ed25519::Doublings,
     pub(crate) p256: p256_ecdsa::Doublings,
     pub(crate) p384: p384_ecdsa::Doublings,
+    pub(crate) p521: p521_ecdsa::Doublings,
 }
 
 impl SignerKeys {
@@ -19,6 +20,7 @@ impl SignerKeys {
             ed25519: ed25519::Doublings::new(alloc)?,
             p256: p256_ecdsa::Doublings::new(alloc)?,
             p384: p384_ecdsa::Doublings::new(alloc)?,
+            p521: p521_ecdsa::Doublings::new(alloc)?,
         })
     }
 }

@@ -1,7 +1,7 @@
-//! What a helper answers with Ed25519 keys, ECDSA keys over P-256 and P-384 and RSA keys, plain or certified:
+//! What a helper answers with Ed25519 keys, ECDSA keys over P-256, P-384 and P-521, and RSA keys, plain or certified:
 //! `SignerKeys` signs and verifies, and hands on what asks for keys of other types. `signer_main` is the program over any
 //! helper behind and any connection (docs/PROTOCOL.md, "Messages of child processes"). Stands on helper_core, on ed25519,
-//! p256_ecdsa, p384_ecdsa, rsa_sign and rsa_verify, and on ed25519_wire, ecdsa_wire and rsa_wire.
+//! p256_ecdsa, p384_ecdsa, p521_ecdsa, rsa_sign and rsa_verify, and on ed25519_wire, ecdsa_wire and rsa_wire.
 #![tactic(auto)]
 
 mod answers;
@@ -12,6 +12,7 @@ mod laws;
 mod numbers;
 mod p256_signatures;
 mod p384_signatures;
+mod p521_signatures;
 mod program;
 mod public;
 mod request;

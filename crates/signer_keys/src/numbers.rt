@@ -39,6 +39,19 @@ pub fn in_48_bytes(bytes: &[u8]) -> Result<[u8; 48], KeyFault>
     Ok(number)
 }
 
+// A number in 66 bytes.
+#[tactic(auto, unfolding(crate::specs::Numbers::filled))]
+pub fn in_66_bytes(bytes: &[u8]) -> Result<[u8; 66], KeyFault>
+    ensures { IsAnswer (λ number. number) result (filled 66 bytes.now) }
+{
+    if bytes.len() > 66 {
+        return Err(KeyFault::Unfit);
+    }
+    let mut number = [0; 66];
+    number[66 - bytes.len()..].copy_from_slice(bytes);
+    Ok(number)
+}
+
 // A number of at most eight bytes.
 #[tactic(auto, unfolding(crate::specs::Numbers::small))]
 pub fn in_a_word(bytes: &[u8]) -> Result<u64, KeyFault>
@@ -65,21 +78,21 @@ pub fn in_bytes(alloc: Global, len: usize, bytes: &[u8]) -> Result<Option<Vec<u8
     Ok(Some(number))
 }
 
-// Appends the mpint of a number of at most 48 bytes.
+// Appends the mpint of a number of at most 66 bytes.
 #[tactic(auto, unfolding(crate::specs::Numbers::mpint))]
 pub fn put_mpint(out: &mut Vec<u8>, bytes: &[u8]) -> Result<(), AllocError>
-    requires { length bytes.now ≤ 48 }
+    requires { length bytes.now ≤ 66 }
     ensures ok { OnOk result (out.new.items ≡ out.old.items ++ string (mpint bytes.now)) }
-    ensures sized { OnOk result (length out.new.items ≤ length out.old.items + 53) }
+    ensures sized { OnOk result (length out.new.items ≤ length out.old.items + 71) }
 {
     put_signed(out, without_zeros(bytes))
 }
 
 // The same of a number without zeros in front.
 fn put_signed(out: &mut Vec<u8>, bytes: &[u8]) -> Result<(), AllocError>
-    requires { length bytes.now ≤ 48 }
+    requires { length bytes.now ≤ 66 }
     ensures ok { OnOk result (out.new.items ≡ out.old.items ++ string (signed bytes.now)) }
-    ensures sized { OnOk result (length out.new.items ≤ length out.old.items + 53) }
+    ensures sized { OnOk result (length out.new.items ≤ length out.old.items + 71) }
 {
     match bytes.first() {
         Some(high) if *high >= 128 => put_behind_zero(out, bytes),
@@ -89,9 +102,9 @@ fn put_signed(out: &mut Vec<u8>, bytes: &[u8]) -> Result<(), AllocError>
 
 // Appends a string of a zero and these bytes.
 fn put_behind_zero(out: &mut Vec<u8>, bytes: &[u8]) -> Result<(), AllocError>
-    requires { length bytes.now ≤ 48 }
+    requires { length bytes.now ≤ 66 }
     ensures ok { OnOk result (out.new.items ≡ out.old.items ++ string (0 ∷ bytes.now)) }
-    ensures sized { OnOk result (length out.new.items ≤ length out.old.items + 53) }
+    ensures sized { OnOk result (length out.new.items ≤ length out.old.items + 71) }
 {
     put_u32(out, bytes.len() as u32 + 1)?;
     put_u8(out, 0)?;

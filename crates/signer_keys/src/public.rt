@@ -5,7 +5,7 @@ ghost use Rattle.signer_keys.specs.Verifying.{certified_public, certified_public
 ghost use Rattle.wire_core.specs.Readings.{IsAnswer};
 
 use crate::types::Kind;
-use crate::{p256_signatures, p384_signatures};
+use crate::{p256_signatures, p384_signatures, p521_signatures};
 use ecdsa_wire::{Curve, read_certified_point};
 use ed25519_wire::{read_authority, read_certified_key};
 use key_wire::KeyFault;
@@ -18,6 +18,7 @@ pub enum Public<'a> {
     Ed25519([u8; 32]),
     EcdsaP256([u8; 65]),
     EcdsaP384([u8; 97]),
+    EcdsaP521([u8; 133]),
     Rsa(rsa_wire::Public<'a>),
 }
 
@@ -35,6 +36,10 @@ pub fn read_plain(kind: Kind, blob: &[u8]) -> Result<Public<'_>, KeyFault>
         Kind::EcdsaP384 => {
             let key = ecdsa_wire::read_public(blob)?;
             Ok(Public::EcdsaP384(p384_signatures::point_of(key.curve, key.point)?))
+        }
+        Kind::EcdsaP521 => {
+            let key = ecdsa_wire::read_public(blob)?;
+            Ok(Public::EcdsaP521(p521_signatures::point_of(key.curve, key.point)?))
         }
         Kind::Rsa => Ok(Public::Rsa(rsa_wire::read_public(blob)?)),
     }
@@ -77,6 +82,10 @@ fn read_behind_name(kind: Kind, bytes: &[u8]) -> Result<(Public<'_>, &[u8]), Key
         Kind::EcdsaP384 => {
             let (point, rest) = read_certified_point(bytes, Curve::P384)?;
             Ok((Public::EcdsaP384(p384_signatures::as_point(point)), rest))
+        }
+        Kind::EcdsaP521 => {
+            let (point, rest) = read_certified_point(bytes, Curve::P521)?;
+            Ok((Public::EcdsaP521(p521_signatures::as_point(point)), rest))
         }
         Kind::Rsa => {
             let (key, rest) = read_certified_public(bytes)?;

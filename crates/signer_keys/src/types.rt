@@ -16,6 +16,7 @@ pub enum Kind {
     Ed25519,
     EcdsaP256,
     EcdsaP384,
+    EcdsaP521,
     Rsa,
 }
 
@@ -68,13 +69,17 @@ fn ecdsa_type(bytes: &[u8]) -> Option<KeyType>
     match ecdsa_wire::key_type(bytes) {
         Some(ecdsa_wire::KeyType::Plain(Curve::P256)) => Some(KeyType::Plain(Kind::EcdsaP256)),
         Some(ecdsa_wire::KeyType::Plain(Curve::P384)) => Some(KeyType::Plain(Kind::EcdsaP384)),
+        Some(ecdsa_wire::KeyType::Plain(Curve::P521)) => Some(KeyType::Plain(Kind::EcdsaP521)),
         Some(ecdsa_wire::KeyType::Certified(Curve::P256)) => {
             Some(KeyType::Certified(Kind::EcdsaP256))
         }
         Some(ecdsa_wire::KeyType::Certified(Curve::P384)) => {
             Some(KeyType::Certified(Kind::EcdsaP384))
         }
-        _ => None,
+        Some(ecdsa_wire::KeyType::Certified(Curve::P521)) => {
+            Some(KeyType::Certified(Kind::EcdsaP521))
+        }
+        None => None,
     }
 }
 

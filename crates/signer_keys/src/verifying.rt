@@ -9,7 +9,9 @@ use crate::keys::SignerKeys;
 use crate::public::{Public, read_certified, read_plain};
 use crate::rsa_signatures::is_by_sha1;
 use crate::types::{KeyType, Kind, key_type};
-use crate::{ed25519_signatures, p256_signatures, p384_signatures, rsa_signatures};
+use crate::{
+    ed25519_signatures, p256_signatures, p384_signatures, p521_signatures, rsa_signatures,
+};
 use key_wire::{Closing, read_closing};
 use std::alloc::AllocError;
 
@@ -178,6 +180,9 @@ fn signs(
         }
         Public::EcdsaP384(point) => {
             Ok(p384_signatures::judge(&keys.p384, point, message, signature).unwrap_or(false))
+        }
+        Public::EcdsaP521(point) => {
+            Ok(p521_signatures::judge(&keys.p521, point, message, signature).unwrap_or(false))
         }
         Public::Rsa(key) => rsa_signatures::signs(keys.alloc, key, message, signature),
     }
