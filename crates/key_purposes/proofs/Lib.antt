@@ -1,2 +1,2 @@
-mod MessageLemmas
+pub mod MessageLemmas
 mod WordLemmas
