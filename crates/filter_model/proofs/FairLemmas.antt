@@ -21,7 +21,7 @@ use Rattle.pair_ports.specs.declared.side.Side.{Side}
 use Rattle.pair_ports.specs.declared.side.Side.TheVariants.{Client, Upstream}
 use Rattle.filter_model.specs.declared.thing.Thing.{Thing}
 use Rattle.filter_model.specs.declared.thing.Thing.TheVariants.{Accept, Read, Write}
-use Rattle.filter_model.specs.Filters.{State, find_pair, is_reached}
+use Rattle.filter_model.specs.Filters.{State, find_pair}
 use Rattle.filter_model.specs.Fairness.{EachIsFair, if_any, is_service, waits_on}
 use Rattle.filter_model.specs.Lines.{dropped, first_servable, has_thing, is_next, is_of, is_servable, is_thing, queued, queued_all, queued_by, queued_if, queued_pair, same_side, same_thing, sent_back}
 use Rattle.std.proofs.lemmas.Bool.{eqb-true}

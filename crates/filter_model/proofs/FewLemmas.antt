@@ -1,5 +1,5 @@
 -- There are few connections to the agent behind, and each is needed.
-use Rattle.std.proofs.Common.{◌≡◌, ◌∙◌, ◌==◌, ◌&&◌, ◌||◌, ◌+◌, ◌<◌, ◌≤◌, if◌then◌else◌, ℕ, suc, Bool, true, false, not, List, [], ◌∷◌, ◌++◌, length, All, Option, Some, None, refl, sym, ap, subst, cond, arith, nat_lt}
+use Rattle.std.proofs.Common.{◌≡◌, ◌∙◌, ◌==◌, ◌&&◌, ◌||◌, ◌+◌, ◌≤◌, if◌then◌else◌, ℕ, suc, Bool, true, false, not, List, [], ◌∷◌, ◌++◌, length, All, Option, Some, None, refl, sym, ap, cond, arith, nat_lt}
 use Rattle.std.specs.List.{filter}
 use Rattle.std.specs.Prelude.{IsTrue}
 use Rattle.std.proofs.lemmas.Bool.Decides.{Decides-ltb}
@@ -11,9 +11,10 @@ use Rattle.pair_ports.specs.declared.side.Side.{Side}
 use Rattle.pair_ports.specs.declared.side.Side.TheVariants.{Client, Upstream}
 use Rattle.filter_model.specs.declared.waits.Waits.{Waits}
 use Rattle.filter_model.specs.declared.waits.Waits.TheVariants.{Nothing, OnList, OnBind, OnReply}
+use Rattle.filter_model.specs.Lists.{Listed}
 use Rattle.filter_model.specs.Pairs.{Pair, change_half, heard_more, is_none, is_quiet, is_some_bytes, is_through, kept, new_pair, sent_some}
-use Rattle.filter_model.specs.Filters.{AllFit, Connected, Ended, Fits, Happening, Heard, Joined, Numbered, State, Took, at_pair, find_pair, first_state, has_place, is_reached, joined, links, most_links, most_pairs, put_pair, reached_by, remove_pair, run, sends_by, settled, step, told}
-use Rattle.filter_model.specs.Looking.{Looked, and_then, and_then_if, answered, client_front, client_looked, client_owed, client_waits, fate_of, looked, nothing_left, reply_for, taken_as, upstream_front, upstream_looked, upstream_waits}
+use Rattle.filter_model.specs.Filters.{AllFit, Connected, Ended, Fits, Happening, Heard, Joined, Numbered, State, Took, at_pair, find_pair, first_state, has_place, joined, links, most_links, most_pairs, put_pair, reached_by, remove_pair, run, sends_by, settled, step, told}
+use Rattle.filter_model.specs.Looking.{and_then, and_then_if, answered, client_front, client_looked, client_owed, client_waits, fate_of, looked, nothing_left, reply_for, taken_as, upstream_front, upstream_looked, upstream_waits}
 use Rattle.filter_model.specs.Places.{AreFew, EachHoldsFew, IsNeeded}
 use Rattle.filter_model.proofs.FairLemmas.{two}
 
@@ -123,7 +124,7 @@ taken-same OnList body pair = refl
 taken-same OnBind body pair = refl
 taken-same OnReply body pair = refl
 
-module _ (listed : List (List ℕ)) (pair : Pair) where
+module _ (listed : Listed) (pair : Pair) where
   client_front-same : (answer : Front) → Same (client_front answer listed pair).pair pair
   client_front-same (Whole body_len) =
       taken-same (fate_of listed (front_body body_len pair.client.heard)) (front_body body_len pair.client.heard) _
@@ -160,7 +161,7 @@ module _ (listed : List (List ℕ)) (pair : Pair) where
   upstream-same OnBind = upstream_front-same (front longest_body pair.upstream.heard)
   upstream-same OnReply = upstream_front-same (front longest_body pair.upstream.heard)
 
-then-same : (listed : List (List ℕ)) (test : Bool) (pair : Pair) → Same (and_then_if test pair (upstream_looked listed)).pair pair
+then-same : (listed : Listed) (test : Bool) (pair : Pair) → Same (and_then_if test pair (upstream_looked listed)).pair pair
 then-same listed true pair = upstream-same listed pair pair.waits
 then-same listed false pair = refl
 
@@ -168,7 +169,7 @@ first-of : (here there : Bool) → (here && there) ≡ true → here ≡ true
 first-of here there is = (two here there is).0
 
 -- no look makes a connection
-looked-linked : (listed : List (List ℕ)) (pair : Pair) → (looked listed pair).pair.is_linked ≡ true → pair.is_linked ≡ true
+looked-linked : (listed : Listed) (pair : Pair) → (looked listed pair).pair.is_linked ≡ true → pair.is_linked ≡ true
 looked-linked listed pair linked =
     let first = client_looked listed pair in
     let after = (and_then first (upstream_looked listed)).pair in
@@ -188,7 +189,7 @@ no-more true false only = omega arith
 no-more false true only = let bad : false ≡ true = only refl in cc
 no-more false false only = omega arith
 
-looked-leaves : (listed : List (List ℕ)) (pairs : List Numbered) (number : ℕ) (was pair : Pair) → find_pair number pairs ≡ Some was → pair.is_linked ≡ was.is_linked → links pairs ≤ most_links
+looked-leaves : (listed : Listed) (pairs : List Numbered) (number : ℕ) (was pair : Pair) → find_pair number pairs ≡ Some was → pair.is_linked ≡ was.is_linked → links pairs ≤ most_links
     → Leaves pairs number (looked listed pair).pair
 looked-leaves listed pairs number was pair found same few =
     let after = (looked listed pair).pair in

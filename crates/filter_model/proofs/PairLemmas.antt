@@ -13,17 +13,20 @@ use Rattle.wire_text.proofs.SplitLemmas.{frames-append}
 use Rattle.agent_msg.specs.Reading.{request_of}
 use Rattle.agent_msg.specs.ReplyReading.{AgentReply, Failure, Success, Identities, Signature, reply_of}
 use Rattle.agent_msg.specs.Replies.{failure, identities_answer}
-use Rattle.agent_msg.specs.Requests.{ClientRequest, ListIdentities, Sign, Add, Remove, RemoveAll, Lock, Unlock, Bind, OtherExtension, Unsupported}
+use Rattle.agent_msg.specs.Requests.{ClientRequest, ListIdentities, Sign, Add, Remove, RemoveAll, Lock, Unlock, Bind, OtherExtension, Signing, Unsupported}
 use Rattle.agent_msg.specs.declared.fault.MsgFault.{MsgFault}
 use Rattle.agent_msg.specs.declared.agent_reply.ReplyFault.{ReplyFault}
 use Rattle.pair_ports.specs.declared.side.Side.{Side}
 use Rattle.pair_ports.specs.declared.side.Side.TheVariants.{Client, Upstream}
 use Rattle.wire_text.specs.Bounds.{longest_body}
+use Rattle.key_purposes.specs.Messages.{may_be_for}
+use Rattle.key_purposes.specs.declared.purpose.Purpose.{Purpose}
 use Rattle.filter_model.specs.declared.waits.Waits.TheVariants.{Nothing, OnList, OnBind, OnReply}
 use Rattle.filter_model.specs.declared.waits.Waits.{Waits}
+use Rattle.filter_model.specs.Lists.{Listed}
 use Rattle.filter_model.specs.Pairs.{Pair, change_half, half_of, heard_more, is_none, is_quiet, is_through, kept, owes_more, reaches, sent_some}
-use Rattle.filter_model.specs.Looking.{Looked, and_then, and_then_if, answered, cut_reply, given_back, is_listed, only_listed, waits_by, waits_for, client_front, client_looked, client_owed, client_waits, fate_of, looked, nothing_left, reply_for, taken_as, upstream_front, upstream_looked, upstream_waits, without_front}
-use Rattle.filter_model.specs.Watching.{Exchange, IsApart, IsExact, IsExchange, IsPending, IsPendingFor, IsReplied, Watched, answers, bodies, IsCut, IsReplyTo, change_stream, binds, is_bind, is_forwarded, may_pass, with_heard, with_sent}
+use Rattle.filter_model.specs.Looking.{Looked, and_then, and_then_if, answered, cut_reply, is_listed, may_sign, only_listed, waits_by, waits_for, client_front, client_looked, client_owed, client_waits, fate_of, looked, nothing_left, reply_for, taken_as, upstream_front, upstream_looked, upstream_waits, without_front}
+use Rattle.filter_model.specs.Watching.{Exchange, IsApart, IsExact, IsExchange, IsPending, IsPendingFor, IsReplied, Watched, answers, bodies, IsCut, IsReplyTo, change_stream, binds, is_bind, has_purpose, is_forwarded, may_pass, with_heard, with_sent}
 
 -- ---- lists
 
@@ -65,9 +68,9 @@ is_binding OnList = false
 is_binding OnBind = true
 is_binding OnReply = false
 
-binds-asked : (listed : List (List ℕ)) (request : Result ClientRequest MsgFault) → binds request ≡ is_binding (waits_for listed request)
+binds-asked : (listed : Listed) (request : Result ClientRequest MsgFault) → binds request ≡ is_binding (waits_for listed request)
 binds-asked listed (Ok ListIdentities) = refl
-binds-asked listed (Ok (Sign signing)) = by_test (is_listed signing.blob listed)
+binds-asked listed (Ok (Sign signing)) = by_test (may_sign listed signing)
   where
     by_test : (test : Bool) → false ≡ is_binding (waits_by test)
     by_test true = refl
@@ -82,9 +85,15 @@ binds-asked listed (Ok (OtherExtension name)) = refl
 binds-asked listed (Ok (Unsupported number)) = refl
 binds-asked listed (Err fault) = refl
 
-passes-asked : (listed : List (List ℕ)) (request : Result ClientRequest MsgFault) → may_pass listed request ≡ is_asked (waits_for listed request)
+-- the law's purposes are those of the step
+has-purpose : (purposes : Option (List Purpose)) (signing : Signing) → has_purpose purposes signing ≡ may_be_for purposes signing.message signing.blob
+has-purpose None signing = refl
+has-purpose (Some purposes) signing = refl
+
+passes-asked : (listed : Listed) (request : Result ClientRequest MsgFault) → may_pass listed request ≡ is_asked (waits_for listed request)
 passes-asked listed (Ok ListIdentities) = refl
-passes-asked listed (Ok (Sign signing)) = by_test (is_listed signing.blob listed)
+passes-asked listed (Ok (Sign signing)) =
+    ap (λ (b : Bool). is_listed signing.blob listed.blobs && b) (has-purpose listed.purposes signing) ∙ by_test (may_sign listed signing)
   where
     by_test : (test : Bool) → test ≡ is_asked (waits_by test)
     by_test true = refl
@@ -99,17 +108,17 @@ passes-asked listed (Ok (OtherExtension name)) = refl
 passes-asked listed (Ok (Unsupported number)) = refl
 passes-asked listed (Err fault) = refl
 
-cut-is : (listed : List (List ℕ)) (answer : Result AgentReply ReplyFault) (reply : List ℕ) → cut_reply listed answer ≡ Some reply → IsCut listed answer reply
-cut-is listed (Ok Failure) reply is = sym (same_Some failure reply is)
-cut-is listed (Ok Success) reply is = absurd (none-some reply is)
-cut-is listed (Ok (Identities identities)) reply is = sym (same_Some (identities_answer (only_listed listed identities)) reply is)
-cut-is listed (Ok (Signature signature)) reply is = absurd (none-some reply is)
-cut-is listed (Err fault) reply is = absurd (none-some reply is)
+cut-is : (blobs : List (List ℕ)) (answer : Result AgentReply ReplyFault) (reply : List ℕ) → cut_reply blobs answer ≡ Some reply → IsCut blobs answer reply
+cut-is blobs (Ok Failure) reply is = sym (same_Some failure reply is)
+cut-is blobs (Ok Success) reply is = absurd (none-some reply is)
+cut-is blobs (Ok (Identities identities)) reply is = sym (same_Some (identities_answer (only_listed blobs identities)) reply is)
+cut-is blobs (Ok (Signature signature)) reply is = absurd (none-some reply is)
+cut-is blobs (Err fault) reply is = absurd (none-some reply is)
 
 -- the filter's reply is the law's
-reply-is : (listed : List (List ℕ)) (request : Result ClientRequest MsgFault) (answer reply : List ℕ) → reply_for (waits_for listed request) listed answer ≡ Some reply → IsReplyTo request listed answer reply
-reply-is listed (Ok ListIdentities) answer reply is = cut-is listed (reply_of answer) reply is
-reply-is listed (Ok (Sign signing)) answer reply is = by_test (is_listed signing.blob listed) is
+reply-is : (listed : Listed) (request : Result ClientRequest MsgFault) (answer reply : List ℕ) → reply_for (waits_for listed request) listed answer ≡ Some reply → IsReplyTo request listed answer reply
+reply-is listed (Ok ListIdentities) answer reply is = cut-is listed.blobs (reply_of answer) reply is
+reply-is listed (Ok (Sign signing)) answer reply is = by_test (may_sign listed signing) is
   where
     by_test : (test : Bool) → reply_for (waits_by test) listed answer ≡ Some reply → reply ≡ string answer
     by_test true so = sym (same_Some (string answer) reply so)
@@ -124,10 +133,10 @@ reply-is listed (Ok (OtherExtension name)) answer reply is = absurd (none-some r
 reply-is listed (Ok (Unsupported number)) answer reply is = absurd (none-some reply is)
 reply-is listed (Err fault) answer reply is = absurd (none-some reply is)
 
-passed : (listed : List (List ℕ)) (body : List ℕ) (fate : Waits) → fate_of listed body ≡ fate → is_forwarded listed body ≡ is_asked fate
+passed : (listed : Listed) (body : List ℕ) (fate : Waits) → fate_of listed body ≡ fate → is_forwarded listed body ≡ is_asked fate
 passed listed body fate is = passes-asked listed (request_of body) ∙ ap is_asked is
 
-bound_by : (listed : List (List ℕ)) (body : List ℕ) (fate : Waits) → fate_of listed body ≡ fate → is_bind body ≡ is_binding fate
+bound_by : (listed : Listed) (body : List ℕ) (fate : Waits) → fate_of listed body ≡ fate → is_bind body ≡ is_binding fate
 bound_by listed body fate is = binds-asked listed (request_of body) ∙ ap is_binding is
 
 or-false : (here : Bool) → (here || false) ≡ here
@@ -146,15 +155,16 @@ true-false : {A : Type 0} (b : Bool) → b ≡ true → b ≡ false → A
 true-false b holds fails = let bad : true ≡ false = sym holds ∙ fails in cc
 
 -- what is pending is waited for as its body wants it
-abbrev pub AreFated : Waits → List (List ℕ) → List (List ℕ) → Type 0
+abbrev pub AreFated : Waits → Listed → List (List ℕ) → Type 0
 AreFated waits listed pending = All (λ body. fate_of listed body ≡ waits) pending
 
 -- ---- what holds of a pair
 
--- what was taken and owed is exact, and what is left to be read are bytes
-pub record Holds (listed : List (List ℕ)) (watched : Watched) : Type 0 where
+-- what was taken and owed is exact, and what was heard of the client and what is left to be read are bytes
+pub record Holds (listed : Listed) (watched : Watched) : Type 0 where
   pub exact : IsExact listed watched
   pub fated : AreFated watched.pair.waits listed exact.pending
+  pub heard_bytes : IsBytes watched.client.heard
   pub client_bytes : IsBytes watched.pair.client.heard
   pub upstream_bytes : IsBytes watched.pair.upstream.heard
 
@@ -162,7 +172,7 @@ pub record Holds (listed : List (List ℕ)) (watched : Watched) : Type 0 where
 abbrev pub left_at : Pair → Watched → Watched
 left_at pair watched = record watched { pair = pair }
 
-module _ (listed : List (List ℕ)) (watched : Watched) (holds : Holds listed watched) where
+module _ (listed : Listed) (watched : Watched) (holds : Holds listed watched) where
   abbrev pair : Pair
   pair = watched.pair
 
@@ -220,6 +230,7 @@ module _ (listed : List (List ℕ)) (watched : Watched) (holds : Holds listed wa
         };
       };
       fated = All-nil (λ other. fate_of listed other ≡ pair.waits);
+      heard_bytes = holds.heard_bytes;
       client_bytes = All-drop (λ byte. byte < 256) _ _ holds.client_bytes;
       upstream_bytes = holds.upstream_bytes;
     }
@@ -253,6 +264,7 @@ module _ (listed : List (List ℕ)) (watched : Watched) (holds : Holds listed wa
         };
       };
       fated = All-cons (λ other. fate_of listed other ≡ waits) body [] fate (All-nil (λ other. fate_of listed other ≡ waits));
+      heard_bytes = holds.heard_bytes;
       client_bytes = All-drop (λ byte. byte < 256) _ _ holds.client_bytes;
       upstream_bytes = holds.upstream_bytes;
     }
@@ -331,6 +343,7 @@ module _ (listed : List (List ℕ)) (watched : Watched) (holds : Holds listed wa
         apart = λ unlinked. unlinked-none unlinked;
       };
       fated = All-nil (λ other. fate_of listed other ≡ Nothing);
+      heard_bytes = holds.heard_bytes;
       client_bytes = holds.client_bytes;
       upstream_bytes = All-drop (λ byte. byte < 256) _ _ holds.upstream_bytes;
     }
@@ -365,7 +378,7 @@ module _ (listed : List (List ℕ)) (watched : Watched) (holds : Holds listed wa
 
 -- ---- both sides, and what came before
 
-and_then-holds : (listed : List (List ℕ)) (watched : Watched) (first : Looked) → Holds listed (left_at first.pair watched)
+and_then-holds : (listed : Listed) (watched : Watched) (first : Looked) → Holds listed (left_at first.pair watched)
     → Holds listed (left_at (and_then first (upstream_looked listed)).pair watched)
 and_then-holds listed watched first holds = by_open first.is_open
   where
@@ -393,7 +406,7 @@ neither false true is = (refl, refl)
 neither false false is = cc
 
 -- a connection that isn't needed is given back
-module _ (listed : List (List ℕ)) (watched : Watched) (holds : Holds listed watched) where
+module _ (listed : Listed) (watched : Watched) (holds : Holds listed watched) where
   abbrev here : Pair
   here = watched.pair
 
@@ -438,6 +451,7 @@ module _ (listed : List (List ℕ)) (watched : Watched) (holds : Holds listed wa
       apart = λ unlinked. apart_of (kept-apart here.is_linked refl unlinked);
     };
     fated = holds.fated;
+    heard_bytes = holds.heard_bytes;
     client_bytes = holds.client_bytes;
     upstream_bytes = holds.upstream_bytes;
   }
@@ -445,14 +459,14 @@ module _ (listed : List (List ℕ)) (watched : Watched) (holds : Holds listed wa
       apart_of : IsApart here known.exchanges known.pending → IsApart (kept here) known.exchanges known.pending
       apart_of is = record { unheard = is.unheard; whole = is.whole; unbound = is.unbound }
 
-pub looked-holds : (listed : List (List ℕ)) (watched : Watched) → Holds listed watched → Holds listed (left_at (looked listed watched.pair).pair watched)
+pub looked-holds : (listed : Listed) (watched : Watched) → Holds listed watched → Holds listed (left_at (looked listed watched.pair).pair watched)
 looked-holds listed watched holds =
     let first = and_then (client_looked listed watched.pair) (upstream_looked listed) in
     kept-holds listed (left_at first.pair watched)
     (and_then-holds listed watched (client_looked listed watched.pair) (client_looked-holds listed watched holds))
 
 -- a connection was made
-pub linked-holds : (listed : List (List ℕ)) (watched : Watched) → Holds listed watched → Holds listed (left_at (record watched.pair { is_linked = true }) watched)
+pub linked-holds : (listed : Listed) (watched : Watched) → Holds listed watched → Holds listed (left_at (record watched.pair { is_linked = true }) watched)
 linked-holds listed watched holds = record {
   exact = record {
     taken = holds.exact.taken;
@@ -471,12 +485,13 @@ linked-holds listed watched holds = record {
     apart = λ unlinked. true-false true refl unlinked;
   };
   fated = holds.fated;
+  heard_bytes = holds.heard_bytes;
   client_bytes = holds.client_bytes;
   upstream_bytes = holds.upstream_bytes;
 }
 
 -- bytes came
-pub heard-holds : (listed : List (List ℕ)) (watched : Watched) (side : Side) (piece : List ℕ) → IsBytes piece → reaches side watched.pair ≡ true → Holds listed watched
+pub heard-holds : (listed : Listed) (watched : Watched) (side : Side) (piece : List ℕ) → IsBytes piece → reaches side watched.pair ≡ true → Holds listed watched
     → Holds listed (left_at (change_half side (heard_more piece) watched.pair) (change_stream side (with_heard piece) watched))
 heard-holds listed watched Client piece bytes reached holds = record {
   exact = record {
@@ -500,6 +515,7 @@ heard-holds listed watched Client piece bytes reached holds = record {
     };
   };
   fated = holds.fated;
+  heard_bytes = All-append (λ byte. byte < 256) _ _ holds.heard_bytes bytes;
   client_bytes = All-append (λ byte. byte < 256) _ _ holds.client_bytes bytes;
   upstream_bytes = holds.upstream_bytes;
 }
@@ -521,6 +537,7 @@ heard-holds listed watched Upstream piece bytes reached holds = record {
     apart = λ unlinked. true-false watched.pair.is_linked reached unlinked;
   };
   fated = holds.fated;
+  heard_bytes = holds.heard_bytes;
   client_bytes = holds.client_bytes;
   upstream_bytes = All-append (λ byte. byte < 256) _ _ holds.upstream_bytes bytes;
 }
@@ -529,7 +546,7 @@ heard-holds listed watched Upstream piece bytes reached holds = record {
 sent-same : (sent owed : List ℕ) (count : ℕ) → (sent ++ take count owed) ++ drop count owed ≡ sent ++ owed
 sent-same sent owed count = append_assoc sent (take count owed) (drop count owed) ∙ ap (λ l. sent ++ l) (take-append-drop count owed)
 
-pub took-holds : (listed : List (List ℕ)) (watched : Watched) (side : Side) (count : ℕ) → reaches side watched.pair ≡ true → Holds listed watched
+pub took-holds : (listed : Listed) (watched : Watched) (side : Side) (count : ℕ) → reaches side watched.pair ≡ true → Holds listed watched
     → Holds listed (left_at (change_half side (sent_some count) watched.pair) (change_stream side (with_sent (take count (half_of side watched.pair).owed)) watched))
 took-holds listed watched Client count reached holds = record {
   exact = record {
@@ -553,6 +570,7 @@ took-holds listed watched Client count reached holds = record {
     };
   };
   fated = holds.fated;
+  heard_bytes = holds.heard_bytes;
   client_bytes = holds.client_bytes;
   upstream_bytes = holds.upstream_bytes;
 }
@@ -574,6 +592,7 @@ took-holds listed watched Upstream count reached holds = record {
     apart = λ unlinked. true-false watched.pair.is_linked reached unlinked;
   };
   fated = holds.fated;
+  heard_bytes = holds.heard_bytes;
   client_bytes = holds.client_bytes;
   upstream_bytes = holds.upstream_bytes;
 }

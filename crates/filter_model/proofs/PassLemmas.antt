@@ -2,7 +2,7 @@
 use Rattle.std.proofs.Common.{◌≡◌, ◌∙◌, ◌++◌, ◌∷◌, ◌&&◌, ◌==◌, ◌<◌, ◌≤◌, ◌^◌, ◌-◌, ℕ, suc, Bool, true, false, List, [], All, Option, Some, None, Result, Ok, Err, length, take, refl, sym, ap, subst, arith, append_assoc, append-nil, if◌then◌else◌, nat_lt}
 use Rattle.std.specs.List.{flat_map}
 use Rattle.std.specs.Option.{IfSome}
-use Rattle.std.specs.Prelude.{◌||◌, IsSome, IsTrue, not}
+use Rattle.std.specs.Prelude.{IsSome, IsTrue, not}
 use Rattle.std.specs.Str.{bytes_eq}
 use Rattle.std.specs.declared.alloc.AllocError.{AllocError}
 use Rattle.std.specs.Cmp.Lexicographic.{bytes_decides}
@@ -30,18 +30,21 @@ use Rattle.pair_ports.specs.declared.side.Side.{Side}
 use Rattle.pair_ports.specs.declared.side.Side.TheVariants.{Client, Upstream}
 use Rattle.filter_model.specs.declared.thing.Thing.{Thing}
 use Rattle.filter_model.specs.declared.thing.Thing.TheVariants.{Accept, Read, Write}
-use Rattle.filter_model.specs.Pairs.{Pair, half_of, is_some_bytes, reaches, wants_half}
-use Rattle.filter_model.specs.Filters.{AllFit, Connected, Ended, Happening, Heard, Joined, State, Took, can_send, find_pair, has_place, is_reached, owed_by, owed_of, reached_by, run, sends_by, step, wants, wants_by}
+use Rattle.filter_model.specs.Lists.{Listed}
+use Rattle.filter_model.specs.Pairs.{Pair, half_of, reaches, wants_half}
+use Rattle.filter_model.specs.Filters.{AllFit, Connected, Ended, Happening, Heard, Joined, State, Took, can_send, find_pair, has_place, is_reached, owed_by, owed_of, reached_by, run, sends_by, step, wants_by}
 use Rattle.filter_model.specs.Lines.{first_servable, is_idle, is_next, is_servable, is_thing, same_side}
 use Rattle.filter_model.specs.Answered.{Due, Binding, Closing, Free, Nothing, Parting, Reading, after_accept, after_bind, after_close, after_connect, after_disconnect, after_poll, after_read, after_write}
 use Rattle.filter_model.specs.LegalPairs.{allowed, allowed_at, first_reading, read_on}
 use Rattle.filter_model.specs.Possible.{are_bytes, is_got, is_numbered, is_piece, is_taken}
 use Rattle.filter_model.specs.Places.{AreFew}
+use Rattle.filter_model.specs.KeptPurposes.{KeepsPurposes}
 use Rattle.filter_model.specs.Watching.{IsExact, IsInRange, Stream, Watched, new_watched, no_stream, watch, watch_if, watch_open, watched_of, watched_on}
 use Rattle.filter_model.specs.Brought.{EachPasses, IsPassed, events_brought, events_of, read_by, stream_by, written_by}
 use Rattle.filter_model.proofs.FairLemmas.{same_is, two}
 use Rattle.filter_model.proofs.JournalLemmas.{only_some, then_some}
 use Rattle.filter_model.proofs.FewLemmas.{each_holds_few}
+use Rattle.filter_model.proofs.PurposeLemmas.{each_keeps_purposes, keeps}
 use Rattle.filter_model.proofs.WatchLemmas.{Good, GoodAt, each_is_exact, new-holds, run-good}
 
 -- ---- what can be served
@@ -118,7 +121,7 @@ more-sent : (piece : List ℕ) (stream : Stream) → record { heard = stream.hea
 more-sent piece stream = ap (λ (h : List ℕ). record { heard = h; sent = stream.sent ++ piece }) (sym (append-nil stream.heard))
 
 -- an event of an open pair
-module _ (listed : List (List ℕ)) (watched : Watched) where
+module _ (listed : Listed) (watched : Watched) where
   heard-open : (found : Option Pair) (number : ℕ) (side there : Side) (piece : List ℕ) → IsSome found
       → stream_of side (watch_open found listed (Heard number there piece) watched)
       ≡ with_more (if same_side side there then piece else []) [] (stream_of side watched)
@@ -186,7 +189,7 @@ new-none : (side : Side) → stream_of side new_watched ≡ no_stream
 new-none Client = refl
 new-none Upstream = refl
 
-unjoined-none : (listed : List (List ℕ)) (number last : ℕ) (found : Option Pair) (side : Side) (watched : Option Watched) → number ≡ suc last → Good listed number last found watched
+unjoined-none : (listed : Listed) (number last : ℕ) (found : Option Pair) (side : Side) (watched : Option Watched) → number ≡ suc last → Good listed number last found watched
     → stream_at side watched ≡ no_stream
 unjoined-none listed number last found side None is good = refl
 unjoined-none listed number last found side (Some watched) is good = absurd (omega (arith, good.0))
@@ -458,15 +461,16 @@ calls-bring from to (next ∷ calls) legal =
 
 -- ---- the law
 
-passed : (listed : List (List ℕ)) (calls : List PairEntry) (number : ℕ) (watched : Option Watched) → IfSome watched (IsExact listed)
+passed : (listed : Listed) (calls : List PairEntry) (number : ℕ) (watched : Option Watched) → IfSome watched (IsExact listed) → IfSome watched (KeepsPurposes listed)
     → ((side : Side) → stream_at side watched ≡ stream_by number side calls) → IsPassed listed calls number
-passed listed calls number None exact streams = record {
+passed listed calls number None exact kept streams = record {
   watched = new_watched;
   client = streams Client;
   upstream = streams Upstream;
   exact = (new-holds listed).exact;
+  kept = keeps listed new_watched (new-holds listed);
 }
-passed listed calls number (Some watched) exact streams = record { watched = watched; client = streams Client; upstream = streams Upstream; exact = exact }
+passed listed calls number (Some watched) exact kept streams = record { watched = watched; client = streams Client; upstream = streams Upstream; exact = exact; kept = kept }
 
 pub each_passes : EachPasses
 each_passes listed path upstream calls to legal =
@@ -476,5 +480,5 @@ each_passes listed path upstream calls to legal =
       state = bring.leads;
       few = subst AreFew (sym bring.leads) (each_holds_few listed (events_brought calls) bring.fit);
       each = λ number. passed listed calls number (watched_of number listed (events_brought calls))
-          (each_is_exact listed (events_brought calls) number bring.range bring.fit) (λ side. bring.streams number side None refl);
+          (each_is_exact listed (events_brought calls) number bring.range bring.fit) (each_keeps_purposes listed (events_brought calls) number bring.range bring.fit) (λ side. bring.streams number side None refl);
     }

@@ -7,6 +7,7 @@ use Rattle.std.proofs.lemmas.List.Elements.{All-nil, All-head, All-tail}
 use Rattle.std.proofs.lemmas.Option.{none-some, same_Some}
 use Rattle.std.specs.Prelude.{IsTrue}
 use Rattle.pair_ports.specs.declared.side.Side.{Side}
+use Rattle.filter_model.specs.Lists.{Listed}
 use Rattle.filter_model.specs.Pairs.{Pair, new_pair, reaches}
 use Rattle.filter_model.specs.Filters.{AllFit, Connected, Ended, Fits, Happening, Heard, Joined, Numbered, State, Took, at_pair, find_pair, first_state, is_reached, joined, most_pairs, put_pair, reached_by, remove_pair, run, settled, step, told}
 use Rattle.filter_model.specs.Watching.{EachIsExact, IsExact, IsInRange, Watched, new_watched, streamed, watch, watch_if, watch_old, watch_open, watched_of, watched_on}
@@ -47,19 +48,19 @@ found-new number (one ∷ others) new is none = elim (cases_eq number one.number
 -- ---- what is known of a pair
 
 -- the watched pair is the open one, where it is open
-pub record IsWatched (listed : List (List ℕ)) (found : Option Pair) (watched : Watched) : Type 0 where
+pub record IsWatched (listed : Listed) (found : Option Pair) (watched : Watched) : Type 0 where
   pub holds : Holds listed watched
   pub same : (pair : Pair) → found ≡ Some pair → watched.pair ≡ pair
 
 -- nothing is watched before the pair joined, and what is watched is the pair
-abbrev pub Good : List (List ℕ) → ℕ → ℕ → Option Pair → Option Watched → Type 0
+abbrev pub Good : Listed → ℕ → ℕ → Option Pair → Option Watched → Type 0
 Good listed number last found None = found ≡ None
 Good listed number last found (Some watched) = (number ≤ last) × IsWatched listed found watched
 
 abbrev pub GoodAt : ℕ → State → Option Watched → Type 0
 GoodAt number state watched = Good state.listed number state.last_pair (find_pair number state.pairs) watched
 
-pub new-holds : (listed : List (List ℕ)) → Holds listed new_watched
+pub new-holds : (listed : Listed) → Holds listed new_watched
 new-holds listed = record {
   exact = record {
     taken = [];
@@ -78,6 +79,7 @@ new-holds listed = record {
     apart = λ unlinked. record { unheard = refl; whole = refl; unbound = refl };
   };
   fated = All-nil _;
+  heard_bytes = All-nil _;
   client_bytes = All-nil _;
   upstream_bytes = All-nil _;
 }
@@ -91,7 +93,7 @@ Reaches (Took number side count) pair = reaches side pair ≡ true
 Reaches (Ended number) pair = Unit {0}
 
 -- an event of this very pair
-told-holds : (event : Happening) (listed : List (List ℕ)) (watched : Watched) → IsInRange event → Reaches event watched.pair → Holds listed watched
+told-holds : (event : Happening) (listed : Listed) (watched : Watched) → IsInRange event → Reaches event watched.pair → Holds listed watched
     → Holds listed (left_at (told event listed watched.pair).pair (streamed event watched.pair watched))
 told-holds Joined listed watched range reached holds = looked-holds listed watched holds
 told-holds (Connected number) listed watched range reached holds = linked-holds listed watched holds
@@ -179,7 +181,7 @@ told-good false number other event state watched is range reached good = other-g
 
 -- ---- a pair joins
 
-unjoined : (listed : List (List ℕ)) (number last : ℕ) (found : Option Pair) (watched : Option Watched) → number ≡ suc last → Good listed number last found watched → found ≡ None
+unjoined : (listed : Listed) (number last : ℕ) (found : Option Pair) (watched : Option Watched) → number ≡ suc last → Good listed number last found watched → found ≡ None
 unjoined listed number last found None is good = good
 unjoined listed number last found (Some watched) is good = absurd (omega (arith, good.0))
 
@@ -206,7 +208,7 @@ listed-joined : (room : Bool) (state : State) → (joined room state).listed ≡
 listed-joined true state = refl
 listed-joined false state = refl
 
-good-later : (listed : List (List ℕ)) (number last : ℕ) (found : Option Pair) (watched : Option Watched) → (number == suc last) ≡ false → Good listed number last found watched
+good-later : (listed : Listed) (number last : ℕ) (found : Option Pair) (watched : Option Watched) → (number == suc last) ≡ false → Good listed number last found watched
     → Good listed number (suc last) found watched
 good-later listed number last found None apart good = good
 good-later listed number last found (Some watched) apart good = (omega (arith, good.0), good.1)
@@ -253,11 +255,11 @@ listed-step state (Heard other side piece) = listed-at (find_pair other state.pa
 listed-step state (Took other side count) = listed-at (find_pair other state.pairs) other (Took other side count) state
 listed-step state (Ended other) = listed-at (find_pair other state.pairs) other (Ended other) state
 
-listed-run : (state : State) (events : List Happening) → (run state events).listed ≡ state.listed
+pub listed-run : (state : State) (events : List Happening) → (run state events).listed ≡ state.listed
 listed-run state [] = refl
 listed-run state (event ∷ later) = listed-run (step state event) later ∙ listed-step state event
 
-good-exact : (listed : List (List ℕ)) (number last : ℕ) (found : Option Pair) (watched : Option Watched) → Good listed number last found watched → IfSome watched (IsExact listed)
+good-exact : (listed : Listed) (number last : ℕ) (found : Option Pair) (watched : Option Watched) → Good listed number last found watched → IfSome watched (IsExact listed)
 good-exact listed number last found None good = tt
 good-exact listed number last found (Some watched) good = good.1.holds.exact
 

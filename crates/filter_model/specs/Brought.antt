@@ -17,10 +17,12 @@ use Rattle.pair_ports.specs.declared.entry.PairEntry.TheVariants as entry
 use Rattle.pair_ports.specs.declared.side.Side.{Side}
 use Rattle.pair_ports.specs.declared.side.Side.TheVariants.{Client, Upstream}
 use Rattle.filter_model.specs.Answered.{Reading}
+use Rattle.filter_model.specs.Lists.{Listed}
 use Rattle.filter_model.specs.Filters.{AllFit, Connected, Ended, Happening, Heard, Joined, Took, first_state, run}
 use Rattle.filter_model.specs.LegalPairs.{first_reading, read_on}
 use Rattle.filter_model.specs.Lines.{same_side}
 use Rattle.filter_model.specs.Places.{AreFew}
+use Rattle.filter_model.specs.KeptPurposes.{KeepsPurposes}
 use Rattle.filter_model.specs.Watching.{IsExact, Stream, Watched}
 
 -- ---- events
@@ -117,16 +119,18 @@ stream_by number side calls = record {
 -- ---- what they have to be
 
 -- the bytes of both sides of the pair of this number are those of a pair that is exact: each request that may pass was
--- written upstream, or is owed, in order, and no other; and the client was written, or is owed, one reply to each
-pub record IsPassed (listed : List (List ℕ)) (calls : List PairEntry) (number : ℕ) : Type 0 where
+-- written upstream, or is owed, in order, and no other; and the client was written, or is owed, one reply to each. Where
+-- purposes are given, each signing request that was written upstream is for one of them
+pub record IsPassed (listed : Listed) (calls : List PairEntry) (number : ℕ) : Type 0 where
   pub watched : Watched
   pub client : watched.client ≡ stream_by number Client calls
   pub upstream : watched.upstream ≡ stream_by number Upstream calls
   pub exact : IsExact listed watched
+  pub kept : KeepsPurposes listed watched
 
 -- the events that calls bring may come, they lead to the state that the calls lead to, each pair is exact, and there are
 -- few connections to the agent behind
-pub record Passes (listed : List (List ℕ)) (calls : List PairEntry) (to : Reading) : Type 0 where
+pub record Passes (listed : Listed) (calls : List PairEntry) (to : Reading) : Type 0 where
   pub fit : AllFit (first_state listed) (events_brought calls)
   pub state : to.state ≡ run (first_state listed) (events_brought calls)
   pub each : (number : ℕ) → IsPassed listed calls number
@@ -134,5 +138,5 @@ pub record Passes (listed : List (List ℕ)) (calls : List PairEntry) (to : Read
 
 -- the law
 abbrev pub EachPasses : Type 0
-EachPasses = (listed : List (List ℕ)) (path upstream : List ℕ) (calls : List PairEntry) (to : Reading)
+EachPasses = (listed : Listed) (path upstream : List ℕ) (calls : List PairEntry) (to : Reading)
     → read_on (first_reading listed path upstream) calls ≡ Some to → Passes listed calls to

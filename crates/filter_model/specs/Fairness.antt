@@ -7,6 +7,7 @@ use Rattle.pair_ports.specs.declared.side.Side.TheVariants.{Upstream}
 use Rattle.filter_model.specs.declared.thing.Thing.{Thing}
 use Rattle.filter_model.specs.declared.thing.Thing.TheVariants.{Accept, Read, Write}
 use Rattle.filter_model.specs.Answered.{Reading}
+use Rattle.filter_model.specs.Lists.{Listed}
 use Rattle.filter_model.specs.LegalPairs.{allowed, first_reading, read_on}
 use Rattle.filter_model.specs.Lines.{has_thing, is_servable, same_thing}
 
@@ -52,5 +53,5 @@ IsFair from calls = (thing other : Thing) (before between after : List PairEntry
 
 -- the law
 abbrev pub EachIsFair : Type 0
-EachIsFair = (listed : List (List ℕ)) (path upstream : List ℕ) (calls : List PairEntry) (to : Reading)
+EachIsFair = (listed : Listed) (path upstream : List ℕ) (calls : List PairEntry) (to : Reading)
     → read_on (first_reading listed path upstream) calls ≡ Some to → IsFair (first_reading listed path upstream) calls

@@ -3,6 +3,7 @@ use Rattle.std.specs.Prelude.{ℕ, suc, ◌^◌, ◌-◌, ◌<◌, ◌≤◌, Bo
 use Rattle.std.specs.List.{filter}
 use Rattle.pair_ports.specs.declared.side.Side.{Side}
 use Rattle.pair_ports.specs.declared.side.Side.TheVariants.{Upstream}
+use Rattle.filter_model.specs.Lists.{Listed}
 use Rattle.filter_model.specs.Pairs.{Pair, change_half, half_of, heard_more, is_some_bytes, new_pair, reaches, sent_some, wants_half}
 use Rattle.filter_model.specs.Looking.{Looked, ends, looked, stays}
 
@@ -19,17 +20,17 @@ pub record Numbered : Type 0 where
   pub number : ℕ
   pub pair : Pair
 
--- the blobs that may be used, the open pairs by rising numbers, the number of the last pair that joined, the pairs that
+-- what may be used, the open pairs by rising numbers, the number of the last pair that joined, the pairs that
 -- the last event closed, and those whose connection to the agent behind it gave back
 pub record State : Type 0 where
-  pub listed : List (List ℕ)
+  pub listed : Listed
   pub pairs : List Numbered
   pub last_pair : ℕ
   pub closes : List ℕ
   pub parts : List ℕ
 
 -- the filter before its first event
-abbrev pub first_state : List (List ℕ) → State
+abbrev pub first_state : Listed → State
 first_state listed = record { listed = listed; pairs = []; last_pair = 0; closes = []; parts = [] }
 
 -- the most pairs
@@ -135,7 +136,7 @@ settled false number was after state = record state {
 }
 
 -- what an event of an open pair makes of it
-abbrev pub told : Happening → List (List ℕ) → Pair → Looked
+abbrev pub told : Happening → Listed → Pair → Looked
 told Joined listed pair = looked listed pair
 told (Connected number) listed pair = stays (record pair { is_linked = true })
 told (Heard number side piece) listed pair = looked listed (change_half side (heard_more piece) pair)

@@ -8,6 +8,7 @@ use Rattle.pair_ports.specs.declared.entry.PairEntry.TheVariants as entry
 use Rattle.pair_ports.specs.declared.side.Side.TheVariants.{Upstream}
 use Rattle.filter_model.specs.declared.thing.Thing.{Thing}
 use Rattle.filter_model.specs.declared.thing.Thing.TheVariants.{Accept, Read, Write}
+use Rattle.filter_model.specs.Lists.{Listed}
 use Rattle.filter_model.specs.Filters.{State, first_state, is_reached, owed_of}
 use Rattle.filter_model.specs.Lines.{is_idle, is_next}
 use Rattle.filter_model.specs.Answered.{Binding, Closing, Due, Free, Nothing, Parting, Reading, after_accept, after_bind, after_close, after_connect, after_disconnect, after_poll, after_read, after_write, at, only_if}
@@ -87,5 +88,5 @@ read_on reading [] = Some reading
 read_on reading (next ∷ later) = option_and_then (λ after. read_on after later) (allowed reading next)
 
 -- before the first entry: where the filter is to listen, and the agent behind it
-abbrev pub first_reading : List (List ℕ) → List ℕ → List ℕ → Reading
+abbrev pub first_reading : Listed → List ℕ → List ℕ → Reading
 first_reading listed path upstream = at (first_state listed) [] (Binding path upstream)

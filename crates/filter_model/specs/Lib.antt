@@ -1,8 +1,10 @@
+pub mod Lists
 pub mod Pairs
 pub mod Looking
 pub mod Filters
 pub mod Rows
 pub mod Watching
+pub mod KeptPurposes
 pub mod Places
 pub mod Lines
 pub mod Answered

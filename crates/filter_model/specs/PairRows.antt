@@ -11,11 +11,12 @@ use Rattle.pair_ports.specs.declared.entry.PairEntry.TheVariants as entry
 use Rattle.pair_ports.specs.declared.side.Side.{Side}
 use Rattle.pair_ports.specs.declared.side.Side.TheVariants.{Client, Upstream}
 use Rattle.filter_model.specs.LegalPairs.{first_reading, read_on}
+use Rattle.filter_model.specs.Lists.{for_all}
 use Rattle.filter_model.specs.Rows.{blob, list}
 
 -- the journal may be one of a filter whose list has the key of tag 17
 abbrev pub is_legal : List PairEntry → Bool
-is_legal entries = is_some (read_on (first_reading (blob 17 ∷ []) (1 ∷ []) (2 ∷ [])) entries)
+is_legal entries = is_some (read_on (first_reading (for_all (blob 17 ∷ [])) (1 ∷ []) (2 ∷ [])) entries)
 
 -- the listener is bound
 abbrev pub bind : PairEntry

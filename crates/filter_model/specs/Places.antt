@@ -1,7 +1,8 @@
 -- How many connections to the agent behind there are, and what each is for (ours).
-use Rattle.std.specs.Prelude.{◌≡◌, ◌≤◌, ℕ, true, List, [], All}
+use Rattle.std.specs.Prelude.{◌≡◌, ◌≤◌, true, List, [], All}
 use Rattle.filter_model.specs.declared.waits.Waits.TheVariants.{Nothing}
 use Rattle.filter_model.specs.Pairs.{Pair}
+use Rattle.filter_model.specs.Lists.{Listed}
 use Rattle.filter_model.specs.Filters.{AllFit, Happening, State, first_state, links, most_links, run}
 
 -- the pair has a connection to the agent behind only while something is under way there, or where a bind was forwarded
@@ -16,5 +17,5 @@ pub record AreFew (state : State) : Type 0 where
 
 -- the law
 abbrev pub EachHoldsFew : Type 0
-EachHoldsFew = (listed : List (List ℕ)) (events : List Happening) → AllFit (first_state listed) events
+EachHoldsFew = (listed : Listed) (events : List Happening) → AllFit (first_state listed) events
     → AreFew (run (first_state listed) events)

@@ -2,7 +2,10 @@
 use Rattle.std.specs.Prelude.{ℕ, true, List, [], ◌∷◌, ◌++◌, length, replicate, codes}
 use Rattle.pair_ports.specs.declared.side.Side.{Side}
 use Rattle.pair_ports.specs.declared.side.Side.TheVariants.{Client, Upstream}
+use Rattle.key_purposes.specs.Rows.{commit, login}
+use Rattle.key_purposes.specs.declared.purpose.Purpose.{Purpose}
 use Rattle.filter_model.specs.Pairs.{new_pair}
+use Rattle.filter_model.specs.Lists.{for_all, for_these}
 use Rattle.filter_model.specs.Filters.{Connected, Happening, Heard, Joined, State, Took, first_state, owed_of, run}
 
 -- the blob of a key with a public tag of 32 equal bytes
@@ -41,11 +44,24 @@ two_listed = 0 ∷ 0 ∷ 0 ∷ 155 ∷ 12 ∷ 0 ∷ 0 ∷ 0 ∷ 2 ∷ 0 ∷ 0 �
 
 -- the state after these events of pair 1, the only key being that of the first tag
 abbrev pub after : List Happening → State
-after events = run (first_state (blob 17 ∷ [])) (Joined ∷ events)
+after events = run (first_state (for_all (blob 17 ∷ []))) (Joined ∷ events)
 
 -- what both sides of pair 1 are owed then
 abbrev pub owed : Side → List Happening → List ℕ
 owed side events = owed_of 1 side (after events)
+
+-- SSH_AGENTC_SIGN_REQUEST for the data of a login by the key of tag 17
+abbrev pub sign_login : ℕ → List ℕ
+sign_login tag = 0 ∷ 0 ∷ 0 ∷ 216 ∷ 13 ∷ 0 ∷ 0 ∷ 0 ∷ 64 ∷ (blob tag ++ 0 ∷ 0 ∷ 0 ∷ 139 ∷ (login ++ 0 ∷ 0 ∷ 0 ∷ 0 ∷ []))
+
+-- the same for those of a commit
+abbrev pub sign_commit : ℕ → List ℕ
+sign_commit tag = 0 ∷ 0 ∷ 0 ∷ 140 ∷ 13 ∷ 0 ∷ 0 ∷ 0 ∷ 64 ∷ (blob tag ++ 0 ∷ 0 ∷ 0 ∷ 63 ∷ (commit ++ 0 ∷ 0 ∷ 0 ∷ 0 ∷ []))
+
+-- what a side of pair 1 is owed when its client sent this, the only key being that of tag 17, for these purposes alone
+abbrev pub owed_for : List Purpose → Side → List ℕ → List ℕ
+owed_for purposes side piece =
+    owed_of 1 side (run (first_state (for_these purposes (blob 17 ∷ []))) (Joined ∷ Heard 1 Client piece ∷ []))
 
 -- three requests in one piece, and the takings of the first two replies
 abbrev pub three : Happening
@@ -61,7 +77,7 @@ asks request = Heard 1 Client request ∷ Connected 1 ∷ Took 1 Upstream (lengt
 
 -- a state in which so many pairs have a connection to the agent behind, and one has none
 abbrev pub linked : ℕ → State
-linked count = record (first_state []) {
+linked count = record (first_state (for_all [])) {
   pairs = record { number = 1; pair = new_pair } ∷ replicate count (record {
     number = 2;
     pair = record new_pair { is_linked = true };

@@ -1,5 +1,5 @@
 -- What each pair ever heard, sent and was owed, and what that has to be (ours).
-use Rattle.std.specs.Prelude.{◌≡◌, ℕ, suc, ◌==◌, Bool, true, false, List, [], ◌∷◌, ◌++◌, take, map, All, Option, Some, None, Result, Ok, Err, if◌then◌else◌}
+use Rattle.std.specs.Prelude.{◌≡◌, ℕ, suc, ◌==◌, ◌&&◌, Bool, true, false, List, [], ◌∷◌, ◌++◌, take, map, All, Option, Some, None, Result, Ok, Err, if◌then◌else◌}
 use Rattle.std.specs.List.{filter, flat_map, list_any}
 use Rattle.std.specs.Str.{bytes_eq}
 use Rattle.std.specs.Option.{IfSome}
@@ -8,7 +8,7 @@ use Rattle.wire_text.specs.Frames.{IsBody, frames}
 use Rattle.agent_msg.specs.Reading.{request_of}
 use Rattle.agent_msg.specs.ReplyReading.{AgentReply, Failure, Success, Identities, Signature, reply_of}
 use Rattle.agent_msg.specs.Replies.{failure, identities_answer}
-use Rattle.agent_msg.specs.Requests.{ClientRequest, ListIdentities, Sign, Add, Remove, RemoveAll, Lock, Unlock, Bind, OtherExtension, Unsupported}
+use Rattle.agent_msg.specs.Requests.{ClientRequest, ListIdentities, Sign, Add, Remove, RemoveAll, Lock, Unlock, Bind, OtherExtension, Signing, Unsupported}
 use Rattle.agent_msg.specs.declared.fault.MsgFault.{MsgFault}
 use Rattle.agent_msg.specs.declared.agent_reply.ReplyFault.{ReplyFault}
 use Rattle.pair_ports.specs.declared.side.Side.{Side}
@@ -16,6 +16,9 @@ use Rattle.pair_ports.specs.declared.side.Side.TheVariants.{Client, Upstream}
 use Rattle.wire_text.specs.Bounds.{longest_body}
 use Rattle.filter_model.specs.declared.waits.Waits.TheVariants.{Nothing, OnList, OnBind, OnReply}
 use Rattle.filter_model.specs.declared.waits.Waits.{Waits}
+use Rattle.key_purposes.specs.Messages.{are_for}
+use Rattle.key_purposes.specs.declared.purpose.Purpose.{Purpose}
+use Rattle.filter_model.specs.Lists.{Listed}
 use Rattle.filter_model.specs.Pairs.{Pair, half_of, new_pair}
 use Rattle.filter_model.specs.Filters.{AllFit, Connected, Ended, Happening, Heard, Joined, State, Took, find_pair, first_state, step, told}
 
@@ -63,7 +66,7 @@ streamed (Took number side count) pair watched =
 streamed (Ended number) pair watched = watched
 
 -- an event of this pair, which is open or isn't
-abbrev pub watch_open : Option Pair → List (List ℕ) → Happening → Watched → Watched
+abbrev pub watch_open : Option Pair → Listed → Happening → Watched → Watched
 watch_open None listed event watched = watched
 watch_open (Some pair) listed event watched =
     record (streamed event pair watched) { pair = (told event listed pair).pair }
@@ -93,15 +96,20 @@ watched_on number state watched (event ∷ later) =
     watched_on number (step state event) (watch state number watched event) later
 
 -- what is known of the pair of this number after these events of a new filter, where it joined
-abbrev pub watched_of : ℕ → List (List ℕ) → List Happening → Option Watched
+abbrev pub watched_of : ℕ → Listed → List Happening → Option Watched
 watched_of number listed events = watched_on number (first_state listed) None events
 
 -- ---- what that has to be
 
--- in the law's own words: a list, a bind, and a signature by a key that is listed may pass
-abbrev pub may_pass : List (List ℕ) → Result ClientRequest MsgFault → Bool
+-- a message may be signed: no purposes are given, or it is for one of these
+abbrev pub has_purpose : Option (List Purpose) → Signing → Bool
+has_purpose None signing = true
+has_purpose (Some purposes) signing = are_for purposes signing.message signing.blob
+
+-- in the law's own words: a list, a bind, and a signature by a key that is listed for one of its purposes may pass
+abbrev pub may_pass : Listed → Result ClientRequest MsgFault → Bool
 may_pass listed (Ok ListIdentities) = true
-may_pass listed (Ok (Sign signing)) = list_any (bytes_eq signing.blob) listed
+may_pass listed (Ok (Sign signing)) = list_any (bytes_eq signing.blob) listed.blobs && has_purpose listed.purposes signing
 may_pass listed (Ok (Bind bind)) = true
 may_pass listed (Ok (Add addition)) = false
 may_pass listed (Ok (Remove blob)) = false
@@ -113,7 +121,7 @@ may_pass listed (Ok (Unsupported number)) = false
 may_pass listed (Err fault) = false
 
 -- the body is a request that may pass
-abbrev pub is_forwarded : List (List ℕ) → List ℕ → Bool
+abbrev pub is_forwarded : Listed → List ℕ → Bool
 is_forwarded listed body = may_pass listed (request_of body)
 
 -- it is a bind
@@ -136,16 +144,16 @@ is_bind body = binds (request_of body)
 
 -- a list of identities without those whose keys aren't listed, and FAILURE as it is
 abbrev pub IsCut : List (List ℕ) → Result AgentReply ReplyFault → List ℕ → Type 0
-IsCut listed (Ok Failure) reply = reply ≡ failure
-IsCut listed (Ok Success) reply = ⊥
-IsCut listed (Ok (Identities identities)) reply =
-    reply ≡ identities_answer (filter (λ identity. list_any (bytes_eq identity.0) listed) identities)
-IsCut listed (Ok (Signature signature)) reply = ⊥
-IsCut listed (Err fault) reply = ⊥
+IsCut blobs (Ok Failure) reply = reply ≡ failure
+IsCut blobs (Ok Success) reply = ⊥
+IsCut blobs (Ok (Identities identities)) reply =
+    reply ≡ identities_answer (filter (λ identity. list_any (bytes_eq identity.0) blobs) identities)
+IsCut blobs (Ok (Signature signature)) reply = ⊥
+IsCut blobs (Err fault) reply = ⊥
 
 -- the answer to a list is cut, and any other one passed on as it is
-abbrev pub IsReplyTo : Result ClientRequest MsgFault → List (List ℕ) → List ℕ → List ℕ → Type 0
-IsReplyTo (Ok ListIdentities) listed answer reply = IsCut listed (reply_of answer) reply
+abbrev pub IsReplyTo : Result ClientRequest MsgFault → Listed → List ℕ → List ℕ → Type 0
+IsReplyTo (Ok ListIdentities) listed answer reply = IsCut listed.blobs (reply_of answer) reply
 IsReplyTo (Ok (Sign signing)) listed answer reply = reply ≡ string answer
 IsReplyTo (Ok (Bind bind)) listed answer reply = reply ≡ string answer
 IsReplyTo (Ok (Add addition)) listed answer reply = ⊥
@@ -164,7 +172,7 @@ pub record Exchange : Type 0 where
   pub reply : List ℕ
 
 -- upstream's answer to this body, cut where that is to be
-pub record IsAnswered (listed : List (List ℕ)) (exchange : Exchange) : Type 0 where
+pub record IsAnswered (listed : Listed) (exchange : Exchange) : Type 0 where
   pub answer : List ℕ
   pub answered : exchange.answers ≡ answer ∷ []
   pub reply : IsReplyTo (request_of exchange.body) listed answer exchange.reply
@@ -175,22 +183,22 @@ pub record IsRefused (exchange : Exchange) : Type 0 where
   pub reply : exchange.reply ≡ failure
 
 -- a body that was forwarded has upstream's answer, and any other body has FAILURE and no answer
-abbrev pub IsReplied : Bool → List (List ℕ) → Exchange → Type 0
+abbrev pub IsReplied : Bool → Listed → Exchange → Type 0
 IsReplied true listed exchange = IsAnswered listed exchange
 IsReplied false listed exchange = IsRefused exchange
 
 -- a body that was forwarded is answered, and another one refused
-abbrev pub IsExchange : List (List ℕ) → Exchange → Type 0
+abbrev pub IsExchange : Listed → Exchange → Type 0
 IsExchange listed exchange = IsReplied (is_forwarded listed exchange.body) listed exchange
 
 -- while a reply is waited for, one more body was taken and forwarded
-pub record IsPendingFor (listed : List (List ℕ)) (pending : List (List ℕ)) : Type 0 where
+pub record IsPendingFor (listed : Listed) (pending : List (List ℕ)) : Type 0 where
   pub body : List ℕ
   pub only : pending ≡ body ∷ []
   pub passed : is_forwarded listed body ≡ true
 
 -- the bodies that wait for a reply: none where nothing is waited for, else one that was forwarded
-abbrev pub IsPending : Waits → List (List ℕ) → List (List ℕ) → Type 0
+abbrev pub IsPending : Waits → Listed → List (List ℕ) → Type 0
 IsPending Nothing listed pending = pending ≡ []
 IsPending OnList listed pending = IsPendingFor listed pending
 IsPending OnBind listed pending = IsPendingFor listed pending
@@ -218,7 +226,7 @@ pub record IsApart (pair : Pair) (exchanges : List Exchange) (pending : List (Li
 -- what a pair sent and is owed: upstream the frames of the taken bodies that are forwarded, and the client a reply to
 -- each body in order, but for the last at most. A connection to the agent behind begins and is given back between two
 -- frames, and once a bind was sent on it, no other one is made
-pub record IsExact (listed : List (List ℕ)) (watched : Watched) : Type 0 where
+pub record IsExact (listed : Listed) (watched : Watched) : Type 0 where
   pub taken : List (List ℕ)
   pub exchanges : List Exchange
   pub pending : List (List ℕ)
@@ -244,6 +252,6 @@ IsInRange (Ended number) = Unit {0}
 
 -- the law
 abbrev pub EachIsExact : Type 0
-EachIsExact = (listed : List (List ℕ)) (events : List Happening) (number : ℕ) → All IsInRange events
+EachIsExact = (listed : Listed) (events : List Happening) (number : ℕ) → All IsInRange events
     → AllFit (first_state listed) events
     → IfSome (watched_of number listed events) (IsExact listed)

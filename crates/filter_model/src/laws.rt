@@ -2,6 +2,7 @@
 
 ghost use Rattle.filter_model.specs.Brought.{EachPasses};
 ghost use Rattle.filter_model.specs.Fairness.{EachIsFair};
+ghost use Rattle.filter_model.specs.KeptPurposes.{EachKeepsPurposes};
 ghost use Rattle.filter_model.specs.Places.{EachHoldsFew};
 ghost use Rattle.filter_model.specs.Watching.{EachIsExact};
 
@@ -9,6 +10,12 @@ ghost use Rattle.filter_model.specs.Watching.{EachIsExact};
 /// bring.
 pub fn exact()
     ensures exact { EachIsExact }
+{}
+
+/// After all events that fit, no signing request was ever put to the agent behind whose message isn't for one of the
+/// purposes, where any are given.
+pub fn purposes()
+    ensures purposes { EachKeepsPurposes }
 {}
 
 /// After all events that fit, there are 64 connections to the agent behind at most, and none that isn't needed.

@@ -1,10 +1,11 @@
 //! Literal rows, each a law that is proved by computing.
-#![tactic(auto, unfolding(wire_text::specs::Frames::front, wire_text::specs::Wire::uint32, wire_text::specs::Wire::string, wire_text::specs::Wire::announced_len, wire_core::specs::Fields::uint32_at, wire_core::specs::Fields::uint64_at, wire_core::specs::Fields::string_len, wire_core::specs::Fields::string_at, agent_msg::specs::Reading::request_of_number, agent_msg::specs::Reading::request_of, agent_msg::specs::Requests::session_bind, agent_msg::specs::ReplyReading::reply_of, agent_msg::specs::ReplyReading::entries_at))]
+#![tactic(auto, unfolding(wire_text::specs::Frames::front, wire_text::specs::Wire::uint32, wire_text::specs::Wire::string, wire_text::specs::Wire::announced_len, wire_core::specs::Fields::uint32_at, wire_core::specs::Fields::uint64_at, wire_core::specs::Fields::string_len, wire_core::specs::Fields::string_at, agent_msg::specs::Reading::request_of_number, agent_msg::specs::Reading::request_of, agent_msg::specs::Requests::session_bind, agent_msg::specs::ReplyReading::reply_of, agent_msg::specs::ReplyReading::entries_at, key_blob::specs::KeyTypes::form_named, key_blob::specs::PublicKeys::public_key_of, key_blob::specs::Reading::field_at, key_blob::specs::Reading::fields_at, key_blob::specs::Reading::after_fields, key_blob::specs::Reading::form_at, userauth_blob::specs::Reading::after_byte, userauth_blob::specs::Reading::after_text, userauth_blob::specs::Reading::session_at, userauth_blob::specs::Reading::method_named, userauth_blob::specs::Reading::method_at, userauth_blob::specs::Reading::after_key, userauth_blob::specs::Reading::host_key_at, userauth_blob::specs::Reading::auth_of, sshsig_blob::specs::Reading::after_preamble, sshsig_blob::specs::Reading::namespace_at, sshsig_blob::specs::Reading::digest_len, sshsig_blob::specs::Reading::hash_at, sshsig_blob::specs::Reading::digest_at, sshsig_blob::specs::Reading::signing_of, key_purposes::specs::Messages::use_of))]
 
-ghost use Rattle.std.specs.Prelude.{◌≡◌, [], ◌∷◌, ◌++◌, length, false, true};
+ghost use Rattle.std.specs.Prelude.{◌≡◌, [], ◌∷◌, ◌++◌, codes, length, false, true};
+ghost use Rattle.key_purposes.specs.declared.purpose.Purpose.TheVariants as purpose;
 ghost use Rattle.pair_ports.specs.declared.side.Side.TheVariants.{Client, Upstream};
 ghost use Rattle.filter_model.specs.Filters.{Heard, Took, can_send, has_place, is_reached, wants};
-ghost use Rattle.filter_model.specs.Rows.{after, asks, bind, failed, linked, list, one_listed, owed, remove_all, sign, three, took_reply, two_listed};
+ghost use Rattle.filter_model.specs.Rows.{after, asks, bind, failed, linked, list, one_listed, owed, owed_for, remove_all, sign, sign_commit, sign_login, three, took_reply, two_listed};
 ghost use Rattle.filter_model.specs.PairRows.{accept_none, asks_list, close_of, connect_failed, connect_made, connect_none, disconnect_of, is_legal, joins, poll_door, poll_nothing, poll_reply, read_none, read_of, write_of};
 
 /// A list is forwarded, and its reply is cut to the keys that are listed.
@@ -21,6 +22,21 @@ pub fn only_listed_keys_are_used()
     ensures kept_again { owed Upstream (three ∷ took_reply ∷ []) ≡ [] }
     ensures allowed { owed Upstream (three ∷ took_reply ∷ took_reply ∷ []) ≡ sign 17 }
     ensures waits { owed Client (three ∷ took_reply ∷ took_reply ∷ []) ≡ [] }
+{}
+
+/// Behind purposes a signing request by a listed key is forwarded where its message is for one of these, and a list as
+/// ever.
+pub fn only_purposes_are_signed_for()
+    ensures commit { owed_for (purpose.Namespace (codes "git") ∷ []) Upstream (sign_commit 17) ≡ sign_commit 17 }
+    ensures no_login { owed_for (purpose.Namespace (codes "git") ∷ []) Client (sign_login 17) ≡ failed }
+    ensures kept { owed_for (purpose.Namespace (codes "git") ∷ []) Upstream (sign_login 17) ≡ [] }
+    ensures other_namespace { owed_for (purpose.Namespace (codes "gi") ∷ []) Client (sign_commit 17) ≡ failed }
+    ensures login { owed_for (purpose.Login ∷ []) Upstream (sign_login 17) ≡ sign_login 17 }
+    ensures no_commit { owed_for (purpose.Other ∷ purpose.Login ∷ []) Client (sign_commit 17) ≡ failed }
+    ensures other { owed_for (purpose.Other ∷ []) Upstream (sign 17) ≡ sign 17 }
+    ensures no_other { owed_for (purpose.Login ∷ purpose.AnyNamespace ∷ []) Client (sign 17) ≡ failed }
+    ensures unlisted { owed_for (purpose.AnyNamespace ∷ []) Client (sign_commit 18) ≡ failed }
+    ensures listing { owed_for (purpose.Login ∷ []) Upstream list ≡ list }
 {}
 
 /// Binds are forwarded, and nothing is taken while a reply isn't sent whole.

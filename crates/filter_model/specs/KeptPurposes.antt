@@ -1,0 +1,32 @@
+-- What a filter with purposes puts to the agent behind it, by the grammars of requests and messages (ours).
+use Rattle.std.specs.Prelude.{◌≡◌, ℕ, List, ◌++◌, All, Some}
+use Rattle.std.specs.Option.{IfSome}
+use Rattle.wire_text.specs.Frames.{frames}
+use Rattle.agent_msg.specs.Requests.{IsSigning, Signing}
+use Rattle.key_purposes.specs.Messages.{IsForOne}
+use Rattle.key_purposes.specs.declared.purpose.Purpose.{Purpose}
+use Rattle.filter_model.specs.Lists.{Listed}
+use Rattle.filter_model.specs.Filters.{AllFit, Happening, first_state}
+use Rattle.filter_model.specs.Watching.{IsInRange, Watched, watched_of}
+
+-- where the body is a signing request, its message is for one of these purposes
+abbrev pub IsSignedFor : List Purpose → List ℕ → Type 0
+IsSignedFor purposes body =
+    (signing : Signing) → IsSigning body signing → IsForOne purposes signing.message signing.blob
+
+-- what was sent to the agent behind, and what it is owed yet, are the frames of such bodies
+pub record PutsFor (purposes : List Purpose) (watched : Watched) : Type 0 where
+  pub bodies : List (List ℕ)
+  pub put : watched.upstream.sent ++ watched.pair.upstream.owed ≡ frames bodies
+  pub each : All (IsSignedFor purposes) bodies
+
+-- so it is where purposes are given
+abbrev pub KeepsPurposes : Listed → Watched → Type 0
+KeepsPurposes listed watched =
+    (purposes : List Purpose) → listed.purposes ≡ Some purposes → PutsFor purposes watched
+
+-- the law
+abbrev pub EachKeepsPurposes : Type 0
+EachKeepsPurposes = (listed : Listed) (events : List Happening) (number : ℕ) → All IsInRange events
+    → AllFit (first_state listed) events
+    → IfSome (watched_of number listed events) (KeepsPurposes listed)
