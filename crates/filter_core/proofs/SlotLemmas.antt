@@ -6,6 +6,7 @@ use Rattle.std.proofs.lemmas.Option.{slice_get-map}
 use Rattle.std.specs.List.{count_by, filter, remove}
 use Rattle.std.proofs.lemmas.List.Sums.{length-filter}
 use Rattle.std.specs.Option.{option_map}
+use Rattle.filter_model.specs.Lists.{Listed}
 use Rattle.filter_model.specs.Pairs.{Pair}
 use Rattle.filter_model.specs.Filters.{Happening, Numbered, State, at_pair, find_pair, links, parted, put_pair, remove_pair, settled, told}
 use Rattle.filter_core.specs.declared.slot.Slot.{Slot}
@@ -119,11 +120,11 @@ counted slots = sym (length-filter (λ slot. slot.is_linked) slots) ∙ as_many 
 
 -- ---- the state of the storage
 
-abbrev pub state_of : List (List ℕ) → List Slot → ℕ → List ℕ → List ℕ → State
+abbrev pub state_of : Listed → List Slot → ℕ → List ℕ → List ℕ → State
 state_of listed slots last closed parts = record { listed = listed; pairs = pairs_of slots; last_pair = last; closes = closed; parts = parts }
 
 -- an event that leaves the pair open
-pub tells_open : (listed : List (List ℕ)) (slots : List Slot) (last : ℕ) (closed parts noted : List ℕ) (number place : ℕ) (event : Happening) (old slot : Slot) (stays : Bool)
+pub tells_open : (listed : Listed) (slots : List Slot) (last : ℕ) (closed parts noted : List ℕ) (number place : ℕ) (event : Happening) (old slot : Slot) (stays : Bool)
     → IsPlace number (pairs_of slots) place → old ≡ get_or slots place old → slot.number ≡ old.number → Leaves stays (pair_of slot) (told event listed (pair_of old)) → stays ≡ true → closed ≡ [] → parts ≡ []
     → noted ≡ parts ++ parted number old.is_linked slot.is_linked
     → state_of listed (set slots place slot) last closed noted ≡ at_pair (find_pair number (pairs_of slots)) number event (state_of listed slots last closed parts)
@@ -136,7 +137,7 @@ tells_open listed slots last closed parts noted number place event old slot stay
     (subst (λ (b : Bool). Leaves b (pair_of slot) (told event listed (pair_of old))) open_yet leaves))
 
 -- one that closes it
-pub tells_closed : (listed : List (List ℕ)) (slots : List Slot) (last : ℕ) (closed parts : List ℕ) (number place : ℕ) (event : Happening) (old slot : Slot) (stays : Bool)
+pub tells_closed : (listed : Listed) (slots : List Slot) (last : ℕ) (closed parts : List ℕ) (number place : ℕ) (event : Happening) (old slot : Slot) (stays : Bool)
     → IsPlace number (pairs_of slots) place → old ≡ get_or slots place old → slot.number ≡ old.number → Leaves stays (pair_of slot) (told event listed (pair_of old)) → stays ≡ false → closed ≡ [] → parts ≡ []
     → state_of listed (remove (set slots place slot) place) last (closed ++ slot.number ∷ []) parts ≡ at_pair (find_pair number (pairs_of slots)) number event (state_of listed slots last closed parts)
 tells_closed listed slots last closed parts number place event old slot stays is here same leaves shut quiet unparted =

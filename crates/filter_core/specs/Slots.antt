@@ -1,11 +1,14 @@
 -- The storage of the open pairs as the definition sees it.
-use Rattle.std.specs.Prelude.{◌≡◌, ℕ, ◌+◌, ◌^◌, ◌<◌, ◌≤◌, Bool, true, false, ◌&&◌, List, [], ◌∷◌, length, map, Option, Some, None, Vec}
+use Rattle.std.specs.Prelude.{◌≡◌, ℕ, ◌+◌, ◌^◌, ◌<◌, ◌≤◌, Bool, ◌&&◌, List, [], ◌∷◌, length, map, Option, Some, None, Vec, option_map}
 use Rattle.std.specs.declared.alloc.Global.{Global}
 use Rattle.std.specs.BTreeSet.{BTreeSet}
 use Rattle.wire_text.specs.Bounds.{longest_body}
 use Rattle.agent_msg.specs.Replies.{entries_length}
 use Rattle.agent_msg.specs.ReplyReading.{AgentReply, Failure, Identities, Signature, Success}
+use Rattle.key_purposes.specs.declared.purpose.Purpose.{Purpose}
+use Rattle.filter_core.specs.declared.listed.Listed as code
 use Rattle.filter_core.specs.declared.slot.Slot.{Slot}
+use Rattle.filter_model.specs.Lists.{Listed}
 use Rattle.filter_model.specs.Pairs.{Half, Pair, half_of, is_none, is_quiet, owes_more}
 use Rattle.filter_model.specs.Looking.{Looked}
 use Rattle.filter_model.specs.Filters.{Connected, Ended, Happening, Heard, Joined, Numbered, Took}
@@ -13,6 +16,14 @@ use Rattle.filter_model.specs.Filters.{Connected, Ended, Happening, Heard, Joine
 -- the blobs of a set, in order
 abbrev pub blobs_of : BTreeSet (Vec ℕ Global) → List (List ℕ)
 blobs_of listed = map (λ blob. blob.items) listed.keys
+
+-- the purposes, where any are given
+abbrev pub purposes_of : Option (Vec Purpose Global) → Option (List Purpose)
+purposes_of purposes = option_map (λ given. given.items) purposes
+
+-- what the filter lets be used, without its storage
+abbrev pub listed_of : code.Listed → Listed
+listed_of listed = record { blobs = blobs_of listed.blobs; purposes = purposes_of listed.purposes }
 
 -- a pair without its storage, and with its number
 abbrev pub pair_of : Slot → Pair

@@ -1,12 +1,15 @@
 //! What becomes of a client's request.
 
-ghost use Rattle.std.specs.Prelude.{◌≡◌, IfOk, Ok};
+ghost use Rattle.std.specs.Prelude.{◌≡◌, ◌&&◌, IfOk, Ok};
 ghost use Rattle.agent_msg.specs.Requests.{client_request};
+ghost use Rattle.key_purposes.specs.Messages.{may_be_for};
 ghost use Rattle.filter_model.specs.Looking.{fate_of, is_listed, waits_by, waits_for};
-ghost use Rattle.filter_core.specs.Slots.{blobs_of};
+ghost use Rattle.filter_core.specs.Slots.{blobs_of, listed_of, purposes_of};
 
+use crate::listed::Listed;
 use agent_msg::{MsgFault, Request, read_request};
 use filter_model::Waits;
+use key_purposes::{Purpose, are_for};
 use std::alloc::{AllocError, Global};
 use std::collections::BTreeSet;
 
@@ -17,10 +20,28 @@ pub fn is_listed(listed: &BTreeSet<Vec<u8>>, blob: &[u8]) -> bool
     listed.contains(blob)
 }
 
+// Whether no purposes are given, or the message is for one of them.
+fn may_be_for(purposes: &Option<Vec<Purpose>>, message: &[u8], blob: &[u8]) -> bool
+    ensures { result ≡ may_be_for (purposes_of purposes.now) message.now blob.now }
+{
+    match purposes {
+        Some(purposes) => are_for(purposes, message, blob),
+        None => true,
+    }
+}
+
+// Whether the key of this blob is listed, and the message is for one of its purposes, where there are any.
+fn may_sign(listed: &Listed, blob: &[u8], message: &[u8]) -> bool
+    ensures { result ≡ (is_listed blob.now (blobs_of listed.now.blobs)
+        && may_be_for (purposes_of listed.now.purposes) message.now blob.now) }
+{
+    is_listed(&listed.blobs, blob) && may_be_for(&listed.purposes, message, blob)
+}
+
 /// What a pair waits for after this body: nothing where the request is refused. Only a list, a signature by a key that
-/// is listed and a bind pass.
-pub fn fate_of(alloc: Global, listed: &BTreeSet<Vec<u8>>, body: &[u8]) -> Result<Waits, AllocError>
-    ensures { IfOk result (λ waits. waits ≡ fate_of (blobs_of listed.now) body.now) }
+/// is listed, for one of its purposes, and a bind pass.
+pub fn fate_of(alloc: Global, listed: &Listed, body: &[u8]) -> Result<Waits, AllocError>
+    ensures { IfOk result (λ waits. waits ≡ fate_of (listed_of listed.now) body.now) }
 {
     match read_request(alloc, body) {
         Ok(request) => Ok(waits_for(listed, request)),
@@ -30,22 +51,22 @@ pub fn fate_of(alloc: Global, listed: &BTreeSet<Vec<u8>>, body: &[u8]) -> Result
 }
 
 // What a pair waits for after this request.
-fn waits_for(listed: &BTreeSet<Vec<u8>>, request: Request<'_>) -> Waits
-    ensures { result ≡ waits_for (blobs_of listed.now) (Ok (client_request request.entry)) }
+fn waits_for(listed: &Listed, request: Request<'_>) -> Waits
+    ensures { result ≡ waits_for (listed_of listed.now) (Ok (client_request request.entry)) }
 {
     match request {
         Request::List => Waits::OnList,
-        Request::Sign { blob, .. } => waits_by(is_listed(listed, blob)),
+        Request::Sign { blob, message, .. } => waits_by(may_sign(listed, blob, message)),
         Request::Bind { .. } => Waits::OnBind,
         _ => Waits::Nothing,
     }
 }
 
-// A reply, where the key is listed.
-fn waits_by(is_listed: bool) -> Waits
-    ensures { result ≡ waits_by is_listed }
+// A reply, where the key may sign.
+fn waits_by(may_sign: bool) -> Waits
+    ensures { result ≡ waits_by may_sign }
 {
-    if is_listed {
+    if may_sign {
         Waits::OnReply
     } else {
         Waits::Nothing

@@ -1,19 +1,19 @@
 //! The filter.
 
-ghost use Rattle.std.specs.Prelude.{◌≡◌, ◌↔◌, ◌-◌, ◌^◌, ◌<◌, ◌≤◌, [], ◌∷◌, ◌++◌, IsSome, IsTrue, MatchOption, None, OnOk, Some, count_by, false, length, map, slice_get, true};
+ghost use Rattle.std.specs.Prelude.{◌≡◌, ◌↔◌, ◌-◌, ◌^◌, ◌<◌, ◌≤◌, [], ◌∷◌, ◌++◌, IsSome, IsTrue, MatchOption, None, OnOk, Some, count_by, false, length, slice_get, true};
 ghost use Rattle.std.specs.List.{remove};
 ghost use Rattle.filter_model.specs.Filters.{Fits, Joined, at_pair, can_send, find_pair, first_state, has_place, is_reached, joined, links, owed_of, parted, step, wants};
 ghost use Rattle.filter_model.specs.Pairs.{Pair};
 ghost use Rattle.filter_core.specs.Happenings.{happening};
-ghost use Rattle.filter_core.specs.Slots.{FitsPair, pair_of, pairs_of};
+ghost use Rattle.filter_core.specs.Slots.{FitsPair, listed_of, pair_of, pairs_of};
 ghost use Rattle.filter_core.specs.declared.slot.Slot.{Slot};
 
 use crate::FilterEvent;
+use crate::listed::Listed;
 use crate::places::place_of;
 use crate::slot::{self, Slot};
 use pair_ports::Side;
 use std::alloc::{AllocError, Global};
-use std::collections::BTreeSet;
 use std::marker::Model;
 
 /// The most pairs that are open at once.
@@ -22,12 +22,12 @@ const MOST_PAIRS: usize = 128;
 /// The most connections to the agent behind.
 const MOST_LINKS: usize = 64;
 
-/// A filter: its blobs, its open pairs, those that its last step closed, and those whose connection to the agent behind it
+/// A filter: what it lets be used, its open pairs, those that its last step closed, and those whose connection to the agent behind it
 /// gave back. Dropping it wipes what its pairs sent and are owed.
 #[derive(Drop)]
 pub struct Filter {
     alloc: Global,
-    listed: BTreeSet<Vec<u8>>,
+    listed: Listed,
     // By their numbers, which rise.
     slots: Vec<Slot>,
     last: u64,
@@ -37,12 +37,12 @@ pub struct Filter {
 
 impl Model for Filter {
     ghost use Rattle.filter_model.specs.Filters.{State};
-    ghost use Rattle.filter_core.specs.Slots.{IsKept, blobs_of, pairs_of};
+    ghost use Rattle.filter_core.specs.Slots.{IsKept, listed_of, pairs_of};
 
     ghost Value = { State };
 
     ghost view = { λ f. record {
-      listed = blobs_of f.listed;
+      listed = listed_of f.listed;
       pairs = pairs_of f.slots.items;
       last_pair = f.last;
       closes = f.closed.items;
@@ -53,9 +53,9 @@ impl Model for Filter {
 }
 
 impl Filter {
-    /// A filter that lets the keys of these blobs be listed and used. Takes no memory.
-    pub fn new(alloc: Global, listed: BTreeSet<Vec<u8>>) -> Filter
-        ensures { result ≡ first_state (map (λ blob. blob.items) listed.keys) }
+    /// A filter that lets these keys be listed, and used for what they may sign for. Takes no memory.
+    pub fn new(alloc: Global, listed: Listed) -> Filter
+        ensures { result ≡ first_state (listed_of listed) }
     {
         Filter {
             alloc,

@@ -9,17 +9,17 @@ ghost use Rattle.filter_model.specs.Pairs.{change_half, half_of, heard_more, is_
 ghost use Rattle.filter_model.specs.Looking.{and_then, answered, client_looked, fate_of, looked, reply_for, taken_as, upstream_looked, without_front};
 ghost use Rattle.filter_model.specs.Filters.{told};
 ghost use Rattle.filter_core.specs.Happenings.{happening};
-ghost use Rattle.filter_core.specs.Slots.{FitsPair, Leaves, blobs_of, is_free, numbered_of, owes_reply, pair_of};
+ghost use Rattle.filter_core.specs.Slots.{FitsPair, Leaves, is_free, listed_of, numbered_of, owes_reply, pair_of};
 
 use crate::FilterEvent;
 use crate::buffers::Buffers;
 use crate::cut::owe_cut;
 use crate::fate::fate_of;
+use crate::listed::Listed;
 use filter_model::Waits;
 use frame_core::Look;
 use pair_ports::Side;
 use std::alloc::{AllocError, Global};
-use std::collections::BTreeSet;
 
 /// An open pair. Dropping it wipes what was heard and what is owed.
 #[derive(Drop)]
@@ -102,16 +102,11 @@ fn drop_sent(slot: &mut Slot, side: Side, count: usize)
 }
 
 // Takes the client's request with a body of this length: refuses or forwards it.
-fn take(
-    alloc: Global,
-    slot: &mut Slot,
-    listed: &BTreeSet<Vec<u8>>,
-    body_len: u32,
-) -> Result<(), AllocError>
+fn take(alloc: Global, slot: &mut Slot, listed: &Listed, body_len: u32) -> Result<(), AllocError>
     requires whole { front longest_body slot.old.client.heard ≡ Whole body_len }
     requires quiet { slot.old.waits ≡ waiting.Nothing }
     ensures pair { OnOk result (pair_of slot.new ≡ taken_as
-        (fate_of (blobs_of listed.now) (front_body body_len slot.old.client.heard))
+        (fate_of (listed_of listed.now) (front_body body_len slot.old.client.heard))
         (front_body body_len slot.old.client.heard)
         (record (pair_of slot.old) { client = without_front body_len slot.old.client })) }
     ensures number { slot.new.number ≡ slot.old.number }
@@ -160,13 +155,9 @@ fn is_free(slot: &Slot) -> bool
 
 // Looks at what the client sent, where it is its turn; tells whether the pair stays open.
 #[tactic(auto, using(crate::proofs::LookLemmas::held_leaves, crate::proofs::LookLemmas::more_leaves, crate::proofs::LookLemmas::bad_leaves, crate::proofs::LookLemmas::taken_leaves, crate::proofs::LookLemmas::free_is_quiet))]
-fn look_at_client(
-    alloc: Global,
-    slot: &mut Slot,
-    listed: &BTreeSet<Vec<u8>>,
-) -> Result<bool, AllocError>
+fn look_at_client(alloc: Global, slot: &mut Slot, listed: &Listed) -> Result<bool, AllocError>
     ensures looked { IfOk result (λ stays. Leaves stays (pair_of slot.new)
-        (client_looked (blobs_of listed.now) (pair_of slot.old))) }
+        (client_looked (listed_of listed.now) (pair_of slot.old))) }
     ensures number { slot.new.number ≡ slot.old.number }
 {
     if !is_free(slot) {
@@ -186,14 +177,14 @@ fn look_at_client(
 fn owe_reply(
     alloc: Global,
     slot: &mut Slot,
-    listed: &BTreeSet<Vec<u8>>,
+    listed: &Listed,
     body_len: u32,
 ) -> Result<bool, AllocError>
     requires { front longest_body slot.old.upstream.heard ≡ Whole body_len }
-    ensures is_one { IfOk result (λ is_one. is_one ≡ is_some (reply_for slot.old.waits (blobs_of listed.now)
+    ensures is_one { IfOk result (λ is_one. is_one ≡ is_some (reply_for slot.old.waits (listed_of listed.now)
         (front_body body_len slot.old.upstream.heard))) }
     ensures pair { OnOk result (pair_of slot.new ≡ record (pair_of slot.old) {
-      client = owes_reply (reply_for slot.old.waits (blobs_of listed.now)
+      client = owes_reply (reply_for slot.old.waits (listed_of listed.now)
           (front_body body_len slot.old.upstream.heard)) slot.old.client;
     }) }
     ensures number { slot.new.number ≡ slot.old.number }
@@ -201,7 +192,7 @@ fn owe_reply(
     let answer = slot.upstream.body(body_len);
     match slot.waits {
         Waits::Nothing => Ok(false),
-        Waits::OnList => owe_cut(alloc, &mut slot.client, listed, answer),
+        Waits::OnList => owe_cut(alloc, &mut slot.client, &listed.blobs, answer),
         Waits::OnBind | Waits::OnReply => {
             slot.client.owe(answer)?;
             Ok(true)
@@ -214,12 +205,12 @@ fn owe_reply(
 fn take_answer(
     alloc: Global,
     slot: &mut Slot,
-    listed: &BTreeSet<Vec<u8>>,
+    listed: &Listed,
     body_len: u32,
 ) -> Result<bool, AllocError>
     requires { front longest_body slot.old.upstream.heard ≡ Whole body_len }
     ensures looked { IfOk result (λ stays. Leaves stays (pair_of slot.new) (answered
-        (reply_for slot.old.waits (blobs_of listed.now) (front_body body_len slot.old.upstream.heard))
+        (reply_for slot.old.waits (listed_of listed.now) (front_body body_len slot.old.upstream.heard))
         body_len (pair_of slot.old))) }
     ensures number { slot.new.number ≡ slot.old.number }
 {
@@ -233,13 +224,9 @@ fn take_answer(
 
 // Looks at what the upstream sent; tells whether the pair stays open.
 #[tactic(auto, using(crate::proofs::LookLemmas::unasked_leaves, crate::proofs::LookLemmas::upstream_more, crate::proofs::LookLemmas::upstream_bad, crate::proofs::LookLemmas::upstream_whole))]
-fn look_at_upstream(
-    alloc: Global,
-    slot: &mut Slot,
-    listed: &BTreeSet<Vec<u8>>,
-) -> Result<bool, AllocError>
+fn look_at_upstream(alloc: Global, slot: &mut Slot, listed: &Listed) -> Result<bool, AllocError>
     ensures looked { IfOk result (λ stays. Leaves stays (pair_of slot.new)
-        (upstream_looked (blobs_of listed.now) (pair_of slot.old))) }
+        (upstream_looked (listed_of listed.now) (pair_of slot.old))) }
     ensures number { slot.new.number ≡ slot.old.number }
 {
     if is_quiet(slot.waits) {
@@ -254,13 +241,9 @@ fn look_at_upstream(
 
 // Looks at both sides, the client's first; tells whether the pair stays open.
 #[tactic(auto, using(crate::proofs::LookLemmas::then_stops, crate::proofs::LookLemmas::then_goes))]
-fn look_at_both(
-    alloc: Global,
-    slot: &mut Slot,
-    listed: &BTreeSet<Vec<u8>>,
-) -> Result<bool, AllocError>
+fn look_at_both(alloc: Global, slot: &mut Slot, listed: &Listed) -> Result<bool, AllocError>
     ensures looked { IfOk result (λ stays. Leaves stays (pair_of slot.new)
-        (and_then (client_looked (blobs_of listed.now) (pair_of slot.old)) (upstream_looked (blobs_of listed.now)))) }
+        (and_then (client_looked (listed_of listed.now) (pair_of slot.old)) (upstream_looked (listed_of listed.now)))) }
     ensures number { slot.new.number ≡ slot.old.number }
 {
     if !look_at_client(alloc, slot, listed)? {
@@ -286,9 +269,9 @@ fn give_back(slot: &mut Slot)
 
 // Looks at both sides, and gives a connection back that isn't needed; tells whether the pair stays open.
 #[tactic(auto, using(crate::proofs::LookLemmas::back_leaves))]
-fn look(alloc: Global, slot: &mut Slot, listed: &BTreeSet<Vec<u8>>) -> Result<bool, AllocError>
+fn look(alloc: Global, slot: &mut Slot, listed: &Listed) -> Result<bool, AllocError>
     ensures looked { IfOk result (λ stays. Leaves stays (pair_of slot.new)
-        (looked (blobs_of listed.now) (pair_of slot.old))) }
+        (looked (listed_of listed.now) (pair_of slot.old))) }
     ensures number { slot.new.number ≡ slot.old.number }
 {
     let stays = look_at_both(alloc, slot, listed)?;
@@ -310,12 +293,12 @@ fn link(slot: &mut Slot) -> bool
 fn hear(
     alloc: Global,
     slot: &mut Slot,
-    listed: &BTreeSet<Vec<u8>>,
+    listed: &Listed,
     side: Side,
     piece: &[u8],
 ) -> Result<bool, AllocError>
     ensures looked { IfOk result (λ stays. Leaves stays (pair_of slot.new)
-        (looked (blobs_of listed.now) (change_half side (heard_more piece.now) (pair_of slot.old)))) }
+        (looked (listed_of listed.now) (change_half side (heard_more piece.now) (pair_of slot.old)))) }
     ensures number { slot.new.number ≡ slot.old.number }
 {
     push(slot, side, piece)?;
@@ -326,13 +309,13 @@ fn hear(
 fn sent(
     alloc: Global,
     slot: &mut Slot,
-    listed: &BTreeSet<Vec<u8>>,
+    listed: &Listed,
     side: Side,
     count: usize,
 ) -> Result<bool, AllocError>
     requires { count ≤ length (half_of side (pair_of slot.old)).owed }
     ensures looked { IfOk result (λ stays. Leaves stays (pair_of slot.new)
-        (looked (blobs_of listed.now) (change_half side (sent_some count) (pair_of slot.old)))) }
+        (looked (listed_of listed.now) (change_half side (sent_some count) (pair_of slot.old)))) }
     ensures number { slot.new.number ≡ slot.old.number }
 {
     drop_sent(slot, side, count);
@@ -343,12 +326,12 @@ fn sent(
 pub fn tell(
     alloc: Global,
     slot: &mut Slot,
-    listed: &BTreeSet<Vec<u8>>,
+    listed: &Listed,
     event: &FilterEvent<'_>,
 ) -> Result<bool, AllocError>
     requires { FitsPair (happening event.now) (pair_of slot.old) }
     ensures looked { IfOk result (λ stays. Leaves stays (pair_of slot.new)
-        (told (happening event.now) (blobs_of listed.now) (pair_of slot.old))) }
+        (told (happening event.now) (listed_of listed.now) (pair_of slot.old))) }
     ensures number { slot.new.number ≡ slot.old.number }
 {
     match *event {

@@ -3,7 +3,7 @@ use Rattle.std.specs.List.{remove}
 use Rattle.filter_model.specs.Filters.{Numbered}
 use Rattle.filter_core.specs.Happenings.{happening}
 use Rattle.filter_core.specs.declared.slot.Slot.{Slot}
-use Rattle.filter_core.specs.Slots.{IsKept, blobs_of, pair_of, pairs_of}
+use Rattle.filter_core.specs.Slots.{IsKept, listed_of, pair_of, pairs_of}
 use Rattle.filter_core.proofs.SlotLemmas.{after_ok, found_slot, kept-put, kept-remove, kept_rising, put_slot, remove_put, state_of, tells_closed, tells_open, there_put}
 use Rattle.filter_core.proofs.filter.Filter.tell.Goals as goal
 
@@ -37,14 +37,14 @@ invariant_of-self-in-false c =
 pub returns-in-true : goal.returns-in-true
 returns-in-true c =
     let is = rw c.deref.ensures.value at c.in-Some.ensures in
-    rw (← c.self.view_is) (after_ok c.note_parted.result (λ noted. tells_open (blobs_of c.self.inside.listed) c.self.inside.slots.items c.self.inside.last c.self.inside.closed.items c.self.inside.parted.items c.note_parted.new.noted.items c.args.pair c.in-Some.place
+    rw (← c.self.view_is) (after_ok c.note_parted.result (λ noted. tells_open (listed_of c.self.inside.listed) c.self.inside.slots.items c.self.inside.last c.self.inside.closed.items c.self.inside.parted.items c.note_parted.new.noted.items c.args.pair c.in-Some.place
     (happening c.args.event.now) c.index_mut-slot.result.now c.tell.new.slot c.in_ok-tell-in-Some.field-0 is c.index_mut-slot.ensures.value c.tell.ensures.number
     c.in_ok-tell-in-Some.ensures.looked c.in-true.is (rw (← c.self.view_is) at c.requires.closes) (rw (← c.self.view_is) at c.requires.parts) noted) c.note_parted.ensures)
 
 pub returns-in-false : goal.returns-in-false
 returns-in-false c =
     let is = rw c.deref.ensures.value at c.in-Some.ensures in
-    let listed = blobs_of c.self.inside.listed in
+    let listed = listed_of c.self.inside.listed in
     let slots = c.self.inside.slots.items in
     let last = c.self.inside.last in
     let parts = c.self.inside.parted.items in
