@@ -3,3 +3,4 @@ pub mod Lists
 pub mod Moves
 pub mod Passing
 pub mod Program
+pub mod Purposes

@@ -1,11 +1,16 @@
-// The file of the list.
+// What the filter lets be used: the file of the list, and the purposes of the command line.
 ghost use Rattle.std.specs.Prelude.{◌≡◌, ℕ, List, Option, Some, Err, IfErr, MatchResult};
-ghost use Rattle.filter_core.specs.Slots.{blobs_of};
-ghost use Rattle.filter_top.specs.Program.{IsListEnd, IsListOf, IsReadAs, IsRefusedBy, IsUnread};
+ghost use Rattle.filter_core.specs.Slots.{blobs_of, listed_of};
+ghost use Rattle.filter_top.specs.Program.{IsEarlyEnd, IsListEnd, IsListOf, IsListed, IsReadAs, IsRefused, IsRefusedBy, IsUnread, texts_of};
+ghost use Rattle.filter_top.specs.Purposes.{purposes_named};
+ghost use Rattle.key_purposes.specs.declared.fault.PurposeFault.{PurposeFault};
 ghost use Rattle.filter_top.specs.declared.status.FilterStatus.TheVariants as status;
 
 use crate::list::{ListFault, read_list};
+use crate::purposes::read_given;
 use crate::status::FilterStatus;
+use crate::words::Words;
+use filter_core::Listed;
 use std::alloc::Global;
 use std::collections::BTreeSet;
 use world_ports::{FileFault, Files};
@@ -13,8 +18,29 @@ use world_ports::{FileFault, Files};
 /// The most bytes of a list.
 const LONGEST_LIST: u64 = 1_048_576;
 
+/// What the words and the file of the list let be used, or how the program ends without that. The words are read first.
+pub fn read_listed<F: Files>(
+    alloc: Global,
+    files: &mut F,
+    asked: &Words<'_>,
+) -> Result<Listed, FilterStatus>
+    ensures read { (held : List ℕ → Option (List ℕ)) → (F.seen files.old).held ≡ Some held
+        → MatchResult result
+        (λ listed. IsListed (held asked.now.list.now) (texts_of asked.now.purposes.now) (listed_of listed))
+        (λ status. IsRefused status (held asked.now.list.now) (texts_of asked.now.purposes.now)) }
+    ensures own { IfErr result (λ status. IsEarlyEnd status) }
+    ensures purpose { (fault : PurposeFault) → result ≡ Err (status.BadPurpose fault)
+        → (purposes_named (texts_of asked.now.purposes.now) ≡ Err fault) × (files.new ≡ files.old) }
+    ensures file { result ≡ Err status.FileFault
+        → IsUnread asked.now.list.now (F.seen files.old) (F.seen files.new) }
+{
+    let purposes = read_given(alloc, asked.purposes)?;
+    let blobs = read_blobs(alloc, files, asked.list)?;
+    Ok(Listed { blobs, purposes })
+}
+
 // The blobs of the keys of a file, or how the program ends without them.
-pub fn read_blobs<F: Files>(
+fn read_blobs<F: Files>(
     alloc: Global,
     files: &mut F,
     path: &str,

@@ -3,9 +3,10 @@ ghost use Rattle.std.specs.Prelude.{◌≡◌};
 ghost use Rattle.filter_top.specs.Codes.{code_of};
 
 use key_file::PubFault;
+use key_purposes::PurposeFault;
 use thiserror::Error;
 
-/// How a run of the filter ended, in words for whoever started it. The exit statuses are 0 to 6 in this order.
+/// How a run of the filter ended, in words for whoever started it. The exit statuses are 0 to 7 in this order.
 #[derive(Clone, Copy, Debug, PartialEq, Eq, Error)]
 pub enum FilterStatus {
     /// Nothing will become ready any more.
@@ -15,7 +16,7 @@ pub enum FilterStatus {
     #[error("line {line} of the list is refused: {}", told(.fault))]
     BadList { line: u64, fault: PubFault },
     /// The words are none that the program takes.
-    #[error("usage: filter_proxy LIST UPSTREAM PATH")]
+    #[error("usage: filter_proxy LIST UPSTREAM PATH [PURPOSE ...]")]
     Usage,
     /// The socket could not be bound.
     #[error("the socket could not be bound")]
@@ -29,6 +30,9 @@ pub enum FilterStatus {
     /// The list could not be read, or it is too long.
     #[error("the list could not be read, or has more than 1048576 bytes")]
     FileFault,
+    /// The words behind PATH name no purposes.
+    #[error("the purposes are refused: {}", why(.fault))]
+    BadPurpose { fault: PurposeFault },
 }
 
 // What a line's fault is.
@@ -39,6 +43,18 @@ fn told(fault: &PubFault) -> &'static str {
         PubFault::Key(_) => "no public key of a type that is known",
         PubFault::OtherType => "the key is of another type than its first word",
         PubFault::Memory => "out of memory",
+    }
+}
+
+// Why words name no purposes.
+fn why(fault: &PurposeFault) -> &'static str {
+    match fault {
+        PurposeFault::Missing => "there are none",
+        PurposeFault::Many => "there are more than 64",
+        PurposeFault::Long => "one has more than 255 bytes",
+        PurposeFault::Unknown => "each is login, sshsig:NAMESPACE, sshsig or other",
+        PurposeFault::Twice => "one is named twice",
+        PurposeFault::Memory => "out of memory",
     }
 }
 
@@ -55,6 +71,7 @@ impl FilterStatus {
             FilterStatus::PollFault => 4,
             FilterStatus::Memory => 5,
             FilterStatus::FileFault => 6,
+            FilterStatus::BadPurpose { .. } => 7,
         }
     }
 }

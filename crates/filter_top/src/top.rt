@@ -1,11 +1,14 @@
 // The program over any files and any pairs.
-ghost use Rattle.std.specs.Prelude.{◌≡◌, ◌≤◌, ℕ, List, Option, Some};
+ghost use Rattle.std.specs.Prelude.{◌≡◌, ◌≤◌, ℕ, Err, List, Option, Some};
+ghost use Rattle.filter_model.specs.Lists.{Listed};
+ghost use Rattle.key_purposes.specs.declared.fault.PurposeFault.{PurposeFault};
+ghost use Rattle.filter_top.specs.Purposes.{purposes_named};
 ghost use Rattle.filter_top.specs.Passing.{PassesExactly, ServesFairly};
-ghost use Rattle.filter_top.specs.Program.{Asked, IsAsked, IsListOf, IsUnread, IsUsage, Runs};
+ghost use Rattle.filter_top.specs.Program.{Asked, IsAsked, IsListed, IsUnread, IsUsage, Runs};
 ghost use Rattle.filter_top.specs.declared.status.FilterStatus.TheVariants as status;
 ghost use Rattle.world_ports.specs.Causes.{Rose};
 
-use crate::listed::read_blobs;
+use crate::listed::read_listed;
 use crate::serving::serve;
 use crate::status::FilterStatus;
 use crate::words::read_words;
@@ -15,12 +18,12 @@ use std::alloc::Global;
 use std::sync::Wait;
 use world_ports::Files;
 
-/// The program: `words` are those of the command line after the program's name, `LIST UPSTREAM PATH`.
+/// The program: `words` are those of the command line after the program's name, `LIST UPSTREAM PATH [PURPOSE ...]`.
 ///
 /// Reads the public keys of the file LIST, listens at PATH, and connects each client to an agent at UPSTREAM with a
-/// connection of its own, while it needs one: of its keys the client sees and uses only those of the list. With any
-/// other number of words it touches nothing. It ends only where a fault ends it, or where nothing will become ready any
-/// more.
+/// connection of its own, while it needs one: of its keys the client sees and uses only those of the list, and where
+/// purposes are named, only for these. With fewer words, and with words that name no purposes, it touches nothing. It ends
+/// only where a fault ends it, or where nothing will become ready any more.
 ///
 /// Of each client the agent behind is written, in order, the requests that may pass and no other, and the client one
 /// reply to each request that was taken, at most the last one missing; there are 64 connections to the agent behind at
@@ -38,15 +41,18 @@ pub fn filter_main<R: Wait, F: Files, P: Pairs>(
     ensures runs { (held : List ℕ → Option (List ℕ)) (asked : Asked) → IsAsked words.now asked
         → (F.seen files.old).held ≡ Some held
         → Runs held asked result (P.journal pairs.old) (P.journal pairs.new) }
-    ensures passes { (held : List ℕ → Option (List ℕ)) (asked : Asked) (listed : List (List ℕ)) → IsAsked words.now asked
-        → (F.seen files.old).held ≡ Some held → IsListOf (held asked.list) listed
+    ensures passes { (held : List ℕ → Option (List ℕ)) (asked : Asked) (listed : Listed) → IsAsked words.now asked
+        → (F.seen files.old).held ≡ Some held → IsListed (held asked.list) asked.purposes listed
         → PassesExactly listed asked (P.journal pairs.old) (P.journal pairs.new) }
-    ensures fair { (held : List ℕ → Option (List ℕ)) (asked : Asked) (listed : List (List ℕ)) → IsAsked words.now asked
-        → (F.seen files.old).held ≡ Some held → IsListOf (held asked.list) listed
+    ensures fair { (held : List ℕ → Option (List ℕ)) (asked : Asked) (listed : Listed) → IsAsked words.now asked
+        → (F.seen files.old).held ≡ Some held → IsListed (held asked.list) asked.purposes listed
         → ServesFairly listed asked (P.journal pairs.old) (P.journal pairs.new) }
     ensures usage { result ≡ status.Usage → IsUsage words.now }
     ensures refused { IsUsage words.now
         → (result ≡ status.Usage) × ((pairs.new ≡ pairs.old) × (files.new ≡ files.old)) }
+    ensures purpose { (asked : Asked) (fault : PurposeFault) → IsAsked words.now asked
+        → result ≡ status.BadPurpose fault
+        → (purposes_named asked.purposes ≡ Err fault) × ((pairs.new ≡ pairs.old) × (files.new ≡ files.old)) }
     ensures file { (asked : Asked) → IsAsked words.now asked → result ≡ status.FileFault
         → IsUnread asked.list (F.seen files.old) (F.seen files.new) }
     ensures bind { result ≡ status.BindFault → Rose (P.faults pairs.old) (P.faults pairs.new) }
@@ -56,9 +62,9 @@ pub fn filter_main<R: Wait, F: Files, P: Pairs>(
     let Some(asked) = read_words(words) else {
         return FilterStatus::Usage;
     };
-    match read_blobs(alloc, files, asked.list) {
-        Ok(blobs) => {
-            let mut filter = Filter::new(alloc, blobs);
+    match read_listed(alloc, files, &asked) {
+        Ok(listed) => {
+            let mut filter = Filter::new(alloc, listed);
             serve(rt, alloc, &mut filter, pairs, asked.path, asked.upstream)
         }
         Err(status) => status,

@@ -11,17 +11,20 @@ pub struct Words<'a> {
     pub upstream: &'a str,
     /// Where the filter is to listen.
     pub path: &'a str,
+    /// A word for each purpose that signatures may be for, and none where they may be for any.
+    pub purposes: &'a [String],
 }
 
-// Reads `LIST UPSTREAM PATH`.
+// Reads `LIST UPSTREAM PATH [PURPOSE ...]`.
 pub fn read_words(words: &[String]) -> Option<Words<'_>>
     ensures { option_map asked_of result ≡ asked_in (texts_of words.now) }
 {
     match words {
-        [list, upstream, path] => Some(Words {
+        [list, upstream, path, purposes @ ..] => Some(Words {
             list: list.as_str(),
             upstream: upstream.as_str(),
             path: path.as_str(),
+            purposes,
         }),
         _ => None,
     }

@@ -3,9 +3,9 @@ use Rattle.filter_model.specs.Filters.{State}
 use Rattle.filter_model.specs.Answered.{Binding, at}
 use Rattle.filter_model.specs.LegalPairs.{first_reading}
 use Rattle.filter_top.specs.Passing.{PassesExactly, ServesFairly}
-use Rattle.filter_core.specs.Slots.{blobs_of}
+use Rattle.filter_core.specs.Slots.{listed_of}
 use Rattle.filter_top.specs.declared.status.FilterStatus.{FilterStatus}
-use Rattle.filter_top.specs.Program.{Asked, IsListEnd, IsListOf, Runs, Serves, asked_in, asked_of, texts_of}
+use Rattle.filter_top.specs.Program.{Asked, IsEarlyEnd, IsListed, Runs, Serves, asked_in, asked_of, texts_of}
 use Rattle.filter_top.proofs.TopLemmas.{asked_once, calls_of, ends_before, ends_with, fair_by, no_calls, passes_by}
 use Rattle.filter_top.proofs.top.filter_main.Goals as goal
 
@@ -14,7 +14,7 @@ returns-in-Ok-clause-runs g c = λ held asked words told.
     let read = asked_of c.in-Some.asked in
     let same = asked_once read asked (asked_in (texts_of c.args.words.now)) c.in-Some.ensures words in
     subst (λ (a : Asked). Runs held a c.serve.result (g.P.Pairs.journal c.args.pairs.now) (g.P.Pairs.journal c.serve.new.pairs)) same
-    (ends_with held read (blobs_of c.in-Ok.blobs) c.serve.result (g.P.Pairs.journal c.args.pairs.now) (g.P.Pairs.journal c.serve.new.pairs)
+    (ends_with held read (listed_of c.in-Ok.listed) c.serve.result (g.P.Pairs.journal c.args.pairs.now) (g.P.Pairs.journal c.serve.new.pairs)
     (c.in-Ok.ensures.read held told)
     (subst (λ (s : State). Serves c.serve.result (at s [] (Binding read.path read.upstream)) (g.P.Pairs.journal c.args.pairs.now) (g.P.Pairs.journal c.serve.new.pairs)) c.new-filter.ensures c.serve.ensures.serves))
 
@@ -26,13 +26,13 @@ returns-in-Err-clause-runs g c = λ held asked words told.
     (ends_before held read c.in-Err.status (g.P.Pairs.journal c.args.pairs.now) (c.in-Err.ensures.read held told))
 
 pub returns-in-Err-clause-usage : goal.returns-in-Err-clause-usage
-returns-in-Err-clause-usage g c = λ is. absurd (subst (λ (s : FilterStatus). IsListEnd s) is c.in-Err.ensures.own)
+returns-in-Err-clause-usage g c = λ is. absurd (subst (λ (s : FilterStatus). IsEarlyEnd s) is c.in-Err.ensures.own)
 
 pub returns-in-Err-clause-bind : goal.returns-in-Err-clause-bind
-returns-in-Err-clause-bind g c = λ is. absurd (subst (λ (s : FilterStatus). IsListEnd s) is c.in-Err.ensures.own)
+returns-in-Err-clause-bind g c = λ is. absurd (subst (λ (s : FilterStatus). IsEarlyEnd s) is c.in-Err.ensures.own)
 
 pub returns-in-Err-clause-poll : goal.returns-in-Err-clause-poll
-returns-in-Err-clause-poll g c = λ is. absurd (subst (λ (s : FilterStatus). IsListEnd s) is c.in-Err.ensures.own)
+returns-in-Err-clause-poll g c = λ is. absurd (subst (λ (s : FilterStatus). IsEarlyEnd s) is c.in-Err.ensures.own)
 
 pub returns-in-Ok-clause-passes : goal.returns-in-Ok-clause-passes
 returns-in-Ok-clause-passes g c = λ held asked listed words told is.
@@ -40,8 +40,8 @@ returns-in-Ok-clause-passes g c = λ held asked listed words told is.
     let same = asked_once read asked (asked_in (texts_of c.args.words.now)) c.in-Some.ensures words in
     subst (λ (a : Asked). PassesExactly listed a (g.P.Pairs.journal c.args.pairs.now) (g.P.Pairs.journal c.serve.new.pairs)) same
     (passes_by listed read (g.P.Pairs.journal c.args.pairs.now) (g.P.Pairs.journal c.serve.new.pairs)
-    (calls_of (held read.list) listed (blobs_of c.in-Ok.blobs) read c.serve.result (g.P.Pairs.journal c.args.pairs.now) (g.P.Pairs.journal c.serve.new.pairs)
-    (subst (λ (a : Asked). IsListOf (held a.list) listed) (sym same) is) (c.in-Ok.ensures.read held told)
+    (calls_of (held read.list) listed (listed_of c.in-Ok.listed) read c.serve.result (g.P.Pairs.journal c.args.pairs.now) (g.P.Pairs.journal c.serve.new.pairs)
+    (subst (λ (a : Asked). IsListed (held a.list) a.purposes listed) (sym same) is) (c.in-Ok.ensures.read held told)
     (subst (λ (s : State). Serves c.serve.result (at s [] (Binding read.path read.upstream)) (g.P.Pairs.journal c.args.pairs.now) (g.P.Pairs.journal c.serve.new.pairs)) c.new-filter.ensures c.serve.ensures.serves)))
 
 pub returns-in-Ok-clause-fair : goal.returns-in-Ok-clause-fair
@@ -50,8 +50,8 @@ returns-in-Ok-clause-fair g c = λ held asked listed words told is.
     let same = asked_once read asked (asked_in (texts_of c.args.words.now)) c.in-Some.ensures words in
     subst (λ (a : Asked). ServesFairly listed a (g.P.Pairs.journal c.args.pairs.now) (g.P.Pairs.journal c.serve.new.pairs)) same
     (fair_by listed read (g.P.Pairs.journal c.args.pairs.now) (g.P.Pairs.journal c.serve.new.pairs)
-    (calls_of (held read.list) listed (blobs_of c.in-Ok.blobs) read c.serve.result (g.P.Pairs.journal c.args.pairs.now) (g.P.Pairs.journal c.serve.new.pairs)
-    (subst (λ (a : Asked). IsListOf (held a.list) listed) (sym same) is) (c.in-Ok.ensures.read held told)
+    (calls_of (held read.list) listed (listed_of c.in-Ok.listed) read c.serve.result (g.P.Pairs.journal c.args.pairs.now) (g.P.Pairs.journal c.serve.new.pairs)
+    (subst (λ (a : Asked). IsListed (held a.list) a.purposes listed) (sym same) is) (c.in-Ok.ensures.read held told)
     (subst (λ (s : State). Serves c.serve.result (at s [] (Binding read.path read.upstream)) (g.P.Pairs.journal c.args.pairs.now) (g.P.Pairs.journal c.serve.new.pairs)) c.new-filter.ensures c.serve.ensures.serves)))
 
 pub returns-in-Err-clause-passes : goal.returns-in-Err-clause-passes
