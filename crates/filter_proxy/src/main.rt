@@ -1,6 +1,7 @@
-//! A filter before an SSH agent. `filter_proxy LIST UPSTREAM PATH` listens at PATH, and lets its clients see and use, of
-//! the keys that the agent at UPSTREAM holds, those alone whose public keys stand in the file LIST. `filter_main` of
-//! filter_top is the program; here are its words, its file and its sockets, and what it says on standard error.
+//! A filter before an SSH agent. `filter_proxy LIST UPSTREAM PATH [PURPOSE ...]` listens at PATH, and lets its clients see
+//! and use, of the keys that the agent at UPSTREAM holds, those alone whose public keys stand in the file LIST, and where
+//! purposes are named for these alone. `filter_main` of filter_top is the program; here are its words, its file and its
+//! sockets, and what it says on standard error.
 #![tactic(auto)]
 
 use filter_top::{FilterStatus, filter_main};

@@ -77,11 +77,15 @@ fn deeds_of(alloc: Global, journal: &[PairEntry]) -> Result<String, AllocError> 
     Ok(deeds)
 }
 
-/// What the filter does over pairs that play these turns, where the list has the first key alone. The call of this number
-/// fails, none where it is 0. A deed is a line: `PAIR SIDE BYTES` for bytes that a
+/// The words of a filter without purposes.
+pub const PLAIN: &[&str] = &["list", "agent.sock", "filter.sock"];
+
+/// What the filter does by its words over pairs that play these turns, where the list has the first key alone. The call of
+/// this number fails, none where it is 0. A deed is a line: `PAIR SIDE BYTES` for bytes that a
 /// side took, `connect PAIR`, `part PAIR` or `close PAIR`.
 #[derive(Clone, Copy)]
 pub struct Run<'a> {
+    pub words: &'a [&'a str],
     pub failing: u64,
     pub status: FilterStatus,
     pub deeds: &'a str,
@@ -90,7 +94,7 @@ pub struct Run<'a> {
 
 /// Plays the turns.
 pub fn plays<R: Abort + Wait>(rt: &R, alloc: Global, turns: Vec<Vec<PairCue>>, run: &Run<'_>) {
-    let words = texts(alloc, &["list", "agent.sock", "filter.sock"]).expect(rt, "words");
+    let words = texts(alloc, run.words).expect(rt, "words");
     let failing = Vec::from_slice(alloc, &[run.failing]).expect(rt, "the failing call");
     let mut files = files_of(alloc, LISTED).expect(rt, "files");
     let mut pairs = PairScript::new(alloc, turns, failing);

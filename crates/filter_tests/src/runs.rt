@@ -1,7 +1,9 @@
 //! Whole runs, whose deeds are written out by hand.
-use crate::fixtures::{BIND, BOTH, LIST, REMOVE_ALL, SIGN_FIRST, SIGN_SECOND, SIGNED};
-use crate::play::{Run, plays, sends};
-use filter_top::{FilterStatus, Side};
+use crate::fixtures::{
+    BIND, BOTH, LIST, REMOVE_ALL, SIGN_COMMIT, SIGN_FIRST, SIGN_LOGIN, SIGN_SECOND, SIGNED,
+};
+use crate::play::{PLAIN, Run, plays, sends};
+use filter_top::{FilterStatus, PurposeFault, Side};
 use pair_script::PairCue;
 use plain_lists::Bytes;
 use std::alloc::Global;
@@ -31,6 +33,7 @@ fn a_list(alloc: Global) -> Result<Vec<Vec<PairCue>>, Fail> {
 fn a_list_is_cut_to_the_listed_keys(rt: HostRuntime) -> Result<(), Fail> {
     let alloc = rt.alloc();
     let run = Run {
+        words: PLAIN,
         failing: 0,
         status: FilterStatus::Done,
         deeds: ANSWERED,
@@ -72,6 +75,7 @@ fn each_failing_call_has_its_end(rt: HostRuntime) -> Result<(), Fail> {
     ];
     for (failing, status, deeds) in cases {
         let run = Run {
+            words: PLAIN,
             failing,
             status,
             deeds,
@@ -112,6 +116,7 @@ fn other_keys_are_refused_and_nothing_overtakes(rt: HostRuntime) -> Result<(), F
         vec![in alloc; room(100), answered]?,
     ]?;
     let run = Run {
+        words: PLAIN,
         failing: 0,
         status: FilterStatus::Done,
         deeds: "1 client 0000000105\n1 client 0000000105\nconnect 1\n\
@@ -138,6 +143,7 @@ fn a_pair_is_closed_where_its_agent_leaves(rt: HostRuntime) -> Result<(), Fail> 
         vec![in alloc; ends]?,
     ]?;
     let run = Run {
+        words: PLAIN,
         failing: 0,
         status: FilterStatus::Done,
         deeds: "connect 1\n1 upstream 000000500d00000040000000186b657965642d736861323536406578616d706c652e636f6d\
@@ -166,6 +172,7 @@ fn pairs_are_served_in_their_turn(rt: HostRuntime) -> Result<(), Fail> {
         ]?,
     ]?;
     let run = Run {
+        words: PLAIN,
         failing: 0,
         status: FilterStatus::Done,
         deeds: "connect 1\n2 client 0000000105\nconnect 3\n1 upstream 000000010b\n\
@@ -193,6 +200,7 @@ fn a_pair_alone_is_closed(rt: HostRuntime) -> Result<(), Fail> {
         vec![in alloc; sends(alloc, 2, Side::Upstream, "000000010500")?]?,
     ]?;
     let run = Run {
+        words: PLAIN,
         failing: 0,
         status: FilterStatus::Done,
         deeds: "connect 2\nclose 3\n1 client 0000000105\n2 upstream 000000010b\nclose 2\n",
@@ -223,6 +231,7 @@ fn who_finds_no_place_waits_and_who_is_bound_stays(rt: HostRuntime) -> Result<()
         vec![in alloc; sends(alloc, 1, Side::Client, LIST)?]?,
     ]?;
     let run = Run {
+        words: PLAIN,
         failing: 0,
         status: FilterStatus::Done,
         deeds: "connect 1\n1 upstream 0000002b1b0000001873657373696f6e2d62696e64406f70656e7373682e636f6d\
@@ -231,5 +240,76 @@ fn who_finds_no_place_waits_and_who_is_bound_stays(rt: HostRuntime) -> Result<()
         label: "a bind that waits",
     };
     plays(&rt, alloc, turns, &run);
+    Ok(())
+}
+
+// A client asks for this.
+fn a_request(alloc: Global, request: &str) -> Result<Vec<Vec<PairCue>>, Fail> {
+    let asked = sends(alloc, 1, Side::Client, request)?;
+    Ok(vec![in alloc; vec![in alloc; PairCue::Connect]?, vec![in alloc; asked]?]?)
+}
+
+// The words of a filter for commits, and for logins.
+const FOR_GIT: &[&str] = &["list", "agent.sock", "filter.sock", "sshsig:git"];
+
+const FOR_LOGINS: &[&str] = &["list", "agent.sock", "filter.sock", "login"];
+
+const REFUSED: &str = "1 client 0000000105\n";
+
+#[test]
+fn what_is_for_no_purpose_is_refused(rt: HostRuntime) -> Result<(), Fail> {
+    let alloc = rt.alloc();
+    let cases = [
+        (FOR_GIT, SIGN_LOGIN, "a login where it is for commits"),
+        (FOR_GIT, SIGN_FIRST, "other data where it is for commits"),
+        (FOR_LOGINS, SIGN_COMMIT, "a commit where it is for logins"),
+    ];
+    for (words, request, label) in cases {
+        let run = Run {
+            words,
+            failing: 0,
+            status: FilterStatus::Done,
+            deeds: REFUSED,
+            label,
+        };
+        plays(&rt, alloc, a_request(alloc, request)?, &run);
+    }
+    Ok(())
+}
+
+#[test]
+fn what_is_for_a_purpose_is_passed_on(rt: HostRuntime) -> Result<(), Fail> {
+    let alloc = rt.alloc();
+    let cases = [
+        (FOR_GIT, SIGN_COMMIT, "a commit"),
+        (FOR_LOGINS, SIGN_LOGIN, "a login"),
+    ];
+    for (words, request, label) in cases {
+        let deeds = format!(in alloc; "connect 1\n1 upstream {request}\n")?;
+        let run = Run {
+            words,
+            failing: 0,
+            status: FilterStatus::Done,
+            deeds: deeds.as_str(),
+            label,
+        };
+        plays(&rt, alloc, a_request(alloc, request)?, &run);
+    }
+    Ok(())
+}
+
+#[test]
+fn words_that_are_no_purposes_are_refused(rt: HostRuntime) -> Result<(), Fail> {
+    let alloc = rt.alloc();
+    let run = Run {
+        words: &["list", "agent.sock", "filter.sock", "login", "git"],
+        failing: 0,
+        status: FilterStatus::BadPurpose {
+            fault: PurposeFault::Unknown,
+        },
+        deeds: "",
+        label: "an unknown word",
+    };
+    plays(&rt, alloc, a_list(alloc)?, &run);
     Ok(())
 }
