@@ -1,0 +1,196 @@
+#!/usr/bin/env python3
+"""`log_prog` and `mortarleek log` over literal records and over one that `agent_prog serve --record` made with OpenSSH's
+clients: a login and signatures for files are told with their keys, host and fates, and a refusal too."""
+
+import json
+import os
+import pathlib
+import shutil
+import subprocess
+import sys
+import time
+
+sys.dont_write_bytecode = True
+
+import rig
+from hosts import SSHD, USER, Hosts, keygen
+from rig import our_agent, run, until
+
+sys.path.insert(0, str(rig.TOP))
+from model.rows_log import ROWS
+
+check = rig.Checks("log")
+AGENT = rig.agent_program()
+LOG = pathlib.Path(os.environ.get("LOG", rig.BUILT / "log_prog"))
+
+
+def logged(*words):
+    """What a log prints, its status, and what it says on standard error."""
+    done = subprocess.run(
+        [str(rig.there(LOG)), *map(str, words)], stdout=subprocess.PIPE, stderr=subprocess.PIPE, timeout=120
+    )
+    return done.stdout.decode(), done.returncode, done.stderr.decode()
+
+
+def shown(key):
+    return run(["ssh-keygen", "-l", "-E", "sha256", "-f", f"{key}.pub"]).split(" ")[1]
+
+
+class Front:
+    """`mortarleek log` in a folder with log_prog, and a home of its own."""
+
+    def __init__(self, folder):
+        self.folder = folder / "front"
+        (self.folder / ".ssh").mkdir(parents=True)
+        rig.lay_scripts(self.folder)
+        shutil.copy(rig.there(LOG), self.folder / "log_prog")
+        self.words = [str(self.folder / "mortarleek"), "log"]
+        self.env = os.environ | {"HOME": str(self.folder), "TZ": "UTC"}
+
+    def told(self, *words, status=0):
+        done = subprocess.run(
+            [*self.words, *map(str, words)], env=self.env, stdout=subprocess.PIPE, stderr=subprocess.PIPE, timeout=60
+        )
+        assert done.returncode == status, (words, done.returncode, done.stderr)
+        return done.stdout.decode().splitlines()
+
+
+@check
+def literal_records_are_told(folder):
+    for number, row in enumerate(ROWS):
+        place = folder / str(number)
+        place.mkdir()
+        for name, text in row.files.items():
+            (place / name).write_bytes(text)
+        words = [place / word if word in ("r", "none") else word for word in row.words]
+        printed, status, said = logged(*words)
+        assert (printed, status) == (row.printed.decode(), row.status), row.name
+        is_cut = any(text and not text.endswith(b"\n") for text in row.files.values())
+        assert len(said.splitlines()) == (status != 0 or is_cut), (row.name, said)
+
+
+def without_times(lines):
+    """The lines without their seconds, which are of the last minutes."""
+    for line in lines:
+        then = time.strptime(line[:20], "%Y-%m-%dT%H:%M:%SZ")
+        assert -2 < time.time() - (time.mktime(then) - time.timezone) < 600, line
+    return [line[20:] for line in lines]
+
+
+@check
+def what_real_clients_had_signed_is_told(folder):
+    key, other = keygen(folder / "id"), keygen(folder / "other")
+    hosts = Hosts(folder, "gate") if os.path.exists(SSHD) else None
+    with open(folder / "record", "wb") as file:
+        agent = our_agent(AGENT, folder, "--record", stdout=file)
+    agent.run("ssh-add", "-q", key, other)
+    wanted = []
+    if hosts:
+        hosts.authorized.write_text(pathlib.Path(f"{key}.pub").read_text())
+        agent.run("ssh", "-F", hosts.config, "gate", "true")
+        host = shown(folder / "host_gate")
+        wanted.append(f'  login as "{USER}" to {host}  key "id" {shown(key)}  signed')
+    for name in ("git", "file"):
+        (folder / "text").write_text("a text to be signed\n")
+        agent.run("ssh-keygen", "-q", "-Y", "sign", "-n", name, "-f", f"{other}.pub", folder / "text")
+        (folder / "text.sig").unlink()
+        wanted.append(f'  file in namespace "{name}"  key "other" {shown(other)}  signed')
+    agent.run("ssh-add", "-q", "-d", other)
+    agent.run("ssh-keygen", "-q", "-Y", "sign", "-n", "file", "-f", f"{other}.pub", folder / "text", status=None)
+    wanted.append(f'  file in namespace "file"  key "other" {shown(other)}  refused')
+    agent.end()
+    printed, status, said = logged(folder / "record")
+    assert (status, said) == (0, ""), (status, said)
+    assert without_times(printed.splitlines()) == wanted, printed
+    # An audit lists the same signatures, in this order.
+    record = (folder / "record").read_bytes()
+    deeds = subprocess.run([str(AGENT), "replay"], input=record, stdout=subprocess.PIPE, check=True).stdout
+    (folder / "deeds").write_bytes(deeds)
+    report = run([rig.built("audit_prog"), folder / "record", folder / "deeds"]).splitlines()
+    assert report[-1] == f"yes {sum(line.endswith('  signed') for line in wanted)}", report
+    # Wherever the record is cut, what was told before is told first, as far as it has a fate.
+    lines = printed.splitlines()
+    for end in range(0, len(record), max(1, len(record) // 40)):
+        (folder / "cut").write_bytes(record[:end])
+        told, status, said = logged(folder / "cut")
+        fates = [line for line in told.splitlines() if not line.endswith("  no answer yet")]
+        assert status == 0 and fates == lines[: len(fates)], (end, told)
+        assert bool(said) == (end > 0 and record[end - 1 : end] != b"\n"), (end, said)
+    if hosts:
+        names_are_those_of_known_hosts(folder, printed, hosts)
+
+
+def names_are_those_of_known_hosts(folder, printed, hosts):
+    front = Front(folder)
+    login = printed.splitlines()[0]
+    key = " ".join(pathlib.Path(folder / "host_gate.pub").read_text().split(" ")[:2])
+    known = front.folder / ".ssh/known_hosts"
+    assert " (" not in front.told(folder / "record")[0]
+    known.write_text(f"gate.example.org,192.0.2.1 {key}\n")
+    told = front.told(folder / "record")[0]
+    host = shown(folder / "host_gate")
+    assert told[19:] == login[20:].replace(host, f"{host} (gate.example.org,192.0.2.1)"), told
+    assert told[:19] == f"{login[:10]} {login[11:19]}", told
+    run(["ssh-keygen", "-q", "-H", "-f", known])
+    assert " (" not in front.told(folder / "record")[0]
+    assert f"{host} (gate.example.org)  key" in front.told("--host", "gate.example.org", folder / "record")[0]
+
+
+@check
+def lines_are_chosen_and_told_as_objects(folder):
+    front = Front(folder)
+    row = next(row for row in ROWS if row.name == "what was told before it is told")
+    (folder / "r").write_bytes(row.files["r"])
+    lines = front.told(folder / "r", status=4)
+    assert [line[19:] for line in lines] == [line[20:] for line in row.printed.decode().splitlines()]
+    assert front.told("--key", "one", folder / "r", status=4) == lines
+    assert front.told("--key", "two", folder / "r", status=4) == []
+    assert front.told("--key", lines[0].split(" ")[10], folder / "r", status=4) == lines
+    assert front.told("--since", "1970-01-01 00:00:01Z", folder / "r", status=4) == []
+    assert front.told("--since", "1970-01-01 00:00:00Z", folder / "r", status=4) == lines
+    first = json.loads(front.told("--json", folder / "r", status=4)[0])
+    wanted = {"time": "1970-01-01T00:00:00Z", "for": "other", "bytes": 3, "comment": "one"}
+    assert first == wanted | {"key": lines[0].split(" ")[10], "fate": "signed"}, first
+    for words in ([], ["-x", "r"], ["r", "r"], ["--key"], ["--since", "never", "r"]):
+        front.told(*words, status=2)
+    front.told(folder / "none", status=3)
+
+
+@check
+def texts_that_others_chose_stay_in_their_line(folder):
+    front = Front(folder)
+    for row in ROWS:
+        if row.files.get("r") and len(row.words) == 1:
+            (folder / "r").write_bytes(row.files["r"])
+            lines = front.told(folder / "r", status=row.status)
+            assert len(lines) == row.printed.count(b"\n"), row.name
+            for line in front.told("--json", folder / "r", status=row.status):
+                told = json.loads(line)
+                assert told["fate"] in row.printed.decode(), row.name
+
+
+@check
+def a_record_that_grows_is_followed(folder):
+    front = Front(folder)
+    row = next(row for row in ROWS if row.name == "a signature")
+    lines = row.files["r"].splitlines(keepends=True)
+    (folder / "r").write_bytes(b"".join(lines[:-1]) + lines[-1][:4])
+    with open(folder / "told", "wb") as file:
+        process = subprocess.Popen([*front.words, "-f", folder / "r"], env=front.env, stdout=file, stderr=file)
+    try:
+        time.sleep(2)
+        assert (folder / "told").read_bytes() == b""
+        with open(folder / "r", "ab") as record:
+            record.write(lines[-1][4:])
+        until(lambda: (folder / "told").read_text().endswith("  signed\n"), what="the line")
+        with open(folder / "r", "ab") as record:
+            record.write(b"end 7\n")
+        assert process.wait(20) == 4
+        assert (folder / "told").read_text().splitlines()[1].endswith("of the record is refused")
+    finally:
+        process.kill()
+        process.wait()
+
+
+if __name__ == "__main__":
+    sys.exit(check.main(LOG))
