@@ -35,12 +35,15 @@ def listening(path):
         return peer.connect_ex(str(path)) == 0
 
 
-def filtered(folder, upstream, text, name="filter", **more):
-    """A filter before the agent at a path, with the lines of its list."""
+def filtered(folder, upstream, text, name="filter", purposes=(), **more):
+    """A filter before the agent at a path, with the lines of its list, and for these purposes where there are any."""
     keys, path = folder / f"{name}.keys", folder / f"{name}.sock"
     keys.write_text(text)
     process = subprocess.Popen(
-        [rig.there(PROGRAM), keys, upstream, path], stdin=subprocess.DEVNULL, stdout=subprocess.DEVNULL, **more
+        [rig.there(PROGRAM), keys, upstream, path, *purposes],
+        stdin=subprocess.DEVNULL,
+        stdout=subprocess.DEVNULL,
+        **more,
     )
     until(lambda: process.poll() is not None or listening(path), what="the filter's socket")
     assert process.poll() is None, f"the filter ended with status {process.returncode}"
@@ -146,6 +149,46 @@ def what_ssh_add_does_through_it(folder):
             assert agent.run("ssh-add", "-L") == both
         with filtered(folder, agent.path, "") as before:
             assert "no identities" in before.run("ssh-add", "-l", status=1)
+
+
+def shown(key):
+    """The public key alone, in a folder of its own: what signs with it has to ask an agent."""
+    place = pathlib.Path(f"{key}.shown")
+    place.mkdir(exist_ok=True)
+    return shutil.copy(f"{key}.pub", place / "key.pub")
+
+
+def commits(folder, agent, key):
+    """Whether git signs a commit with a key that the agent has."""
+    place = folder / f"git of {os.path.basename(agent.path)}"
+    settings = ["user.name=me", "user.email=me@example.org", "gpg.format=ssh", f"user.signingkey={shown(key)}"]
+    git = ["git", "-C", place, *(word for setting in settings for word in ("-c", setting))]
+    agent.run("git", "init", "-q", place)
+    words = [str(word) for word in (*git, "commit", "-q", "-S", "--allow-empty", "-m", "signed")]
+    quiet = dict.fromkeys(("stdin", "stdout", "stderr"), subprocess.DEVNULL)
+    return subprocess.run(words, env=agent.environment, timeout=60, **quiet).returncode == 0
+
+
+def is_for(folder, words, commit, login):
+    """What a listed key may do through a filter for some purposes; the agent behind would do both."""
+    with Hosts(folder, "one") as hosts:
+        for agent, keys in each_with_two(folder):
+            hosts.allow(keys[0])
+            logs_in = lambda agent: hosts.ssh(agent, "one", "echo in") == (0, "in\n")
+            with filtered(folder, agent.path, public(keys[0]), purposes=words) as before:
+                assert before.run("ssh-add", "-L") == public(keys[0])
+                assert (commits(folder, before, keys[0]), logs_in(before)) == (commit, login), words
+            assert commits(folder, agent, keys[0]) and logs_in(agent)
+
+
+@check
+def a_key_for_git_signs_a_commit_and_logs_in_nowhere(folder):
+    is_for(folder, ["sshsig:git"], True, False)
+
+
+@check
+def a_key_for_logins_signs_no_commit(folder):
+    is_for(folder, ["login"], False, True)
 
 
 @check
@@ -438,8 +481,18 @@ def words_lists_and_sockets_that_are_refused(folder):
     key = keygen(folder / "key")
     with openssh_agent(folder, stderr=subprocess.DEVNULL) as agent:
         program, path, keys = rig.there(PROGRAM), folder / "refused.sock", folder / "keys"
-        for words in ([], [keys], [keys, agent.path], [keys, agent.path, path, path]):
+        for words in ([], [keys], [keys, agent.path]):
             assert "usage" in run([program, *words], 2)
+        # Purposes are read before the list.
+        for words, why in (
+            (["git"], "each is login"),
+            ([""], "each is login"),
+            (["sshsig:"], "each is login"),
+            (["login", "login"], "twice"),
+            (["sshsig:" + "n" * 249], "255 bytes"),
+            ([f"sshsig:{number}" for number in range(65)], "more than 64"),
+        ):
+            assert why in run([program, keys, agent.path, path, *words], 7), words
         assert "could not be read" in run([program, keys, agent.path, path], 6)
         keys.write_bytes(b"\n" * 1048577)
         run([program, keys, agent.path, path], 6)
@@ -665,10 +718,54 @@ def keys_are_named_by_pipes_fingerprints_and_comments(folder):
         until(front.is_clean, what="an empty folder")
 
 
+# Namespaces, and the words by which a signature in each is made.
+NAMESPACES = ("git", "file", "my own")
+WORDS = {
+    "git": ("git",),
+    "git,file": ("git", "file"),
+    "sshsig:my own": ("my own",),
+    "sshsig:git,sshsig:my own": ("git", "my own"),
+    "sshsig": NAMESPACES,
+    "all": NAMESPACES,
+    "login,other": (),
+}
+
+
+@check
+def the_front_end_lets_keys_sign_for_the_words_that_it_is_given(folder):
+    place = home(folder)
+    path = place / "some.sock"
+    with front_and_three_keys(folder) as (front, agent, keys):
+        named, signs = ("-k", keys[0]), ("ssh-keygen", "-q", "-Y", "sign", "-f", shown(keys[0]), "-n")
+        for words, signed in WORDS.items():
+            for namespace in NAMESPACES:
+                status = 0 if namespace in signed else 255
+                front.run(agent, *named, "--sign-only", words, *signs, namespace, status=status, input="text")
+        front.run(agent, "--sign-only=file", *named, *signs, "file", input="text")
+        front.run(agent, "--sign-only", "git", *named, "--sign-only", "file", *signs, "git", input="text")
+        front.run(agent, "-a", path, *named, "--sign-only", "sshsig:my own")
+        for namespace in NAMESPACES:
+            status, behind = 0 if namespace == "my own" else 255, dict(front.environment, SSH_AUTH_SOCK=str(path))
+            run([*signs, namespace], status, env=behind, input="text")
+        assert "usage" in front.run(agent, "--end", "-a", path, "--sign-only", "git", status=1)
+        front.run(agent, "--end", "-a", path)
+        for words, why in (
+            (["--sign-only"], "wants words"),
+            (["--sign-only", "", "true"], "a word is empty"),
+            (["--sign-only", "git,,file", "true"], "a word is empty"),
+            (["--sign-only", "git\nfile", "true"], "control characters"),
+            (["--sign-only", "gti", "true"], "each is login"),
+            (["--sign-only", "git,sshsig:git", "true"], "twice"),
+            (["--sign", "git", "true"], "usage"),
+        ):
+            assert why in front.run(agent, *named, *words, status=1), words
+        until(front.is_clean, what="an empty folder")
+
+
 if __name__ == "__main__":
     try:
         rig.there(PROGRAM)
-        rig.built("mortarleek-helper")
+        rig.built("mortarleek_signer")
         rig.install("filter")
     except rig.Skip as reason:
         print(f"filter: not run: {reason}")

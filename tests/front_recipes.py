@@ -150,6 +150,29 @@ def a_host_gets_the_key_of_a_socket_that_stays(folder):
 
 
 @check
+def a_host_signs_commits_with_a_key_and_logs_in_nowhere(folder):
+    start, lines = recipe("A host that signs commits and logs in nowhere")
+    with Home(folder) as home, Hosts(folder, "build", "two") as hosts:
+        key = keygen(home.home / ".ssh/id_ed25519", comment="me@example.org")
+        hosts.allow(key)
+        shutil.copy(rig.built("filter_proxy"), home.installed.prefix / "libexec/mortarleek")
+        home.with_ours("mortarleek add -q ~/.ssh/id_ed25519")
+        home.with_ours(start)
+        file = home.config(hosts, lines)
+        shown = shutil.copy(f"{key}.pub", folder / "shown.pub")
+        settings = ("user.name=me", "user.email=me@example.org", "gpg.format=ssh", f"user.signingkey={shown}")
+        git = " ".join(f"-c {setting}" for setting in settings)
+        place = folder / "repository"
+        commit = f"git init -q {place} && git -C {place} {git} commit -q -S --allow-empty -m signed"
+        assert home.with_ours(f"ssh -F {file} build '{commit}; echo $?'") == "0\n"
+        only = f"ssh -F {hosts.config} -o IdentitiesOnly=yes -i {shown} two 'echo in; exit 3'"
+        assert "in\n" not in home.with_ours(f'ssh -F {file} build "{only}"', 255)
+        # The owner's own logins are as ever.
+        assert home.with_ours(f"ssh -F {file} two echo in") == "in\n"
+        home.with_ours('mortarleek filter --end -a "$XDG_RUNTIME_DIR/git.sock"')
+
+
+@check
 def a_deployment_s_key_stands_in_no_file(folder):
     (line,) = recipe("Deployments")
     with Home(folder) as home, Hosts(folder, "forge") as hosts:
