@@ -1,9 +1,9 @@
-# make            proves each crate, a line for each, and builds the programs into bin/, mortarleek-helper too where it can
+# make            proves each crate, a line for each, and builds the programs into bin/
 # make demo       shows the agent at work with OpenSSH's tools, built without proofs where it isn't proved yet
 # make check      proves and tests everything: the gate, .ci/run
 # make nightly    what takes hours: .ci/nightly
 # make bench      measures, beside other programs of the same machine
-# make helper     builds the helper that signs with other keys, which isn't proved, or says which packages it wants
+# make helper     builds mortarleek-helper, a second helper that signs, which isn't proved, with the packages that it wants
 # make install    copies what was built to $(DESTDIR)$(PREFIX), with manuals, completions and a systemd unit
 # make uninstall  removes what that copied
 # make deb        builds a Debian package of it, in bin/
@@ -15,19 +15,14 @@ PROGRAMS := $(patsubst crates/%/src/main.rt,%,$(wildcard crates/*/src/main.rt))
 INSTALLED := agent_prog
 SOURCES := crates.txt $(shell find crates -name out -prune -o \( -name '*.rt' -o -name '*.antt' \) -print)
 
-.PHONY: all toolchain packages proofs version helper demo check nightly bench install uninstall deb picture clean
+.PHONY: all toolchain proofs version helper demo check nightly bench install uninstall deb picture clean
 # scripts/prove does side by side what can be done so.
 .NOTPARALLEL:
 
-# What is missing is told before the first proof. Without its packages mortarleek-helper isn't built.
-all: toolchain packages proofs $(PROGRAMS:%=bin/%) version
-	@helper/build || true
+all: toolchain proofs $(PROGRAMS:%=bin/%) version
 
 toolchain:
 	@RT='$(RT)' scripts/toolchain
-
-packages:
-	@[ -x bin/mortarleek-helper ] || tests/packages.sh make @helper || true
 
 proofs: toolchain
 	@RT='$(RT)' scripts/prove
@@ -44,6 +39,7 @@ version:
 	@RT='$(RT)' scripts/version > bin/version
 
 helper:
+	@tests/packages.sh make @helper
 	@helper/build
 
 demo:
@@ -72,7 +68,7 @@ OWN := $(if $(DESTDIR),,$(filter $(HOME)/%,$(PREFIX)) $(filter-out 0,$(shell id 
 UNITS := $(if $(strip $(OWN)),$(or $(XDG_DATA_HOME),$(HOME)/.local/share)/systemd/user,$(DESTDIR)$(PREFIX)/lib/systemd/user)
 UNIT := contrib/systemd/mortarleek-agent$(if $(strip $(OWN)),.own).service
 COMPLETIONS := $(SHARE)/bash-completion/completions $(SHARE)/zsh/site-functions $(SHARE)/fish/vendor_completions.d
-HELPERS := mortarleek_signer mortarleek-helper standin_helper confirm_relay add_tool filter_proxy audit_prog
+HELPERS := mortarleek_signer mortarleek-helper standin_helper confirm_relay add_tool filter_proxy audit_prog log_prog
 SCRIPTS := $(notdir $(wildcard front/mortarleek front/mortarleek-*))
 # What these start and source beside the programs.
 PARTS := agent_guard front_end.sh version

@@ -100,7 +100,7 @@ def literal_records_are_reported(folder):
 
 @check
 def what_real_clients_asked_for_is_listed(folder):
-    rig.built("mortarleek-helper")
+    rig.built("mortarleek_signer")
     keys = [folder / "ed25519", folder / "rsa", folder / "ecdsa"]
     for key in keys:
         bits = {"rsa": ["-b", "2048"], "ecdsa": ["-b", "256"]}.get(key.name, [])

@@ -479,7 +479,7 @@ def on_page():
 
 def main(words):
     program = rig.there(rig.agent_program())
-    rig.built("mortarleek-helper")
+    rig.built("mortarleek_signer")
     with tempfile.TemporaryDirectory(prefix="mk-") as name:
         folder = pathlib.Path(name)
         shared = Shared(folder)

@@ -31,6 +31,7 @@ def manuals_are_clean_and_name_every_option(folder):
         "standin_helper.8",
         "confirm_relay.8",
         "mortarleek-filter.1",
+        "mortarleek-log.1",
         "mortarleek-status.1",
         "filter_proxy.8",
     }
@@ -42,9 +43,9 @@ def manuals_are_clean_and_name_every_option(folder):
             if "referenced manual not found" not in line and "outdated mandoc.db" not in line
         )
         assert said == "", said
-    agent, add, filtered = (
+    agent, add, filtered, told = (
         run(["mandoc", "-T", "ascii", rig.TOP / "man" / name])
-        for name in ("mortarleek-agent.1", "mortarleek-add.1", "mortarleek-filter.1")
+        for name in ("mortarleek-agent.1", "mortarleek-add.1", "mortarleek-filter.1", "mortarleek-log.1")
     )
     text = re.sub(".\b", "", agent)
     for option in "acDdEkOPsTtUu":
@@ -53,6 +54,8 @@ def manuals_are_clean_and_name_every_option(folder):
     for option in "CcDdEeHhKklLMmNqSsTtuvXx":
         assert f"-{option}" in text, option
     assert "-k" in re.sub(".\b", "", filtered)
+    for option in ("-f", "-t", "--json", "--key", "--since", "--host"):
+        assert option in re.sub(".\b", "", told), option
 
 
 @check
@@ -65,11 +68,13 @@ def completions_are_read_by_their_shells(folder):
     script = f"""source {place}/mortarleek.bash
 COMP_WORDS=(mortarleek-agent -); COMP_CWORD=1; _mortarleek_agent mortarleek-agent - mortarleek-agent; echo ${{COMPREPLY[*]}}
 COMP_WORDS=(mortarleek-add -); COMP_CWORD=1; _mortarleek_add mortarleek-add - mortarleek-add; echo ${{COMPREPLY[*]}}
-COMP_WORDS=(mortarleek-filter -); COMP_CWORD=1; _mortarleek_filter mortarleek-filter - mortarleek-filter; echo ${{COMPREPLY[*]}}"""
-    agent, add, filtered = run(["bash", "-c", script]).splitlines()
+COMP_WORDS=(mortarleek-filter -); COMP_CWORD=1; _mortarleek_filter mortarleek-filter - mortarleek-filter; echo ${{COMPREPLY[*]}}
+COMP_WORDS=(mortarleek-log -); COMP_CWORD=1; _mortarleek_log mortarleek-log - mortarleek-log; echo ${{COMPREPLY[*]}}"""
+    agent, add, filtered, told = run(["bash", "-c", script]).splitlines()
     assert {"-a", "-c", "-D", "-d", "-k", "-s", "-t", "--stand-in"} <= set(agent.split()), agent
     assert {"-c", "-D", "-d", "-h", "-H", "-l", "-L", "-t", "-x", "-X", "-k", "-q"} <= set(add.split()), add
-    assert set(filtered.split()) == {"-a", "-k", "--end"}, filtered
+    assert set(filtered.split()) == {"-a", "-k", "--end", "--sign-only"}, filtered
+    assert set(told.split()) == {"-f", "-t", "--host", "--json", "--key", "--since"}, told
     said = run(["fish", "-c", f"source {place}/mortarleek.fish; complete -C 'mortarleek-agent -'"])
     assert "-k" in said and "-a" in said, said
 
@@ -87,10 +92,12 @@ def what_is_installed_works_and_is_taken_away_again(folder):
         "bin/mortarleek-agent",
         "bin/mortarleek-add",
         "bin/mortarleek-filter",
+        "bin/mortarleek-log",
         "share/man/man1/mortarleek.1",
         "share/man/man1/mortarleek-agent.1",
         "share/man/man1/mortarleek-add.1",
         "share/man/man1/mortarleek-filter.1",
+        "share/man/man1/mortarleek-log.1",
         "share/man/man1/mortarleek-status.1",
         "share/man/man1/mortarleek-serve.1",
         "share/man/man1/mortarleek-replay.1",
@@ -108,7 +115,7 @@ def what_is_installed_works_and_is_taken_away_again(folder):
     ):
         assert name in found, (name, sorted(found))
     assert not [name for name in found if name.startswith("bin/") and "mortarleek" not in name], sorted(found)
-    for name in ("agent_prog", "mortarleek_signer", "mortarleek-helper"):
+    for name in ("agent_prog", "mortarleek_signer"):
         name = f"libexec/mortarleek/{name}"
         if name in found:
             assert found[name].stat().st_mode & 0o7777 == 0o711, name
@@ -119,7 +126,7 @@ def what_is_installed_works_and_is_taken_away_again(folder):
         said = run(["mandoc", "-T", "ascii", target / f"usr/share/man/man1/mortarleek-{word}.1"])
         assert f"mortarleek-{word}" in re.sub(".\b", "", said), word
     assert "ExecStart=/usr/bin/mortarleek-agent" in found["lib/systemd/user/mortarleek-agent.service"].read_text()
-    if "libexec/mortarleek/mortarleek-helper" in found:
+    if "libexec/mortarleek/mortarleek_signer" in found:
         said = run(
             [target / "usr/bin/mortarleek", "agent", "sh", "-c", "ssh-add -l || :"],
             env={"PATH": os.environ["PATH"], "TMPDIR": str(folder)},
@@ -188,7 +195,7 @@ def a_new_user_installs_it_and_logs_in(folder):
     (home / ".ssh").mkdir(parents=True, mode=0o700)
     source.mkdir()
     copy_of_the_repository(source)
-    for name in ("agent_prog", "mortarleek_signer", "mortarleek-helper", "add_tool"):
+    for name in ("agent_prog", "mortarleek_signer", "add_tool"):
         shutil.copy(rig.built(name), source / "bin")
     environment = {"PATH": os.environ["PATH"], "HOME": str(home), "TMPDIR": str(folder)}
     assert install.startswith("make && make install "), install

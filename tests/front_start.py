@@ -214,8 +214,8 @@ def words_reach_the_agent(folder):
         words = pathlib.Path(f"/proc/{agent}/cmdline").read_text().rstrip("\0").split("\0")
         words = words[words.index("serve") :]
         assert words[:4] == ["serve", "-a", daemon.path, "--helper"] and words[-2:] == ["-t", "90m"], words
-        helpers = [str(installed.prefix / "libexec/mortarleek" / name) for name in ("mortarleek_signer", "mortarleek-helper")]
-        assert words[4:7] == [helpers[0], "--helper-data", helpers[1]], words
+        assert words[4] == str(installed.prefix / "libexec/mortarleek/mortarleek_signer"), words
+        assert "--helper-data" not in words, words
         if "--relay" in words:
             assert words[words.index("--askpass") + 1] == str(asker), words
         elif (rig.BUILT / "confirm_relay").exists():
@@ -238,37 +238,30 @@ def a_helper_that_can_t_be_run_is_refused(folder):
     for name in ("mortarleek_signer", "mortarleek-helper"):
         place = folder / name
         place.mkdir()
-        installed = Installed(place)
-        helper = installed.prefix / "libexec/mortarleek" / name
-        helper.unlink()
-        rig.script(helper, "exit 0").write_text("#!/nowhere/at/all\n")
+        installed = Installed(place, helper=False)
+        rig.script(installed.prefix / "libexec/mortarleek" / name, "exit 0").write_text("#!/nowhere/at/all\n")
         said = run([installed.agent], 1, env=installed.environment)
         assert f"{name} can't be run" in said and said.count("\n") == 1, said
         assert installed.folders() == []
 
 
 @check
-def one_helper_that_signs_is_enough(folder):
-    """The proved one alone signs but with keys over P-521, the other one alone with all; -d says so."""
-    for left, refused in (("mortarleek_signer", ["p521"]), ("mortarleek-helper", [])):
-        place = folder / left
+def the_proved_helper_signs_and_the_other_one_where_it_isn_t_built(folder):
+    for name in ("mortarleek_signer", "mortarleek-helper"):
+        place = folder / name
         place.mkdir()
-        installed = Installed(place)
-        for name in {"mortarleek_signer", "mortarleek-helper"} - {left}:
-            (installed.prefix / "libexec/mortarleek" / name).unlink()
+        installed = Installed(place, helper=False)
+        libexec = installed.prefix / "libexec/mortarleek"
+        for helper in {name, "mortarleek-helper"}:
+            shutil.copy(rig.built(helper), libexec)
         with installed.start() as daemon:
             agent = agent_of(daemon.pid)
             words = pathlib.Path(f"/proc/{agent}/cmdline").read_text().split("\0")
-            assert words[words.index("--helper") + 1].endswith(left) and "--helper-data" not in words, words
-            for name, kind in (("ed25519", "ed25519"), ("rsa", "rsa"), ("p256", "ecdsa"), ("p521", "ecdsa")):
-                key = keygen(place / name, *(["-b", "521"] if name == "p521" else []), kind=kind)
+            assert words[words.index("--helper") + 1] == str(libexec / name), words
+            for bits, kind in ((None, "ed25519"), (2048, "rsa"), (256, "ecdsa"), (384, "ecdsa"), (521, "ecdsa")):
+                key = keygen(place / f"{kind}{bits}", *(["-b", str(bits)] if bits else []), kind=kind)
                 daemon.run("ssh-add", "-q", key)
                 # -T has the agent sign something, and verifies that.
-                daemon.run("ssh-add", "-T", f"{key}.pub", status=1 if name in refused else 0)
-        if refused:
-            more = dict(env=installed.environment, stdout=subprocess.PIPE, stderr=subprocess.STDOUT, text=True)
-            with subprocess.Popen([installed.agent, "-d"], **more) as debugged:
-                said = debugged.stdout.readline()
-                debugged.terminate()
-                debugged.communicate(timeout=20)
-            assert said == "mortarleek-agent: no mortarleek-helper: ECDSA keys over P-521 can't sign\n", said
+                daemon.run("ssh-add", "-T", f"{key}.pub")
+            (helper,) = rig.children(agent)
+            assert rig.children(helper) == [], "the helper started another"

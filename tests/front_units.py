@@ -110,7 +110,7 @@ def installed_for(folder, home, own):
     parts = ("Makefile", "front/", "man/", "contrib/", "scripts/", "tests/packages", "helper/build", "crates.txt", "CHANGELOG.md")
     run(["cp", "--parents", *(name for name in files if name.startswith(parts)), source], cwd=rig.TOP)
     (source / "bin").mkdir()
-    for name in ("agent_prog", "mortarleek_signer", "mortarleek-helper", "add_tool", "confirm_relay"):
+    for name in ("agent_prog", "mortarleek_signer", "add_tool", "confirm_relay"):
         shutil.copy(rig.built(name), source / "bin")
     make = ["make", "--no-print-directory", "-C", source, "-o", "bin/agent_prog", "install"]
     if own:

@@ -24,14 +24,13 @@ class Installed:
         libexec.mkdir(parents=True)
         rig.lay_scripts(bin, libexec)
         shutil.copy(PROGRAM, libexec / "agent_prog")
-        signing = ("mortarleek_signer", "mortarleek-helper")
-        for name in (*(signing if helper else ()), "standin_helper", "confirm_relay"):
+        for name in (*(["mortarleek_signer"] if helper else []), "standin_helper", "confirm_relay"):
             if (rig.BUILT / name).exists():
                 shutil.copy(rig.BUILT / name, libexec)
         if tool:
             shutil.copy(rig.built("add_tool"), libexec)
-        if helper and not all((libexec / name).exists() for name in signing):
-            raise Skip("bin/mortarleek_signer or bin/mortarleek-helper isn't built: make")
+        if helper and not (libexec / "mortarleek_signer").exists():
+            raise Skip("bin/mortarleek_signer isn't built: make")
         self.agent, self.add = bin / "mortarleek-agent", bin / "mortarleek-add"
         self.temporary = folder / "temporary"
         self.temporary.mkdir()

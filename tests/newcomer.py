@@ -180,10 +180,10 @@ def behind_the_gate_nothing_is_proved_that_no_program_needs(folder):
 
 
 @check
-def make_builds_of_what_is_proved_and_looks_for_packages_before(folder):
+def make_builds_of_what_is_proved_and_wants_no_package(folder):
     repository = Repository(folder, CRATES)
     (folder / "helper").mkdir()
-    rig.script(folder / "helper/build", "exit 1")
+    rig.script(folder / "helper/build", 'echo "the other helper" >> "$CALLS"')
     tools = folder / "tools"
     tools.mkdir()
     rig.script(tools / "apt-get", 'echo "apt-get $*" >> "$CALLS"')
@@ -193,11 +193,14 @@ def make_builds_of_what_is_proved_and_looks_for_packages_before(folder):
     make = ["make", "--no-print-directory", "-C", folder]
     run(make, env=environment)
     calls = repository.calls.read_text()
-    assert calls.index("apt-get -qy") < calls.index("begins"), calls
+    assert "begins" in calls and "apt-get" not in calls and "other helper" not in calls, calls
     assert (folder / "bin/prog").read_text() == "proved"
     repository.calls.write_text("")
     run(make, env=environment)
     assert repository.proved() == []
+    run([*make, "helper"], env=environment)
+    calls = repository.calls.read_text()
+    assert calls.index("apt-get -qy") < calls.index("the other helper"), calls
 
 
 @check

@@ -117,7 +117,7 @@ def secrets_of(key):
 
 @check
 def replayed_each_client_gets_its_bytes(folder):
-    rig.built("mortarleek-helper")
+    rig.built("mortarleek_signer")
     keys = [folder / "ed25519", folder / "rsa", folder / "ecdsa"]
     for key in keys:
         bits = {"rsa": ["-b", "2048"], "ecdsa": ["-b", "256"]}.get(key.name, [])

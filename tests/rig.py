@@ -252,23 +252,19 @@ def serves(path, before=None):
     return True
 
 
-# The proved helper, and the one behind it, which knows keys over P-521 too.
-HELPER, BEHIND = BUILT / "mortarleek_signer", BUILT / "mortarleek-helper"
+# The proved helper, and mortarleek-helper, a second reading of what it does.
+HELPER, OTHER = BUILT / "mortarleek_signer", BUILT / "mortarleek-helper"
 
 
-def signing():
-    """An agent's words for the helpers that sign: the proved one with the other behind it, as mortarleek-agent starts
-    them, or the one of them that is built."""
-    if not HELPER.exists():
-        return ["--helper", str(BEHIND)]
-    return ["--helper", str(HELPER), *(["--helper-data", str(BEHIND)] if BEHIND.exists() else [])]
+def signer():
+    """The helper that mortarleek-agent starts: the proved one, and the other where that isn't built."""
+    return HELPER if HELPER.exists() else OTHER
 
 
 def our_agent(program, folder, *words, helper=None, name="ours", limits=(), **more):
-    """Ours, started as its words say, with the helpers that sign unless another is named."""
+    """Ours, started as its words say, with a helper that signs unless another is named."""
     path = f"{folder}/{name}.sock"
-    helpers = ["--helper", str(helper)] if helper else signing()
-    command = [*limits, str(program), "serve", "-a", path, *helpers, *map(str, words)]
+    command = [*limits, str(program), "serve", "-a", path, "--helper", str(helper or signer()), *map(str, words)]
     more.setdefault("stdin", subprocess.DEVNULL)
     more.setdefault("stdout", subprocess.DEVNULL)
     before = file_at(path)

@@ -249,7 +249,6 @@ def what_no_agent_knows_is_refused(folder):
 
 @check
 def keys_of_each_kind_sign(folder):
-    rig.built("mortarleek-helper")
     rig.built("mortarleek_signer")
     with serve(folder) as ours, openssh_agent(folder) as theirs:
         for key in keys_of_each_kind(folder, "certified"):
@@ -554,30 +553,6 @@ def a_killed_helper_is_started_again_at_the_next_request(folder):
             until(lambda: not is_alive(helper))
         assert zombies(agent.process.pid) <= 1
         assert signed(agent, key)
-
-
-@check
-def a_killed_helper_behind_is_started_again_at_the_next_request_for_it(folder):
-    """It is a child of the proved helper, which stays and signs with its own keys."""
-    rig.built("mortarleek-helper")
-    rig.built("mortarleek_signer")
-    own, other = keygen(folder / "own"), keygen(folder / "other", kind="ecdsa", bits=521)
-    with serve(folder) as agent:
-        agent.run("ssh-add", "-q", own, other)
-        assert signed(agent, own)
-        (helper,) = children(agent.process.pid)
-        assert children(helper) == []
-        for _ in range(3):
-            assert signed(agent, other)
-            (behind,) = children(helper)
-            assert signed(agent, own) and signed(agent, other)
-            assert children(helper) == [behind] and children(agent.process.pid) == [helper]
-            os.kill(behind, signal.SIGKILL)
-            until(lambda: not is_alive(behind))
-        assert zombies(helper) <= 1
-        assert signed(agent, own) and signed(agent, other)
-        (behind,) = children(helper)
-    until(lambda: not is_alive(helper) and not is_alive(behind), what="the end of both helpers")
 
 
 @check

@@ -20,7 +20,8 @@ from openssh import accepts, certify, generate, signature_by_openssh, signed_tex
 check = rig.Checks("signer")
 PROGRAM = pathlib.Path(os.environ.get("MORTARLEEK_SIGNER", rig.BUILT / "mortarleek_signer"))
 SIGN, VERIFY, SIGNED, REFUSED, TRUE, FALSE = 1, 2, 101, 102, 103, 104
-KINDS = [("ed25519", "256"), ("ecdsa", "256"), ("ecdsa", "384"), ("rsa", "1024"), ("rsa", "2048"), ("rsa", "2049"), ("rsa", "3072")]
+ECDSAS = [("ecdsa", "256"), ("ecdsa", "384"), ("ecdsa", "521")]
+KINDS = [("ed25519", "256"), *ECDSAS, ("rsa", "1024"), ("rsa", "2048"), ("rsa", "2049"), ("rsa", "3072")]
 MESSAGE = b"a message\n"
 TEXT = signed_text(MESSAGE)
 
@@ -139,11 +140,13 @@ def a_private_string_of_another_key_is_refused(folder):
 
 
 @check
-def keys_of_another_curve_are_refused_where_nothing_is_behind(folder):
-    key = generate(folder, "ecdsa", "521")
+def keys_of_another_type_are_refused_where_nothing_is_behind(_):
+    """A security key's, which no ssh-keygen makes without one."""
+    name = b"sk-ssh-ed25519@openssh.com"
+    blob = string(name) + string(bytes(32)) + string(b"ssh:")
     with Helper() as helper:
-        assert helper.sign(key.private, key.blob) is None
-        assert not helper.verify(key.blob, signature_by_openssh(key, MESSAGE))
+        assert helper.sign(blob + string(b"private"), blob) is None
+        assert not helper.verify(blob, string(name) + string(bytes(64)) + bytes(5))
 
 
 if __name__ == "__main__":

@@ -16,6 +16,7 @@ import time
 
 sys.dont_write_bytecode = True
 
+import ecdsa
 import ed25519 as vectors
 import rig
 from rig import TOP, children, is_alive, run, string, strings, until
@@ -23,6 +24,7 @@ from rig import TOP, children, is_alive, run, string, strings, until
 sys.path.insert(0, str(TOP / "helper/tests"))
 
 from model import differential_signer as differential
+from model.signer import mpint
 
 check = rig.Checks("signer_requests")
 PROGRAM = pathlib.Path(os.environ.get("MORTARLEEK_SIGNER", rig.HELPER))
@@ -108,35 +110,19 @@ def random_requests_are_answered_as_by_the_model(_):
     print(f"mortarleek_signer: {differential.run(str(PROGRAM), 2 * vectors.COUNT, str(SEED))}", flush=True)
 
 
-# RFC 6979, section A.2.6, with SHA-384: the private number, the point, and r and s for each message.
-P384 = b"ecdsa-sha2-nistp384"
-P384_NUMBER = "6b9d3dad2e1b8c1c05b19875b6659f4de23c3b667bf297ba9aa47740787137d896d5724e4c70a825f872c9ea60d2edf5"
-P384_POINT = (
-    "04ec3a4e415b4e19a4568618029f427fa5da9a8bc4ae92e02e06aae5286b300c64def8f0ea9055866064a254515480bc13"
-    "8015d9b72d7d57244ea8ef9ac0c621896708a59367f9dfb9f54ca84b3f1c9db1288b231c3ae0d4fe7344fd2533264720"
-)
-P384_SIGNATURES = {
-    b"sample": (
-        "94edbb92a5ecb8aad4736e56c691916b3f88140666ce9fa73d64c4ea95ad133c81a648152e44acf96e36dd1e80fabe46",
-        "99ef4aeb15f178cea1fe40db2603138f130e740a19624526203b6351d0a3a94fa329c145786e679e7b82c71a38628ac8",
-    ),
-    b"test": (
-        "8203b63d3c853e8d77227fb377bcf7b7b772e97892a80f36ab775d509d7a5feb0542a7f0812998da8f1dd3ca3cf023db",
-        "ddd0760448d42d8a43af45af836fce4de8be06b485e9b61b827c2f13173923e06a739f040649a667bf3b828246baa5a5",
-    ),
-}
-
-
 @check
-def a_signature_over_p384_is_that_of_rfc_6979(_):
-    blob = string(P384) + string(b"nistp384") + string(bytes.fromhex(P384_POINT))
+def ecdsa_signatures_are_those_of_rfc_6979(_):
+    """Sections A.2.5 to A.2.7, each curve with its own hash function."""
     with Helper() as helper:
-        for message, numbers in P384_SIGNATURES.items():
-            # An mpint has a zero in front of a highest bit that is set.
-            r, s = (bytes(int(number, 16) >> 383) + bytes.fromhex(number) for number in numbers)
-            wanted = string(P384) + string(string(r) + string(s))
-            assert helper.sign(blob + string(bytes.fromhex(P384_NUMBER)), blob, message) == wanted, message
-            assert helper.verify(blob, wanted, message) and not helper.verify(blob, wanted, message + b"\0")
+        for curve, (number, point, *signatures) in ecdsa.VECTORS_6979.items():
+            curve_name = b"nist" + curve.name.encode()
+            name = b"ecdsa-sha2-" + curve_name
+            blob = string(name) + string(curve_name) + string(bytes.fromhex(point))
+            for message, signed in zip((b"sample", b"test"), signatures):
+                r, s = (mpint(int(half, 16)) for half in (signed[: 2 * curve.size], signed[2 * curve.size :]))
+                wanted = string(name) + string(string(r) + string(s))
+                assert helper.sign(blob + string(mpint(int(number, 16))), blob, message) == wanted, (curve.name, message)
+                assert helper.verify(blob, wanted, message) and not helper.verify(blob, wanted, message + b"\0")
 
 
 def behind(folder, does):
@@ -157,7 +143,9 @@ here.sendall((29).to_bytes(4, "big") + b"\\1" + job + (16).to_bytes(4, "big") + 
     return path
 
 
-OTHER = string(b"ecdsa-sha2-nistp521") + string(b"nistp521") + string(bytes(133))
+# A security key's.
+OTHER_TYPE = b"sk-ssh-ed25519@openssh.com"
+OTHER = string(OTHER_TYPE) + string(bytes(32)) + string(b"ssh:")
 SEED_OF_ONE, PUBLIC_OF_ONE = (bytes.fromhex(text) for text in vectors.ROWS[0][:2])
 
 
@@ -177,7 +165,7 @@ def started(folder):
 def keys_of_other_types_are_refused_where_nothing_is_behind(_):
     with Helper() as helper:
         assert helper.sign(OTHER + string(b"private"), OTHER, b"message") is None
-        assert not helper.verify(OTHER, string(b"ecdsa-sha2-nistp521") + string(b"signature"), b"session")
+        assert not helper.verify(OTHER, string(OTHER_TYPE) + string(b"signature"), b"session")
         assert signs(helper) and children(helper.process.pid) == []
 
 
@@ -243,16 +231,17 @@ def a_helper_behind_that_says_nothing_is_waited_for_for_20_seconds(folder):
 
 
 @check
-def what_mortarleek_helper_answers_is_handed_back(folder):
-    """Each kind of key, plain and certified: signed and verified, as OpenSSH accepts it."""
+def no_key_that_mortarleek_helper_knows_is_handed_on(folder):
+    """Each kind of key, plain and certified, is signed with and verified here, as OpenSSH accepts it, and a key of another
+    type is refused there."""
     import openssh
 
-    rig.there(rig.BEHIND)
+    rig.there(rig.OTHER)
     authority = openssh.generate(folder, "ed25519", "256")
     other = openssh.generate(folder, "ecdsa", "256")
     keys = [openssh.generate(folder, kind, bits) for kind, bits in openssh.KINDS]
     certified = [(openssh.certify(key, signer), signer) for key in keys for signer in (authority, other)]
-    with Helper(rig.BEHIND) as helper:
+    with Helper(rig.OTHER) as helper:
         for key, signer in [(key, None) for key in keys] + certified:
             signature = helper.sign(key.private, key.blob, openssh.signed_text(b"a message\n"))
             if key.plain != "ssh-rsa":
@@ -265,14 +254,16 @@ def what_mortarleek_helper_answers_is_handed_back(folder):
                 signature = helper.sign(key.private, key.blob, b"session")
                 assert helper.verify(key.blob, signature, b"session")
                 assert not helper.verify(key.blob[:-1] + bytes([key.blob[-1] ^ 1]), signature, b"session"), signer
+        assert children(helper.process.pid) == []
+        assert helper.sign(OTHER + string(b"private"), OTHER, b"message") is None
         assert len(children(helper.process.pid)) == 1
 
 
 @check
 def what_is_tried_of_mortarleek_helper_holds_of_both(folder):
     """Its own tests of keys and vectors, each of whose requests goes to the proved one first."""
-    rig.there(rig.BEHIND)
-    both = rig.script(folder / "both", f'exec {PROGRAM.absolute()} "$@" {rig.BEHIND}')
+    rig.there(rig.OTHER)
+    both = rig.script(folder / "both", f'exec {PROGRAM.absolute()} "$@" {rig.OTHER}')
     words = [sys.executable, "-B", "-m", "unittest", "-q", "test_keys", *(f"test_vectors.{name}" for name in ("Ed25519", "Ecdsa", "Rsa"))]
     run(words, cwd=TOP / "helper/tests", env=dict(os.environ, HELPER=str(both), BEHIND="1"), timeout=900)
 
