@@ -1,4 +1,5 @@
-# Completions of bash for mortarleek, mortarleek-agent, mortarleek-add and mortarleek-filter.
+# Completions of bash for mortarleek, mortarleek-agent, mortarleek-add, mortarleek-filter and
+# mortarleek-log.
 
 # The words of compgen that say what may stand here.
 _mortarleek_offer() { mapfile -t COMPREPLY < <(compgen "$@"); }
@@ -30,20 +31,32 @@ _mortarleek_filter() {
     case $3:$2 in
     -k:*) mapfile -t COMPREPLY < <(compgen -f -X '!*.pub' -- "$2"; compgen -d -- "$2") ;;
     -a:*) _mortarleek_offer -f -- "$2" ;;
-    *:-*) _mortarleek_offer -W '-a -k --end' -- "$2" ;;
+    --sign-only:*) _mortarleek_offer -W 'login git login,git file sshsig other all' -- "$2" ;;
+    *:-*) _mortarleek_offer -W '-a -k --end --sign-only' -- "$2" ;;
     *) mapfile -t COMPREPLY < <(compgen -c -- "$2"; compgen -f -- "$2") ;;
+    esac
+}
+
+_mortarleek_log() {
+    case $3:$2 in
+    -t:*) _mortarleek_offer -W '30m 1h 8h 1d' -- "$2" ;;
+    --host:*) _mortarleek_offer -A hostname -- "$2" ;;
+    --since:*) _mortarleek_offer -W 'today yesterday' -- "$2" ;;
+    *:-*) _mortarleek_offer -W '-f -t --host --json --key --since' -- "$2" ;;
+    *) _mortarleek_offer -f -- "$2" ;;
     esac
 }
 
 _mortarleek() {
     if [ "$COMP_CWORD" = 1 ]; then
-        _mortarleek_offer -W 'add agent audit drill filter replay serve status --version' -- "$2"
+        _mortarleek_offer -W 'add agent audit drill filter log replay serve status --version' -- "$2"
         return
     fi
     case ${COMP_WORDS[1]} in
     agent) _mortarleek_agent "$@" ;;
     add) _mortarleek_add "$@" ;;
     filter) _mortarleek_filter "$@" ;;
+    log) _mortarleek_log "$@" ;;
     status | --version) COMPREPLY=() ;;
     drill) _mortarleek_offer -W '1000 100000' -- "$2" ;;
     *) _mortarleek_offer -f -- "$2" ;;
@@ -54,3 +67,4 @@ complete -o filenames -F _mortarleek mortarleek
 complete -o filenames -F _mortarleek_agent mortarleek-agent
 complete -o filenames -F _mortarleek_add mortarleek-add
 complete -o filenames -F _mortarleek_filter mortarleek-filter
+complete -o filenames -F _mortarleek_log mortarleek-log

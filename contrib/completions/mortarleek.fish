@@ -1,10 +1,11 @@
-# Completions of fish for mortarleek, mortarleek-agent, mortarleek-add and mortarleek-filter.
+# Completions of fish for mortarleek, mortarleek-agent, mortarleek-add, mortarleek-filter and mortarleek-log.
 
 complete -c mortarleek -f -n __fish_use_subcommand -a add -d 'Add, list and remove keys'
 complete -c mortarleek -f -n __fish_use_subcommand -a agent -d 'Start or end an agent'
 complete -c mortarleek -f -n __fish_use_subcommand -a audit -d 'List the signatures of a recorded run'
 complete -c mortarleek -f -n __fish_use_subcommand -a drill -d 'Try the agent, and time it'
 complete -c mortarleek -f -n __fish_use_subcommand -a filter -d 'Run a command that uses some keys'
+complete -c mortarleek -f -n __fish_use_subcommand -a log -d 'Tell what signatures of a recorded run were for'
 complete -c mortarleek -f -n __fish_use_subcommand -a replay -d 'Run the agent over a schedule'
 complete -c mortarleek -f -n __fish_use_subcommand -a serve -d 'Run the agent itself at a socket'
 complete -c mortarleek -f -n __fish_use_subcommand -a status -d 'Tell which agent answers'
@@ -56,6 +57,16 @@ function __mortarleek_filter
     complete $argv -s a -r -F -d 'Serve at a socket that stays'
     complete $argv -l end -d 'End the filter of -a'
     complete $argv -s k -r -F -d 'Public keys that may be used: a file, a fingerprint, a comment'
+    complete $argv -l sign-only -x -a 'login git login,git file sshsig other all' -d 'What they may sign for'
+end
+
+function __mortarleek_log
+    complete $argv -s f -d 'Go on as the record grows'
+    complete $argv -l host -x -a '(__fish_print_hostnames)' -d 'Look for this host where names are hashed'
+    complete $argv -l json -d 'Tell each as an object'
+    complete $argv -l key -r -F -d 'Of this key alone: a file, a fingerprint, a comment'
+    complete $argv -l since -x -a 'today yesterday' -d 'Nothing before this time'
+    complete $argv -s t -x -a '30m 1h 8h 1d' -d 'Keys were forgotten after this time'
 end
 
 __mortarleek_agent -c mortarleek-agent
@@ -64,3 +75,5 @@ __mortarleek_add -c mortarleek-add
 __mortarleek_add -c mortarleek -n '__fish_seen_subcommand_from add'
 __mortarleek_filter -c mortarleek-filter
 __mortarleek_filter -c mortarleek -n '__fish_seen_subcommand_from filter'
+__mortarleek_log -c mortarleek-log
+__mortarleek_log -c mortarleek -n '__fish_seen_subcommand_from log'
