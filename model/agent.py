@@ -9,13 +9,15 @@ from collections.abc import Callable
 from dataclasses import dataclass, field
 
 from . import formats
-from .rules import Binding, Chain, Rules, may_sign, visible
+from .rules import Binding, Chain, Rules, may_sign, room, visible
 from .wire import Fault, demand, string, take_frame, uint32, within
 
 # "client" and "child" are open ports, of children those that haven't said hello.
 LIMITS = {"body of a client": 262144, "body of a child": 262144, "list": 262144}
 LIMITS |= {"client": 128, "child": 32, "asks": 256, "confirmations": 16}
 LIMITS |= {"bindings": 16, "session": 128}
+# Bytes of all private strings and rules, and of the host keys of one connection.
+LIMITS |= {"room": 8388608, "host keys": 262144}
 # The seconds for which an ask may stay unanswered, and a confirmation open.
 WAITS = {"ask": 60, "confirmation": 300}
 
@@ -253,6 +255,10 @@ class Agent:
         comments[blob] = comment
         size = 5 + sum(8 + len(each) + len(text) for each, text in comments.items())
         demand(not self.above("list", size), "add: list is full")
+        others = [each for held_blob, each in self.identities.items() if held_blob != blob]
+        taken = sum(room(each.private, each.rules) for each in others)
+        taken += room(private, terms.get("rules"))
+        demand(not self.above("room", taken), "add: no room")
         self.seen["add: replaced"] += held is not None
         life = terms.get("life", self.default_life)
         death = None if life is None else self.mono + life
@@ -300,6 +306,8 @@ class Agent:
                 demand(binding.host_key == host_key, "bind: another host key")
                 return False
         demand(not self.above("bindings", len(chain) + 1), "bind: full")
+        size = len(host_key) + sum(len(binding.host_key) for binding in chain)
+        demand(not self.above("host keys", size), "bind: host keys")
         return True
 
     def put(self, ask: Ask, frame: Callable[..., bytes], *fields: object) -> None:

@@ -283,7 +283,7 @@ def write_case(seed: str) -> Case:
     return Schedule(seed).case()
 
 
-MODELS = ("wire", "formats", "rules", "agent", "replay", "add_tool", "record", "audit")
+MODELS = ("wire", "formats", "rules", "agent", "replay", "add_tool", "record", "audit", "log")
 
 
 def wrong_module(edit: dict[str, str], wanted: str) -> ModuleType:

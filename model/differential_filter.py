@@ -43,6 +43,13 @@ def key(tag: int) -> bytes:
 
 LISTED, OTHER = [key(tag) for tag in range(1, 6)], [key(tag) for tag in range(6, 11)]
 
+# The purposes of one filter after another: none are given to the first.
+PURPOSES: tuple[tuple[str, ...], ...] = ((), ("login", "sshsig:git"), ("sshsig",), ("other", "sshsig:file"))
+
+
+def given(words: tuple[str, ...]) -> set[bytes] | None:
+    return {word.encode() for word in words} or None
+
 
 def blob(dice: random.Random) -> bytes:
     """A key that is listed, one that isn't, or one that begins or ends as a listed one does."""
@@ -50,9 +57,30 @@ def blob(dice: random.Random) -> bytes:
     return dice.choice((listed, listed, dice.choice(OTHER), listed[:-1], listed + b"\0", b""))
 
 
+def message(dice: random.Random, blob: bytes) -> bytes:
+    """What a key may be asked to sign: a login with it or with another key, by one method or the other, a file in a
+    namespace, other data; and at times a byte more, fewer or another."""
+    kind, user = dice.randrange(4), dice.choice((b"", b"u", b"user"))
+    text = dice.randbytes(dice.choice((0, 3, 40, 20000)))
+    if kind == 0:
+        host = dice.choice((b"", string(LISTED[0])))
+        method = b"publickey-hostbound-v00@openssh.com" if host else b"publickey"
+        signer = dice.choice((blob, blob, blob, LISTED[0]))
+        text = string(dice.randbytes(32)) + bytes([50]) + string(user) + string(b"ssh-connection")
+        text += string(method) + bytes([1]) + string(b"ssh-ed25519") + string(signer) + host
+    elif kind == 1:
+        digested, size = dice.choice(((b"sha256", 32), (b"sha512", 64), (b"sha512", 32)))
+        namespace = dice.choice((b"git", b"git", b"gi", b"file", b""))
+        text = b"SSHSIG" + string(namespace) + string(b"") + string(digested) + string(dice.randbytes(size))
+    if text and dice.random() < 0.1:
+        place = dice.randrange(len(text))
+        text = dice.choice((text + b"\0", text[:-1], text[:place] + dice.randbytes(1) + text[place + 1 :]))
+    return text
+
+
 def request(dice: random.Random) -> bytes:
-    data, host = dice.randbytes(dice.choice((0, 3, 40, 20000))), dice.choice((blob(dice), b"host"))
-    sign = b"\x0d" + string(blob(dice)) + string(data) + uint32(dice.choice((0, 4)))
+    host, signer = dice.choice((blob(dice), b"host")), blob(dice)
+    sign = b"\x0d" + string(signer) + string(message(dice, signer)) + uint32(dice.choice((0, 4)))
     bind = b"\x1b" + string(BIND) + string(host) + string(b"session") + string(b"sg") + b"\1"
     body = dice.choice(
         (
@@ -96,7 +124,7 @@ def answer(dice: random.Random, waits: str) -> bytes:
 class Played:
     """A pair of the built filter, beside the model's."""
 
-    def __init__(self, path: str, listener: socket.socket) -> None:
+    def __init__(self, path: str, listener: socket.socket, purposes: set[bytes] | None) -> None:
         client = socket.socket(socket.AF_UNIX)
         client.settimeout(PATIENCE)
         client.setsockopt(socket.SOL_SOCKET, socket.SO_SNDTIMEO, SENDING)
@@ -105,7 +133,7 @@ class Played:
         self.ends = {"client": client}
         self.seen = {"client": b"", "upstream": b""}
         self.kept = {"client": b"", "upstream": b""}
-        self.model = Pair(set(LISTED))
+        self.model = Pair(set(LISTED), purposes)
 
     def close(self) -> None:
         for end in self.ends.values():
@@ -196,16 +224,18 @@ class Script:
         return side, piece
 
 
-def play(dice: random.Random, path: str, listener: socket.socket, seen: Counter) -> None:
+def play(
+    dice: random.Random, path: str, listener: socket.socket, purposes: set[bytes] | None, seen: Counter
+) -> None:
     """Pairs beside each other, of which one after another gets a piece."""
-    played = [(Played(path, listener), Script()) for _ in range(PAIRS)]
+    played = [(Played(path, listener, purposes), Script()) for _ in range(PAIRS)]
     for _ in range(PIECES):
         number = dice.randrange(PAIRS)
         pair, script = played[number]
         if not pair.model.is_open:
             seen["closed"] += 1
             pair.close()
-            played[number] = Played(path, listener), Script()
+            played[number] = Played(path, listener, purposes), Script()
         elif step := script.next(dice, pair.model):
             pair.send(*step)
             pair.compare()
@@ -216,13 +246,27 @@ def play(dice: random.Random, path: str, listener: socket.socket, seen: Counter)
 
 # Wrong models: a line of filter.py, and what stands in its place.
 WRONG = {
-    "passes every request": ("elif is_signature_request(body, self.listed) or is_bind(body):", "else:"),
-    "cuts nothing": ("if blob in self.listed]", "]"),
-    "passes a signature with any key": ("return found is not None and found[0] in listed", "return found is not None"),
-    "passes a signature with the front of a listed key": (
-        "return found is not None and found[0] in listed",
-        "return found is not None and any(blob.startswith(found[0]) for blob in listed)",
+    "passes every request": (
+        "elif is_signature_request(body, self.listed, self.purposes) or is_bind(body):",
+        "else:",
     ),
+    "cuts nothing": ("if blob in self.listed]", "]"),
+    "passes a signature with any key": ("if found is None or found[0] not in listed:", "if found is None:"),
+    "passes a signature with the front of a listed key": (
+        "if found is None or found[0] not in listed:",
+        "if found is None or not any(blob.startswith(found[0]) for blob in listed):",
+    ),
+    "passes a signature for anything": ("return purposes is None or bool(", "return True or bool("),
+    "passes what is for no purpose": ("return purposes is None or bool(", "return purposes is None or not bool("),
+    "takes any key's login for its own": (
+        "if is_login(message, blob):",
+        "if any(is_login(message, each) for each in [blob, *LISTED]):",
+    ),
+    "takes a login for other data": ("return {b\"login\"}", "return {b\"other\"}"),
+    "takes a file for other data": ("{b\"sshsig\", b\"sshsig:\" + namespace}", "{b\"other\"}"),
+    "tells a namespace by its front": ("b\"sshsig:\" + namespace}", "b\"sshsig:\" + namespace + b\"t\"}"),
+    "takes an empty namespace": ("return namespace if namespace and DIGESTS", "return namespace if DIGESTS"),
+    "takes any digest": ("DIGESTS.get(digested) == len(digest)", "digested in DIGESTS"),
     "passes no bind": (" or is_bind(body):", ":"),
     "passes every extension": ("return found is not None and found[0] == BIND", "return body[:1] == bytes([27])"),
     "leaves the count of all": ("uint32(len(kept))", "uint32(len(entries))"),
@@ -242,7 +286,8 @@ WRONG = {
 
 def differs(wrong: type[Pair], dice: random.Random) -> bool:
     """Whether a wrong model does something else at one piece of a script."""
-    model, other, script = Pair(set(LISTED)), wrong(set(LISTED)), Script()
+    purposes = given(dice.choice(PURPOSES))
+    model, other, script = Pair(set(LISTED), purposes), wrong(set(LISTED), purposes), Script()
     for _ in range(PIECES):
         if (step := script.next(dice, model)) is None:
             continue
@@ -262,7 +307,7 @@ def try_wrong(runs: int, seed: str) -> int:
     unseen = []
     for name, (old, new) in WRONG.items():
         assert text.count(old) == 1, name
-        found: dict = {"__name__": "model.wrong", "__package__": "model"}
+        found: dict = {"__name__": "model.wrong", "__package__": "model", "LISTED": LISTED}
         exec(compile(text.replace(old, new), name, "exec"), found)
         if not any(differs(found["Pair"], random.Random(f"{seed} {run}")) for run in range(runs)):
             unseen.append(name)
@@ -274,6 +319,14 @@ def main(program: str, runs: str = "200", seed: str = "") -> int:
     seed = seed or str(random.SystemRandom().randrange(1 << 32))
     if program == "--wrong":
         return try_wrong(int(runs), seed)
+    for words in PURPOSES:
+        if status := beside(program, words, int(runs), seed):
+            return status
+    return 0
+
+
+def beside(program: str, words: tuple[str, ...], runs: int, seed: str) -> int:
+    """Runs beside a filter with these purposes."""
     seen: Counter = Counter()
     with tempfile.TemporaryDirectory() as folder:
         keys, path = f"{folder}/keys", f"{folder}/filter"
@@ -282,15 +335,15 @@ def main(program: str, runs: str = "200", seed: str = "") -> int:
         listener.settimeout(PATIENCE)
         listener.bind(f"{folder}/agent")
         listener.listen()
-        process = subprocess.Popen([program, keys, f"{folder}/agent", path], stdin=subprocess.DEVNULL)
+        process = subprocess.Popen([program, keys, f"{folder}/agent", path, *words], stdin=subprocess.DEVNULL)
         try:
             end = time.monotonic() + PATIENCE
             while not os.path.exists(path) and time.monotonic() < end and process.poll() is None:
                 time.sleep(0.02)
             time.sleep(0.2)
-            for run in range(int(runs)):
+            for run in range(runs):
                 try:
-                    play(random.Random(f"{seed} {run}"), path, listener, seen)
+                    play(random.Random(f"{seed} {run}"), path, listener, given(words), seen)
                 except (AssertionError, OSError) as fault:
                     print(f"filter: run {run} of seed {seed}: {type(fault).__name__}: {fault}")
                     return 1
@@ -298,7 +351,7 @@ def main(program: str, runs: str = "200", seed: str = "") -> int:
         finally:
             process.terminate()
             process.wait()
-    print(f"filter: {runs} runs of seed {seed} agree: {dict(sorted(seen.items()))}")
+    print(f"filter: {runs} runs of seed {seed} for {' '.join(words) or 'anything'} agree: {dict(sorted(seen.items()))}")
     return 0
 
 

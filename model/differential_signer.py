@@ -204,7 +204,8 @@ class Pool:
         stand_in = string(b"keyed-sha256@example.com") + string(bytes(32))
         near = (b"ssh-ed25519-", b"ssh-ed25519-cert-v01@openssh.co", b"SSH-ED25519", b"ecdsa-sha2-nistp25", b"ssh-rsa2", b"rsa-sha2-256")
         self.others = [dss, stand_in, *(string(name) + string(bytes(32)) for name in near), b"", uint32(11), b"\0\0\0\xffssh-ed25519"]
-        self.others += [string(b"ecdsa-sha2-nistp521") + string(b"nistp521") + string(b"\x04" + random.randbytes(132))]
+        on_token = string(b"sk-ecdsa-sha2-nistp256@openssh.com") + string(b"nistp256") + string(b"\x04" + random.randbytes(64))
+        self.others += [on_token + string(b"ssh:")]
         self.messages = [random.randbytes(length) for length in (0, 1, 32, 63, 64, 111, 112, 127, 128, 300)]
 
 

@@ -3,11 +3,13 @@ side is sent, and when the pair is closed."""
 
 from __future__ import annotations
 
+from .formats import login
 from .wire import Fault, Reader, string, take_frame, uint32
 
 LONGEST = 262144
 FAILURE = b"\x05"
 BIND = b"session-bind@openssh.com"
+DIGESTS = {b"sha256": 32, b"sha512": 64}
 
 
 def reads(body: bytes, number: int, *fields: str) -> list | None:
@@ -23,9 +25,41 @@ def reads(body: bytes, number: int, *fields: str) -> list | None:
     return found
 
 
-def is_signature_request(body: bytes, listed: set[bytes]) -> bool:
+def namespace_of(message: bytes) -> bytes | None:
+    """The namespace of a file's signed data, or None where the message is none."""
+    reader = Reader(message)
+    try:
+        if reader.take(6) != b"SSHSIG":
+            return None
+        namespace, _, digested, digest = [reader.string() for _ in range(4)]
+        reader.end()
+    except Fault:
+        return None
+    return namespace if namespace and DIGESTS.get(digested) == len(digest) else None
+
+
+def is_login(message: bytes, blob: bytes) -> bool:
+    try:
+        login(message, blob)
+    except Fault:
+        return False
+    return True
+
+
+def purposes_of(message: bytes, blob: bytes) -> set[bytes]:
+    """The words for what the key of this blob signs the message for."""
+    if is_login(message, blob):
+        return {b"login"}
+    namespace = namespace_of(message)
+    return {b"other"} if namespace is None else {b"sshsig", b"sshsig:" + namespace}
+
+
+def is_signature_request(body: bytes, listed: set[bytes], purposes: set[bytes] | None) -> bool:
+    """A request for a signature with a key that is listed, for one of the purposes, where any are given."""
     found = reads(body, 13, "string", "string", "uint32")
-    return found is not None and found[0] in listed
+    if found is None or found[0] not in listed:
+        return False
+    return purposes is None or bool(purposes & purposes_of(found[1], found[0]))
 
 
 def is_bind(body: bytes) -> bool:
@@ -48,8 +82,8 @@ class Pair:
     """A client's connection, and while it needs one, one of its own to the agent behind. `sent` is what each side was
     sent, and `made` how many connections to the agent behind were made."""
 
-    def __init__(self, listed: set[bytes]) -> None:
-        self.listed = listed
+    def __init__(self, listed: set[bytes], purposes: set[bytes] | None = None) -> None:
+        self.listed, self.purposes = listed, purposes
         self.unread = {"client": bytearray(), "upstream": bytearray()}
         self.sent = {"client": b"", "upstream": b""}
         self.waits: str | None = None
@@ -86,7 +120,7 @@ class Pair:
             return False
         if body == b"\x0b":
             self.waits = "list"
-        elif is_signature_request(body, self.listed) or is_bind(body):
+        elif is_signature_request(body, self.listed, self.purposes) or is_bind(body):
             self.waits = "reply"
         self.sent["upstream" if self.waits else "client"] += string(body if self.waits else FAILURE)
         if self.waits and not self.is_linked:

@@ -13,6 +13,7 @@ from . import pool
 from .agent import LIMITS
 from .child_moves import ChildMoves
 from .replay import LONGEST_LINE, Run
+from .rules import room
 from .wire import string, uint32, uint64
 from .writer import Over
 
@@ -88,6 +89,25 @@ class Schedule(ChildMoves):
         size += self.random.choice([-1, 0, 0, 1])
         self.send(port, number + keys[-1].added + string(b"y" * size) + rest, b"\x0b", cut=0)
 
+    def full_room(self) -> None:
+        """Private strings and rules that take as much as they may, one byte less or one more."""
+        port, host = self.client(), pool.PLAIN_HOSTS[0]
+        origin = pool.hop(b"", b"", [])
+        first = pool.rule(origin, pool.hop(b"", b"h", [host.entry]))
+        each, most = 193 + len(host.key), 261000 // len(first)
+        for seed in range(100, 115):
+            key = pool.plain_key(pool.STAND_IN, seed)
+            held = sum(room(one.private, one.rules) for one in self.agent.identities.values())
+            count, more = divmod(LIMITS["room"] - held - len(key.added), each)
+            if count >= most:
+                count, more = most, 0
+            else:
+                more = max(0, more + self.random.choice([-1, 0, 0, 1, 1]))
+            if count > 0:
+                last = pool.rule(origin, pool.hop(b"", b"h" * (1 + more), [host.entry]))
+                rules = pool.restrict(*[first] * (count - 1), last)
+                self.send(port, b"\x19" + key.added + string(b"") + rules, cut=0)
+
     def long_line(self) -> None:
         self.say("#" * (LONGEST_LINE - self.random.choice([0, 1])))
         if self.chance(0.5):
@@ -151,6 +171,13 @@ class Schedule(ChildMoves):
         for _ in range(self.random.randrange(3)):
             host = self.random.choice(pool.PLAIN_HOSTS)
             self.bind(port, host.key, b"hop %d" % self.random.choice([1, 99, 99]), forwarding=1)
+
+    def large_host_keys(self) -> None:
+        """Host keys of a connection with as many bytes as they may have, one less or one more."""
+        port, more = self.client(fresh=1), self.random.choice([-1, 0, 0, 1, 1])
+        for place, size in enumerate([65536, 65536, 65536, 65536 + more]):
+            host_key = string(b"ssh-rsa") + string(b"\x03") + string(b"\x01" * (size - 20))
+            self.bind(port, host_key, b"large %d" % place, forwarding=1)
 
     def many_confirmations(self) -> None:
         key, port = self.pick(self.keys), self.client(fresh=1)
@@ -219,11 +246,13 @@ LONG_MOVES: dict[str, int] = {
     "many_clients": 3,
     "long_body": 4,
     "full_list": 6,
+    "full_room": 2,
     "long_line": 2,
     "many_asks": 5,
     "many_children": 3,
     "long_answer": 7,
     "many_bindings": 4,
+    "large_host_keys": 5,
     "many_confirmations": 6,
 }
 
@@ -242,7 +271,8 @@ GOALS = [
             cause: constraints Reserved; cause: constraints FromUser; cause: constraints FromHalf
             cause: constraints ToHalf; cause: constraints NoRules; cause: constraints Key Short
             cause: constraints NoUses; use: last; use: more are left
-            cause: add: list is full; cause: remove: not held; cause: lock: empty passphrase
+            cause: add: list is full; cause: add: no room; limit: room; limit: room + 1
+            cause: remove: not held; cause: lock: empty passphrase
             cause: unlock: not locked; cause: unlock: another passphrase
             limit: body of a client; limit: client; limit: client + 1; limit: list; limit: list + 1
             line at later; line at again; line at earlier; line hold; line free; line take; line end
@@ -264,6 +294,7 @@ GOALS = [
         """request 27; helper: TRUE; helper: TRUE again; helper: FALSE
             cause: bind: empty session; cause: bind: long session; cause: bind: bound for a login
             cause: bind: another host key; cause: bind: full; limit: bindings; limit: bindings + 1
+            cause: bind: host keys; limit: host keys; limit: host keys + 1
             limit: session; limit: session + 1""",
         # destination constraints
         """list: hidden; rules: permit; cause: add: not visible; cause: remove: not visible

@@ -23,6 +23,13 @@ class Binding:
 Chain = list[Binding]
 
 
+def room(private: bytes, rules: Rules | None) -> int:
+    """What a key takes beside its blob and its comment: 64 bytes more for each hop and its keys."""
+    hops = [hop for rule in rules or [] for hop in rule]
+    names = sum(64 + len(hop.user) + len(hop.host) for hop in hops)
+    return len(private) + names + sum(64 + len(blob) for hop in hops for blob, _ in hop.keys)
+
+
 def is_at(hop: Hop, host_key: bytes, wall: int) -> bool:
     """Whether the host with this key is the hop's."""
     certificate = public_key(host_key).certificate

@@ -11,13 +11,13 @@ from dataclasses import dataclass
 from typing import NoReturn, Protocol
 
 from . import ed25519
-from .ecdsa import KEPT_P256, KEPT_P384, Curve
+from .ecdsa import KEPT_P256, KEPT_P384, KEPT_P521, Curve
 from .formats import CERTIFIED, ED25519, RSA, from_child
 from .tools import BAD_FRAME, DONE, USAGE, End, hello, next_body, to_child
 from .wire import Fault, Reader, demand, string, uint64
 
 # RFC 5656, sections 3.1 and 10.1.
-CURVES = {b"nistp256": KEPT_P256, b"nistp384": KEPT_P384}
+CURVES = {b"nistp256": KEPT_P256, b"nistp384": KEPT_P384, b"nistp521": KEPT_P521}
 ECDSA = {b"ecdsa-sha2-" + name: name for name in CURVES}
 SIGN, SIGNED, REFUSED, TRUE, FALSE = 1, b"\x65", b"\x66", b"\x67", b"\x68"
 HASHES = {b"ssh-rsa": "sha1", b"rsa-sha2-256": "sha256", b"rsa-sha2-512": "sha512"}

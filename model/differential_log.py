@@ -1,0 +1,239 @@
+"""Random records, of which a program and the model have to write the same log, from the top:
+
+    python3 -m model.differential_log PROGRAM N [SEED]
+    python3 -m model.differential_log --wrong N [SEED]    tries the wrong ones of wrong_logs.txt
+
+PROGRAM may be several words, as 'python3 -m model.log'. .ci/differential_log does the same.
+"""
+
+from __future__ import annotations
+
+import multiprocessing
+import os
+import shlex
+import subprocess
+import sys
+import tempfile
+import time
+from collections import Counter
+from functools import partial
+from pathlib import Path
+from random import Random
+
+from . import log
+from .audit import BAD_RECORD, FILE_FAULT, USAGE, WRITE_FAULT
+from .differential import rows_agree, show, wrong_module
+from .differential_audit import ENVIRONMENT, run_program, with_comments, written
+from .generate import garbled_text
+from .log import WHOLE
+from .pool import KEYS
+from .replay import LONGEST_SCHEDULE
+from .replays import JOBS, attempt, try_each
+from .rows_log import ROWS
+from .wire import string, uint32
+
+WRONG = "wrong_logs.txt"
+
+
+class Case:
+    """The words, of which `r` names a file; that file; what was changed; what is right."""
+
+    def __init__(self, seed: str) -> None:
+        random = Random(seed)
+        text, life = written(random, seed)
+        if random.random() < 0.3:
+            text = with_comments(random, text)
+        if random.random() < 0.3:
+            text = with_files(random, text, life)
+        self.kind, text = changed(random, text)
+        self.words, self.files = ["r"], {"r": text}
+        if life or random.random() < 0.1:
+            self.words.append(f"{life or 0}{random.choice(['', '', 's', 'S'])}")
+        if random.random() < 0.04:
+            self.kind = self.other_words(random)
+        self.wanted = log.log(self.words, self.files.get)
+
+    def other_words(self, random: Random) -> str:
+        """Words that are no form, or a file that isn't there."""
+        if random.random() < 0.5:
+            del self.files["r"]
+            return "a file is missing"
+        self.words = random.choice([[], ["r", "5", "5"], ["r", random.choice(["", "x", "1y"])]])
+        return "other words"
+
+
+def with_files(random: Random, text: bytes, life: int | None) -> bytes:
+    """The schedule, and a client behind it that has keys sign for files, or nearly so."""
+    run = log.LogRun(life)
+    run.text(text)
+    port = run.agent.last["port"] + 1
+    lines = [b"join client"]
+    for _ in range(random.choice([1, 3])):
+        name = random.choice([b"git", b"file", b'a"b\n', b"n" * 300, b""])
+        size = random.choice([32, 64])
+        algorithm = random.choice([b"sha256", b"sha512", b"sha512", b"md5"])
+        front = random.choice([b"SSHSIG", b"SSHSIG", b"SSHSIG", b"sshsig"])
+        message = front + string(name) + string(b"") + string(algorithm) + string(b"d" * size)
+        message += random.choice([b"", b"", b"", b"x"])
+        held = [*run.agent.identities] or [random.choice(KEYS).blob]
+        body = b"\x0d" + string(random.choice(held)) + string(message) + uint32(0)
+        lines.append(b"hear %d %s" % (port, string(body).hex().encode()))
+    behind = b"" if text.endswith(b"\n") or not text else b"\n"
+    return text + behind + b"\n".join(lines) + b"\n"
+
+
+def changed(random: Random, text: bytes) -> tuple[str, bytes]:
+    """What was changed, and the schedule."""
+    kind = random.choice([*["nothing"] * 8, *CHANGES])
+    at = random.randrange(len(text) + 1)
+    if kind == "cut":
+        return kind, text[:at]
+    if kind == "no LF at the end":
+        return kind, text[:-1]
+    if kind == "a line less":
+        lines = text.split(b"\n")
+        del lines[random.randrange(len(lines))]
+        return kind, b"\n".join(lines)
+    if kind == "garbled":
+        return kind, garbled_text(random, text) if text else text
+    return kind, text
+
+
+CHANGES = ["cut", "cut", "no LF at the end", "a line less", "garbled"]
+
+
+def try_rows(program: list[str]) -> bool:
+    return rows_agree(
+        ROWS,
+        {
+            "the model": lambda row: log.log(row.words, row.files.get),
+            "the program": lambda row: run_program(program, row.words, row.files),
+        },
+    )
+
+
+def try_edges(program: list[str]) -> bool:
+    """Files at the bound and above it, and an output that can't be written."""
+    good = True
+    with tempfile.TemporaryDirectory() as folder:
+        told = next(row for row in ROWS if row.printed)
+        files = {"record": told.files["r"], "longest": b"", "longer": b"", "bad": b"x\n"}
+        for name, some in files.items():
+            Path(folder, name).write_bytes(some)
+        for name, size in (("longest", LONGEST_SCHEDULE), ("longer", LONGEST_SCHEDULE + 1)):
+            os.truncate(f"{folder}/{name}", size)
+        for words, place, wanted in [
+            ("record", None, (told.printed, WHOLE)),
+            ("longest", None, (b"", WHOLE)),
+            ("longer", None, (b"", FILE_FAULT)),
+            ("longer x", None, (b"", USAGE)),
+            (".", None, (b"", FILE_FAULT)),
+            ("bad", "/dev/full", (b"", BAD_RECORD)),
+            ("record", "/dev/full", (b"", WRITE_FAULT)),
+            ("none", "/dev/full", (b"", FILE_FAULT)),
+            ("record record record", "/dev/full", (b"", USAGE)),
+        ]:
+            paths = [word if word == "x" else f"{folder}/{word}" for word in words.split(" ")]
+            with open(place or f"{folder}/output", "wb") as output:
+                status = subprocess.run(
+                    [*program, *paths], stdout=output, stderr=subprocess.DEVNULL, env=ENVIRONMENT
+                ).returncode
+            result = (b"" if place else Path(folder, "output").read_bytes(), status)
+            if result != wanted:
+                good = False
+                print(f"log {words}, into {place or 'a file'}: {result}, not {wanted}")
+    print("files at the bound and above it, and outputs that can't be written, by the program")
+    return good
+
+
+# The ends of lines that the records are to reach, and what is signed
+FATES = ["signed", "refused", "refused by the helper", "refused, the helper was lost"]
+FATES += ["client left", "no answer yet"]
+CONSENTS = ["asked, agreed", "asked, no consent that counted"]
+KINDS = ["login", "file", "other"]
+
+
+def try_one(program: list[str], seed: str) -> tuple[bool, Counter[str]]:
+    case = Case(seed)
+    output, status = case.wanted
+    told = Counter({f"status {status}": 1, f"{case.kind}: status {status}": 1})
+    for line in output.decode().splitlines():
+        parts = line.split("  ")
+        told[parts[-1]] += 1
+        told[parts[1].split(" ")[0]] += 1
+        told[parts[-2]] += parts[-2] in CONSENTS
+        told["to a host"] += " to SHA256:" in line
+        told["without a comment"] += '  key "' not in line
+    return not program or run_program(program, case.words, case.files) == case.wanted, told
+
+
+GOALS = [f"status {status}" for status in (WHOLE, USAGE, FILE_FAULT, BAD_RECORD)]
+GOALS += [*FATES, *CONSENTS, *KINDS, "to a host", "without a comment", "cut: status 0"]
+
+
+def try_records(program: list[str], count: int, seed: str) -> bool:
+    began, told = time.monotonic(), Counter()
+    seeds = [f"{seed}/{place}" for place in range(count)]
+    with multiprocessing.Pool(JOBS) as pool:
+        for each, (same, some) in zip(seeds, pool.imap(partial(try_one, program), seeds, 4)):
+            if not same:
+                pool.terminate()
+                show_mismatch(program, each)
+                return False
+            told += some
+    print("; ".join(f"{name} {number}" for name, number in sorted(told.items())))
+    missed = [name for name in GOALS if not told[name]]
+    if missed:
+        print("not reached: " + "; ".join(missed))
+    print(f"{count} records, in {time.monotonic() - began:.0f} s: no mismatch")
+    return not missed or count < 2000
+
+
+def show_mismatch(program: list[str], seed: str) -> None:
+    case = Case(seed)
+    output, status = run_program(program, case.words, case.files)
+    print(f"record {seed}, {case.kind}, words {case.words}; bin/mismatch.r is its file")
+    for name, text in case.files.items():
+        Path(f"bin/mismatch.{name}").write_bytes(text)
+    show(f"the program, with status {status}", output)
+    show(f"the model, with status {case.wanted[1]}", case.wanted[0])
+
+
+# Wrong logs
+
+CASES: list[Case] = []
+
+
+def first_found(edit: dict[str, str]) -> tuple[int, str | None]:
+    """How many rows tell a wrong log from the right one, and which record does."""
+    wrong, rows = wrong_module(edit, "log"), 0
+    for row in ROWS:
+        wanted = row.printed, row.status
+        rows += attempt(lambda: wrong.log(row.words, row.files.get) != wanted) is not False
+    for place, case in enumerate(CASES, 1):
+        if attempt(lambda: wrong.log(case.words, case.files.get) != case.wanted) is not False:
+            return rows, f"record {place}"
+    return rows, None
+
+
+def try_wrong(count: int, seed: str) -> bool:
+    seeds = [f"{seed}/{place}" for place in range(count)]
+    return try_each("logs", WRONG, CASES, Case, first_found, seeds)
+
+
+def main(program: str = "", count: str = "", seed: str = "") -> int:
+    if not count.isdigit():
+        print(__doc__)
+        return 2
+    seed = seed or str(int.from_bytes(os.urandom(4), "big"))
+    print(f"seed {seed}")
+    if program == "--wrong":
+        return int(not try_wrong(int(count), seed))
+    words = shlex.split(program)
+    words[:1] = [os.path.abspath(words[0])] if "/" in words[0] else words[:1]
+    good = try_rows(words) and try_edges(words) and try_records(words, int(count), seed)
+    return int(not good)
+
+
+if __name__ == "__main__":
+    sys.exit(main(*sys.argv[1:]))

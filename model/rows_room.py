@@ -1,0 +1,70 @@
+"""The literal rows of what a client may make the agent hold: private strings, rules, host keys."""
+
+from __future__ import annotations
+
+from .rows import H1, LIST, NO, OK, S1, added, hear, listing, remove, row, st, stand_in, to
+from .rows_children import START, START_PRINT, bind, chain, true, verify
+from .rows_many import EVERY_ROW as EARLIER
+from .rows_rules import ORIGIN, hop, restrict, rule
+
+# Private strings and rules of 8 MiB in all
+#
+# A key of the tests' type has a private string of 28 + 36 + 36 bytes. A rule from the agent's host
+# to one that is called h and has one key of 64 bytes takes 64 + (64 + 1 + 64 + 64) bytes.
+
+MOST, KEY, RULE = 8388608, 100, 257
+
+
+def ruled(
+    tag: int, rules: int, host: bytes = b"h", user: bytes = b"", comment: bytes = b""
+) -> bytes:
+    """An addition with so many rules, the last of them to this host and for this user."""
+    first, last = rule(ORIGIN, hop(b"", b"h", (H1, 0))), rule(ORIGIN, hop(user, host, (H1, 0)))
+    return b"\x19" + added(tag, comment) + restrict(*[first] * (rules - 1), last)
+
+
+LEFT = MOST - 13 * (KEY + 2380 * RULE)
+RULES, MORE = divmod(LEFT - KEY, RULE)
+TAGS = range(0x21, 0x2E)
+FILL = ["join client", *[line for tag in TAGS for line in hear(1, ruled(tag, 2380))]]
+EXACT, ABOVE = (ruled(0x31, RULES, b"h" * (1 + more)) for more in (MORE, MORE + 1))
+HELD = [(stand_in(tag), b"") for tag in [*TAGS, 0x31]]
+row(
+    "private strings and rules of 8 MiB in all, and one byte more",
+    [*FILL, *hear(1, ABOVE, EXACT, b"\x11" + added(0x32), LIST)],
+    [*[to(1, OK)] * 13, to(1, NO), to(1, OK), to(1, NO), to(1, listing(*HELD))],
+)
+row(
+    "a key is replaced in a full table, and has no byte more",
+    [*FILL, *hear(1, EXACT, ABOVE, EXACT, remove(stand_in(0x21)), b"\x11" + added(0x32))],
+    [*[to(1, OK)] * 13, *[to(1, answer) for answer in (OK, NO, OK, OK, OK)]],
+)
+NAMED, LONGER = (
+    ruled(0x31, RULES, user=b"u" * more, comment=b"c" * 1000) for more in (MORE, MORE + 1)
+)
+row(
+    "a user's name counts, and a comment doesn't",
+    [*FILL, *hear(1, LONGER, NAMED, b"\x11" + added(0x32))],
+    [*[to(1, OK)] * 13, to(1, NO), to(1, OK), to(1, NO)],
+)
+
+# Host keys of 262144 bytes in all
+
+
+def rsa(size: int) -> bytes:
+    """An RSA key whose blob has so many bytes."""
+    return st(b"ssh-rsa") + st(b"\x03") + st(b"\x01" * (size - 20))
+
+
+QUARTER = rsa(65536)
+THREE = chain(1, 2, 2, *[(QUARTER, bytes([n]) * 32, 1) for n in range(3)])
+row(
+    "host keys of 262144 bytes in all, and one byte more",
+    [*START, *THREE[0], *hear(1, bind(rsa(65537), S1, 1)), *hear(1, bind(QUARTER, S1, 1))]
+    + [*hear(2, true(5)), *hear(1, bind(H1, b"new", 0)), *hear(1, bind(QUARTER, S1, 1))]
+    + hear(2, true(6)),
+    [*START_PRINT, *THREE[1], to(1, NO), to(2, verify(5, QUARTER, S1)), to(1, OK)]
+    + [to(1, NO), to(2, verify(6, QUARTER, S1)), to(1, OK)],
+)
+
+EVERY_ROW = EARLIER  # with those of the files that this one stands on
