@@ -404,7 +404,7 @@ def a_ticket_in_the_words_is_still_taken_and_a_dash_alone_is_not(folder):
     rig.built("standin_helper")
     child = rig.Child(rig.BUILT / "standin_helper")
     assert child.end()[0] == 0
-    for name in ("standin_helper", "confirm_relay", "mortarleek_signer", "mortarleek-helper"):
+    for name in ("standin_helper", "confirm_relay", "mortarleek_signer"):
         run([rig.built(name), "-", "1", "-", "/bin/true"], 2, env={}, timeout=20, stdin=subprocess.DEVNULL)
 
 
@@ -495,7 +495,7 @@ def ed25519_key(seed):
 def a_helper_killed_at_each_of_its_system_calls_leaves_nobody_waiting(folder):
     if not shutil.which("strace"):
         raise Skip("strace isn't there")
-    for name, key in (("standin_helper", stand_in_key), ("mortarleek-helper", ed25519_key)):
+    for name, key in (("standin_helper", stand_in_key), ("mortarleek_signer", ed25519_key)):
         killed_at_each_call(folder, rig.built(name), key)
 
 
@@ -887,6 +887,77 @@ def a_long_answer_of_a_helper_arrives(folder):
         blob = add(peer)
         for _ in range(3):
             assert len(peer.ask(request(blob)[0], request(blob)[1:])) == 1 + 4 + 200000
+
+
+# What one client may make an agent hold.
+
+
+def resident(agent):
+    """How many bytes of an agent's memory are in use."""
+    status = pathlib.Path(f"/proc/{agent.process.pid}/status").read_text()
+    return int(re.search(r"VmRSS:\s+(\d+) kB", status)[1]) << 10
+
+
+def rsa_blob(size):
+    """The blob of an RSA key, of so many bytes."""
+    return string(b"ssh-rsa") + string(b"\3") + string(b"\1" * (size - 20))
+
+
+def with_large_private(number):
+    """An addition with a private field of 262,000 bytes."""
+    fields = [number.to_bytes(4, "big"), b"\3", bytes(262000), b"", b"", b""]
+    return ADD, string(b"ssh-rsa") + b"".join(map(string, fields)), string(b"")
+
+
+def with_many_rules(number):
+    """An addition with as many destination constraints as a message carries, each to one host of one key."""
+    fields, comment, blob = stand_in_key(number.to_bytes(32, "big"))
+    origin, host = string(b"") * 3, string(b"") + string(b"h") + string(b"") + string(blob) + b"\0"
+    rules = string(string(origin) + string(host) + string(b"")) * 2370
+    return ADD_LIMITED, fields, comment, b"\xff" + string(b"restrict-destination-v00@openssh.com") + string(rules)
+
+
+@check
+def what_one_client_adds_takes_a_bounded_part_of_memory(folder):
+    """Private strings and constraints have 8 MiB of room in all: what is above it is refused, and the others stay."""
+    for made, taken in ((with_large_private, 32), (with_many_rules, 13)):
+        with serve(folder, name=made.__name__, helper="/bin/false") as agent, agent.peer(seconds=60) as peer:
+            peer.ask(LIST)
+            before, begin = resident(agent), time.monotonic()
+            answers = [peer.ask(*made(number))[0] for number in range(100)]
+            grown, waited = resident(agent) - before, time.monotonic() - begin
+            print(f"{made.__name__}: {taken} keys, {grown / 2**20:.1f} MiB, 100 additions in {waited:.1f} s")
+            assert answers == [SUCCESS] * taken + [FAILURE] * (100 - taken), answers
+            assert len(peer.blobs()) == taken
+            assert grown <= 32 << 20, grown
+            assert peer.ask(*made(0))[0] == SUCCESS, "a key is replaced in a full table"
+
+
+@check
+def the_host_keys_of_a_connection_are_bounded_in_all(folder):
+    """With a helper that says yes to all, each of 32 connections is bound to 262,144 bytes of host keys at most."""
+    helper = rig.HandedOver(folder)
+    try:
+        with serve(folder, helper=helper.program) as agent, contextlib.ExitStack() as open_peers:
+            peers = [open_peers.enter_context(agent.peer(seconds=60)) for _ in range(32)]
+            peers[0].ask(LIST)
+            before, child, host_key = resident(agent), None, rsa_blob(60000)
+            for peer in peers:
+                answers = []
+                for place in range(16):
+                    session = string(b"session %d" % place)
+                    bind = string(b"session-bind@openssh.com") + string(host_key) + session + string(b"s") + b"\1"
+                    peer.send(bytes([rig.EXTENSION]) + bind)
+                    if place < 4:
+                        child = child or helper.wait(1).hello()
+                        child.send(b"\x67" + child.reply()[1:9])
+                    answers.append(peer.reply()[0])
+                assert answers == [SUCCESS] * 4 + [FAILURE] * 12, answers
+            grown = resident(agent) - before
+            print(f"32 connections with 16 tries of 60,000 bytes each: {grown / 2**20:.1f} MiB")
+            assert grown <= 32 << 20, grown
+    finally:
+        helper.close()
 
 
 # Paths, and what is inherited.
