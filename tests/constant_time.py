@@ -6,7 +6,8 @@ memcheck has to find no jump and no address that depends on it. Behind that the 
 which depends on the secret: there memcheck has to find something, or it wouldn't find anything. A signature begins with a
 comparison of the seed's public key, which is no secret: gdb marks that as defined where it is made, and where it doesn't,
 the comparison is found. In the code of LLVM's build, by its own look, no conditional jump may stand but at the ends of loops
-over numbers that aren't secret. The same of a multiple of the base point of P-256 and P-384 in ecdsa_tool. ED25519=PROGRAM,
+over numbers that aren't secret. The same of a multiple of the base point of P-256, P-384 and P-521 in ecdsa_tool; of a whole
+signature there the jumps are counted, which are where FIPS 186-5 has it begin anew. ED25519=PROGRAM,
 MORTARLEEK_SIGNER=PROGRAM and ECDSA=PROGRAM put other programs in their places: the first two Rattle's own compiler's builds
 too."""
 
@@ -17,16 +18,18 @@ import socket
 import struct
 import subprocess
 import sys
-import time
 
 sys.dont_write_bytecode = True
 
+import memcheck
 import rig
+from memcheck import on_a_line
 from rig import BUILT, TOP, string
 
 sys.path.insert(0, str(TOP))
 
 from model import ed25519 as model
+from model.ecdsa import P256, P384, P521
 
 check = rig.Checks("constant_time")
 TOOL = pathlib.Path(os.environ.get("ED25519", BUILT / "ed25519_tool"))
@@ -59,42 +62,21 @@ JUMPS = {
     "sha2::block512::compress": 1,
 }
 
-# The curves of ecdsa_tool, and the bits of a number.
-CURVES = {"p256": 256, "p384": 384}
+# The curves of ecdsa_tool, and the words of 64 bits and the bytes of a number.
+CURVES = {"p256": (4, 32), "p384": (6, 48), "p521": (9, 66)}
 
-# The same of ecdsa_tool.
+# The same of ecdsa_tool. Over P-521 the product modulo n stands where it is used, over rows that don't.
 ECDSA_JUMPS = {
     function: most
-    for curve, bits in CURVES.items()
+    for curve, (words, _) in CURVES.items()
     for function, most in (
         (f"{curve}_curve::doublings::Doublings::multiple_by_bits", 1),
         (f"{curve}_curve::point::Point::add", 0),
         (f"{curve}_field::residue::Residue::product", 0),
-        (f"{curve}_order::residue::Residue::product", 0),
-        (f"wide_words::u{bits}::U{bits}::is_below", 0),
+        (f"{curve}_order::residue::{'rows' if curve == 'p521' else 'Residue::product'}", 0),
+        (f"wide_words::u{64 * words}::U{64 * words}::is_below", 0),
     )
 }
-
-# Where the program stops, what is marked there, and how often it is continued until then.
-SCRIPT = """
-set pagination off
-set confirm off
-target remote | vgdb --pid={pid} --wait=60
-break {function}
-continue
-{marks}
-set $back = *(unsigned long*)$rsp
-delete
-{public}
-break *$back
-continue
-printf "returned %d\\n", $pc == $back
-monitor v.info n_errs_found
-delete
-continue
-monitor v.info n_errs_found
-kill
-"""
 
 # Marks what a function gives first as defined: 32 bytes, for which LLVM's build is passed room, and which Rattle's own
 # compiler gives in registers.
@@ -113,28 +95,11 @@ IN_MEMORY = 'eval "monitor make_memory defined 0x%lx 32", $made'
 IN_REGISTERS = "\n".join(f"set ${register}s1 = 0" for register in ("rax", "rdx", "rcx", "rsi"))
 
 
-def marked(register, text):
-    """Says what stands at a register, and marks that as undefined."""
-    words = len(text) // 8
-    return f'x/{words}xg {register}\neval "monitor make_memory undefined 0x%lx {len(text)}", {register}'
-
-
 def present(program, functions):
     """The first of these that the program has code of: what Rattle's own compiler inlined has a name, and no length."""
     symbols = [line.split() for line in rig.run(["nm", "-S", "--defined-only", program]).splitlines()]
     names = {words[3] for words in symbols if len(words) == 4 and int(words[1], 16)}
     return next(name for name in functions if name in names)
-
-
-def on_a_key(tool, private=SEED.hex()):
-    """Starts a tool on a line that asks for a public key, under these words before it."""
-
-    def start(folder, before, output):
-        lines = pathlib.Path(folder, "lines")
-        lines.write_text(f"key {private}\n")
-        return subprocess.Popen([*before, tool, lines], stdout=output, stderr=subprocess.STDOUT)
-
-    return start
 
 
 def of_helper(folder, before, output):
@@ -153,48 +118,51 @@ def of_helper(folder, before, output):
 
 
 def watched(folder, start, program, function, takes, public=""):
-    """Whether the function returned before memcheck found an error; the errors then, and where it stopped next."""
-    log = pathlib.Path(folder, "memcheck")
-    words = ["valgrind", "-q", "--vgdb=yes", "--vgdb-error=0", "--vgdb-shadow-registers=yes", f"--log-file={log}"]
-    with open(pathlib.Path(folder, "output"), "w") as output:
-        memcheck = start(folder, words, output)
-    try:
-        time.sleep(1)
-        marks = "\n".join(marked(register, text) for register, text in takes.items())
-        script = pathlib.Path(folder, "script")
-        script.write_text(SCRIPT.format(pid=memcheck.pid, function=function, marks=marks, public=public))
-        said = rig.run(["gdb", "-q", "-batch", "-x", script, program], status=None, timeout=300)
-    finally:
-        memcheck.kill()
-        memcheck.wait()
-    counts = [int(number) for number in re.findall(r"n_errs_found (\d+)", said)]
-    assert "returned " in said and len(counts) == 2, said[-2000:]
-    found = [int(word, 16) for word in re.findall(r"\t0x([0-9a-f]{16})\b", said)]
-    wanted = [word for text in takes.values() for word in struct.unpack(f"<{len(text) // 8}Q", text)]
-    assert found[: len(wanted)] == wanted, f"{function}: the secret isn't where it was marked"
-    return "returned 1" in said, *counts
+    """What memcheck finds of a function, where each of these texts is marked that it takes, at its register."""
+    marks = [memcheck.shown(register, text) for register, text in takes.items()]
+    found = memcheck.watched(folder, start, program, function, marks, public)
+    assert memcheck.were_there(found, takes.values()), f"{function}: the secret isn't where it was marked"
+    return found
 
 
 def holds(folder, start, program, function, takes, public=""):
-    returned, before, after = watched(folder, start, program, function, takes, public)
-    assert returned and before == 0, f"{function}: a jump or an address depends on a secret"
-    assert after > 0, f"{function}: memcheck finds nothing, also where something is"
+    found = watched(folder, start, program, function, takes, public)
+    assert found.returned and found.before == 0, f"{function}: a jump or an address depends on a secret"
+    assert found.after > 0, f"{function}: memcheck finds nothing, also where something is"
 
 
 @check
 def a_public_key_is_made_alike_for_each_seed(folder):
     function = present(TOOL, MAKES)
-    holds(folder, on_a_key(TOOL), TOOL, function, MAKES[function])
+    holds(folder, on_a_line(TOOL, f"key {SEED.hex()}"), TOOL, function, MAKES[function])
 
 
 @check
 def a_multiple_of_a_base_point_is_made_alike_for_each_number(folder):
     """The number is the third word that the function is passed, behind the room for the point and the doublings: in words,
     the lowest first."""
-    for curve, bits in CURVES.items():
-        private = (2 * SEED)[: bits // 8]
+    for curve, (words, size) in CURVES.items():
+        # Over P-521 the first byte has one bit.
+        private = (b"\0" * (size % 8 > 0) + 3 * SEED)[:size]
+        taken = {"$rdx": private[::-1].ljust(8 * words, b"\0")}
         multiple = f"{curve}_curve::doublings::Doublings::multiple_by_bits"
-        holds(folder, on_a_key(rig.there(ECDSA), f"{curve} {private.hex()}"), ECDSA, multiple, {"$rdx": private[::-1]})
+        holds(folder, on_a_line(rig.there(ECDSA), f"key {curve} {private.hex()}"), ECDSA, multiple, taken)
+
+
+@check
+def an_ecdsa_signature_turns_but_where_the_standard_asks(folder):
+    """From the private number to r and s: at whether the nonce is in its range, at both ends of it, whether r is 0, and
+    whether s is. Each of them begins anew with another nonce."""
+    for curve in (P256, P384, P521):
+        private = int.from_bytes((3 * SEED)[: curve.size], "big") % curve.n
+        line = f"sign {curve.name} {curve.octets(private).hex()} {curve.public_key(private).hex()} {MESSAGE.hex()}"
+        function, start = f"{curve.name}_ecdsa::sign::sign_hash", on_a_line(rig.there(ECDSA), line)
+        # Behind the room for what it gives and the doublings it takes the number.
+        marks = [memcheck.undefined("$rdx", 8 * CURVES[curve.name][0])]
+        found = memcheck.watched(folder, start, ECDSA, function, marks, most=100)
+        assert found.returned and found.before == 4, f"{function}: {found.places}"
+        assert {place for _, place in found.places[:4]} == {function}, f"{function}: {found.places}"
+        assert found.after > 4, f"{function}: memcheck finds nothing behind it, where something is"
 
 
 @check
@@ -207,8 +175,8 @@ def the_helper_signs_alike_for_each_seed(folder):
 @check
 def a_comparison_that_may_stop_early_is_found(folder):
     """The control: that of the public keys, where the one that is made isn't marked as public."""
-    returned, before, _ = watched(folder, of_helper, HELPER, SIGNS, TAKEN)
-    assert not returned and before > 0, "memcheck finds no jump where one is"
+    found = watched(folder, of_helper, HELPER, SIGNS, TAKEN)
+    assert not found.returned and found.before > 0, "memcheck finds no jump where one is"
 
 
 def jumps(function, program):

@@ -1,5 +1,5 @@
 #!/usr/bin/env python3
-"""ECDSA over P-256 and P-384 as it is built (ecdsa_tool), beside RFC 6979's vectors, NIST's, libcrypto and the second
+"""ECDSA over P-256, P-384 and P-521 as it is built (ecdsa_tool), beside RFC 6979's vectors, NIST's, libcrypto and the second
 reading of model/ecdsa.py. Words choose checks by a part of their names; `ecdsa.py N SEED` takes N random keys of each
 curve (1000) by a seed."""
 
@@ -15,14 +15,16 @@ sys.dont_write_bytecode = True
 import line_tools
 import rig
 from line_tools import spoken, turned
-from rig import BUILT, TOP, Skip
+from rig import BUILT, TOP
 
 sys.path.insert(0, str(TOP))
 
 from model import ecdsa as model
-from model.ecdsa import CURVES, P256, P384
+from model.ecdsa import CURVES, KEPT_P256, KEPT_P384, KEPT_P521, P256, P384, P521
 
 check = rig.Checks("ecdsa")
+# The curves that keep multiples of points that come again.
+KEPT = dict(zip(CURVES, (KEPT_P256, KEPT_P384, KEPT_P521)))
 TOOL = pathlib.Path(os.environ.get("ECDSA", BUILT / "ecdsa_tool"))
 same = functools.partial(line_tools.same, functools.partial(line_tools.answers, TOOL))
 VECTORS = pathlib.Path("/usr/lib/python3/dist-packages/cryptography_vectors/asymmetric/ECDSA/FIPS_186-3")
@@ -30,7 +32,7 @@ NUMBERS = [int(word) for word in sys.argv[1:] if word.isdigit()]
 COUNT = NUMBERS[0] if NUMBERS else 1000
 SEED = NUMBERS[1] if len(NUMBERS) > 1 else 66
 
-# RFC 6979, sections A.2.5 and A.2.6: private key, public key, and r and s of "sample" and "test".
+# RFC 6979, sections A.2.5 to A.2.7: private key, public key, and r and s of "sample" and "test".
 VECTORS_6979 = {
     P256: (
         "c9afa9d845ba75166b5c215767b1d6934e50c3db36e89b127b8a622b120f6721",
@@ -49,6 +51,19 @@ VECTORS_6979 = {
         "4aeb15f178cea1fe40db2603138f130e740a19624526203b6351d0a3a94fa329c145786e679e7b82c71a38628ac8",
         "8203b63d3c853e8d77227fb377bcf7b7b772e97892a80f36ab775d509d7a5feb0542a7f0812998da8f1dd3ca3cf023dbddd0"
         "760448d42d8a43af45af836fce4de8be06b485e9b61b827c2f13173923e06a739f040649a667bf3b828246baa5a5",
+    ),
+    P521: (
+        "00fad06daa62ba3b25d2fb40133da757205de67f5bb0018fee8c86e1b68c7e75caa896eb32f1f47c70855836a6d16fcc1466"
+        "f6d8fbec67db89ec0c08b0e996b83538",
+        "0401894550d0785932e00eaa23b694f213f8c3121f86dc97a04e5a7167db4e5bcd371123d46e45db6b5d5370a7f20fb63315"
+        "5d38ffa16d2bd761dcac474b9a2f5023a400493101c962cd4d2fddf782285e64584139c2f91b47f87ff82354d6630f746a28"
+        "a0db25741b5b34a828008b22acc23f924faafbd4d33f81ea66956dfeaa2bfdfcf5",
+        "00c328fafcbd79dd77850370c46325d987cb525569fb63c5d3bc53950e6d4c5f174e25a1ee9017b5d450606add152b534931"
+        "d7d4e8455cc91f9b15bf05ec36e377fa00617cce7cf5064806c467f678d3b4080d6f1cc50af26ca209417308281b68af2826"
+        "23eaa63e5b5c0723d8b8c37ff0777b1a20f8ccb1dccc43997f1ee0e44da4a67a",
+        "013e99020abf5cee7525d16b69b229652ab6bdf2affcaef38773b4b7d08725f10cdb93482fdcc54edcee91eca4166b2a7c62"
+        "65ef0ce2bd7051b7cef945babd47ee6d01fbd0013c674aa79cb39849527916ce301c66ea7ce8b80682786ad60f98f7e78a19"
+        "ca69eff5c57400e3b3a0ad66ce0978214d13baf4e9ac60752f7b155e2de4dce3",
     ),
 }
 
@@ -87,13 +102,10 @@ def calls_of(curve, d, public, message, signature):
 @functools.cache
 def libcrypto():
     """What Python's cryptography, which calls libcrypto, has for this."""
-    rig.install("ecdsa")
-    try:
+    with line_tools.cryptography("ecdsa"):
         from cryptography.exceptions import InvalidSignature
         from cryptography.hazmat.primitives import hashes
         from cryptography.hazmat.primitives.asymmetric import ec, utils
-    except ImportError as error:
-        raise Skip(f"no cryptography for this Python: {error}") from None
     return ec, utils, hashes, InvalidSignature
 
 
@@ -103,6 +115,7 @@ def of_libcrypto(curve):
     return {
         P256: (ec.SECP256R1(), hashes.SHA256()),
         P384: (ec.SECP384R1(), hashes.SHA384()),
+        P521: (ec.SECP521R1(), hashes.SHA512()),
     }[curve]
 
 
@@ -125,7 +138,7 @@ def the_vectors_of_the_standard(folder):
         for message, signature in zip((b"sample", b"test"), signatures):
             rows += calls_of(curve, private_of(curve), public_of(curve), message, bytes.fromhex(signature))
             assert curve.sign(private_of(curve), message).hex() == signature
-    assert same(folder, rows) == 12
+    assert same(folder, rows) == 6 * len(CURVES)
 
 
 @check
@@ -158,7 +171,7 @@ def random_keys_beside_libcrypto_and_the_model(folder):
         for _ in range(COUNT):
             d, message = pick.randrange(1, curve.n), pick.randbytes(pick.choice((0, 1, 31, 55, 56, 64, 111, 112, 200)))
             key = ec.derive_private_key(d, of_libcrypto(curve)[0]).public_key()
-            public, signature = key.public_bytes(Encoding.X962, PublicFormat.UncompressedPoint), curve.sign(d, message)
+            public, signature = key.public_bytes(Encoding.X962, PublicFormat.UncompressedPoint), KEPT[curve].sign(d, message)
             assert accepts_libcrypto(curve, public, message, signature)
             rows += calls_of(curve, d, public, message, signature)
             texts = [public, message, signature]
@@ -180,7 +193,7 @@ def each_bit_of_one_signature(folder):
             for place in range(8 * len(text)):
                 changed = list(texts)
                 changed[part] = turned(text, place)
-                rows.append((verifying(curve, *changed), spoken(curve.verify(*changed))))
+                rows.append((verifying(curve, *changed), spoken(KEPT[curve].verify(*changed))))
         assert {answer for _, answer in rows} == {"false"}
         assert same(folder, rows) == 8 * (4 * curve.size + 1 + len(message))
 

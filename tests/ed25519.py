@@ -15,7 +15,7 @@ sys.dont_write_bytecode = True
 import line_tools
 import rig
 from line_tools import spoken, turned
-from rig import BUILT, TOP, Skip
+from rig import BUILT, TOP
 
 sys.path.insert(0, str(TOP))
 
@@ -84,12 +84,9 @@ def calls_of(seed, public, message, signature):
 @functools.cache
 def libcrypto():
     """The key types of Python's cryptography, which calls libcrypto."""
-    rig.install("ed25519")
-    try:
+    with line_tools.cryptography("ed25519"):
         from cryptography.exceptions import InvalidSignature
         from cryptography.hazmat.primitives.asymmetric import ed25519
-    except ImportError as error:
-        raise Skip(f"no cryptography for this Python: {error}") from None
     return ed25519.Ed25519PrivateKey, ed25519.Ed25519PublicKey, InvalidSignature
 
 

@@ -1,7 +1,20 @@
 """What ecdsa.py, ed25519.py and rsa.py have in common: a program that answers each line of a file, and what it should say."""
 
+import contextlib
 import pathlib
 import subprocess
+
+import rig
+
+
+@contextlib.contextmanager
+def cryptography(check):
+    """Within it Python's cryptography, which calls libcrypto, is imported; a `Skip` says why where it can't be had."""
+    rig.install(check)
+    try:
+        yield
+    except ImportError as error:
+        raise rig.Skip(f"no cryptography for this Python: {error}") from None
 
 
 def answers(program, folder, lines):

@@ -10,16 +10,16 @@ import os
 import pathlib
 import random
 import re
-import subprocess
 import sys
-import time
 
 sys.dont_write_bytecode = True
 
 import line_tools
+import memcheck
 import rig
 from line_tools import spoken, turned
-from rig import BUILT, Skip
+from memcheck import on_a_line
+from rig import BUILT
 
 check = rig.Checks("rsa")
 TOOL = pathlib.Path(os.environ.get("RSA", BUILT / "rsa_tool"))
@@ -77,13 +77,10 @@ def encoded(name, message, size):
 @functools.cache
 def libcrypto():
     """Python's cryptography, which calls libcrypto."""
-    rig.install("rsa")
-    try:
+    with line_tools.cryptography("rsa"):
         from cryptography.exceptions import InvalidSignature
         from cryptography.hazmat.primitives import hashes
         from cryptography.hazmat.primitives.asymmetric import padding, rsa
-    except ImportError as error:
-        raise Skip(f"no cryptography for this Python: {error}") from None
     names = {"sha1": hashes.SHA1(), "sha256": hashes.SHA256(), "sha512": hashes.SHA512()}
     return rsa, padding.PKCS1v15(), names, InvalidSignature
 
@@ -363,69 +360,31 @@ def factors_of_different_lengths(folder):
     same(folder, rows)
 
 
-# What gdb has memcheck do: the numbers of a function are undefined until it returns, and defined nowhere behind it.
-SCRIPT = """set pagination off
-set confirm off
-set breakpoint pending on
-target remote | vgdb --pid={pid} --wait=60
-break {function}
-continue
-set $back = *(unsigned long *)$rsp
-{marks}
-delete
-break *$back
-continue
-printf "returned %d\\n", $pc == $back
-monitor v.info n_errs_found
-delete
-continue
-monitor v.info n_errs_found
-kill
-"""
-
-
 def stacked(place):
+    """A word that a function is passed on the stack."""
     return f"*(unsigned long *)($rsp + {place})"
 
 
+# What looks at a signature first.
+VERIFIES = "rsa_verify::verification::opens"
 # Where LLVM's build passes each secret number, and its octets for a key of 1024 bits: the message, d and a factor; then
-# both parts, iqmp, p and q. A wrong place shows: memcheck would find nothing behind the function either.
+# both parts, iqmp, p and q. A wrong place shows: memcheck would find nothing in the verification either.
 SECRETS = [
-    ("rsa_sign::part::set_part", [("$rdx", 128), ("$r8", 128), (stacked(8), 64)]),
+    ("rsa_sign::part::part_of", [("$rsi", 128), ("$rcx", 128), ("$r9", 64)]),
     ("rsa_sign::joining::set_joined", [("$rsi", 64), ("$rcx", 64), ("$r9", 64), (stacked(8), 64), (stacked(24), 64)]),
 ]
 
 
-def watched(folder, function, place, size):
-    """Whether the function returned, what memcheck had found by then, and whether it found more until the end."""
-    key, _ = drawn(1024)
-    path = pathlib.Path(folder, "lines")
-    path.write_text(key.signing("sha256", b"watched") + "\n")
-    log = pathlib.Path(folder, "memcheck")
-    with open(pathlib.Path(folder, "output"), "w") as output:
-        words = ["valgrind", "-q", "--vgdb=yes", "--vgdb-error=0", f"--log-file={log}", TOOL, path]
-        memcheck = subprocess.Popen(words, stdout=output, stderr=subprocess.STDOUT)
-    try:
-        time.sleep(1)
-        marks = f'eval "monitor make_memory undefined 0x%lx {size}", {place}'
-        script = pathlib.Path(folder, "script")
-        script.write_text(SCRIPT.format(pid=memcheck.pid, function=function, marks=marks))
-        said = rig.run(["gdb", "-q", "-batch", "-x", script, TOOL], status=None, timeout=300)
-    finally:
-        memcheck.kill()
-        memcheck.wait()
-    counts = [int(number) for number in re.findall(r"n_errs_found (\d+)", said)]
-    return "returned 1" in said, counts[0] if counts else None, counts[1:] > [0]
-
-
 @check
 def no_step_depends_on_a_secret(folder):
-    """By memcheck: no jump and no address of the powers and of the joining, of each number by itself."""
+    """By memcheck: no jump and no address, of each number by itself, until the signature that comes of it is verified."""
     rig.install("constant_time")
+    start = on_a_line(TOOL, drawn(1024)[0].signing("sha256", b"watched"))
     for function, marks in SECRETS:
         for place, size in marks:
-            found = watched(folder, function, place, size)
-            assert found == (True, 0, True), f"{function}, {place}: {found}"
+            found = memcheck.watched(folder, start, TOOL, function, [memcheck.undefined(place, size)])
+            assert found.returned and found.before == 0, f"{function}, {place}: {found.places}"
+            assert {where for _, where in found.places} == {VERIFIES}, f"{function}, {place}: {found.places}"
 
 
 @check

@@ -26,7 +26,7 @@ sys.path.insert(0, str(TOP))
 sys.path.insert(0, str(TOP / "helper/tests"))
 
 import openssh
-from model.ecdsa import P256, P384
+from model.ecdsa import P256, P384, P521
 from model import ed25519 as model
 
 check = rig.Checks("traces")
@@ -230,7 +230,7 @@ def numbered(name, number, size):
 def ecdsa_secrets(curve, d, message):
     """The private number and the nonce, both in Montgomery's form too, what they are multiplied to, and K and V."""
     hashed, size = curve.digest(message), curve.size
-    nonce, n, radix = next(curve.nonces(d, hashed)), curve.n, 256**size
+    nonce, n, radix = next(curve.nonces(d, hashed)), curve.n, 256 ** (8 * -(-size // 8))
     signature = curve.sign(d, message)
     r = int.from_bytes(signature[:size], "big")
     texts = {}
@@ -271,7 +271,8 @@ def the_helper_s_answers_leave_nothing_of_other_keys(folder):
     """Signed, and refused since a private number is another one. The control: of a request that isn't whole, pieces stay."""
     if rig.is_rattle_s(rig.there(HELPER)):
         raise rig.Skip("a register of the build by Rattle's own compiler keeps a piece of an ECDSA nonce")
-    for kind, bits, flags, curve in (("ecdsa", "256", 0, P256), ("ecdsa", "384", 0, P384), ("rsa", "2048", 4, None)):
+    ecdsas = [("ecdsa", curve.name[1:], 0, curve) for curve in (P256, P384, P521)]
+    for kind, bits, flags, curve in (*ecdsas, ("rsa", "2048", 4, None)):
         key = openssh.generate(folder, kind, bits)
         numbers = [int.from_bytes(field, "big") for field in key.fields]
         changed = list(key.fields)
