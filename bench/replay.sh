@@ -1,14 +1,16 @@
 #!/usr/bin/env bash
 # Lines and bytes per second of `agent_prog replay` for schedules of several shapes, beside what sha256sum and wc -l
 # take for the same file in the same run, the most memory that each held, and how much replay wrote; and what
-# `audit_prog` takes for the file and what replay wrote, beside replay. Needs python3, GNU time, and bin/agent_prog and
-# bin/audit_prog, which `make` builds. The shapes may be named as words: bench/replay.sh keys
+# `audit_prog` takes for the file and what replay wrote, and `log_prog` for the file, beside replay. Needs python3, GNU
+# time, and bin/agent_prog, bin/audit_prog and bin/log_prog, which `make` builds. The shapes may be named as words:
+# bench/replay.sh keys
 set -eu
 cd "$(dirname "$0")/.."
 agent=$PWD/bin/agent_prog
 audit=$PWD/bin/audit_prog
+log=$PWD/bin/log_prog
 shapes=${*:-cut long many keys aged ends signs}
-for program in "$agent" "$audit"; do
+for program in "$agent" "$audit" "$log"; do
     [ -x "$program" ] || { echo "bench: run make first" >&2; exit 1; }
 done
 work=$(mktemp -d)
@@ -164,4 +166,8 @@ for shape in $shapes; do
         -v files="$(cat "$file" "$work/deeds" | wc -c)" 'BEGIN {
         printf "%s: audited in %.1f times the time of replay; %d kB resident, of which both files are %d kB\n",
             shape, audited / ours, kept, files / 1024 }'
+    awk -v shape="$shape" -v ours="$ours" -v logged="$(least "$file" "$log" "$file")" \
+        -v kept="$(resident "$file" "$log" "$file")" -v bytes="$bytes" 'BEGIN {
+        printf "%s: its log in %.1f times the time of replay; %d kB resident, of which the file is %d kB\n",
+            shape, logged / ours, kept, bytes / 1024 }'
 done

@@ -21,14 +21,14 @@ from rig import ADD, SIGN, children, string, strings
 
 WORK, ROUNDS, WHAT = pathlib.Path(sys.argv[1]), int(sys.argv[2]), sys.argv[3]
 MESSAGE = bytes(200)
-PROVED, OTHER = rig.HELPER, rig.BEHIND
-# The types that the proved helper hands on.
-BEHIND = ("ecdsa-sha2-nistp521",)
-# key, name for openssl speed, flags, requests in a round
+PROVED, OTHER = rig.HELPER, rig.OTHER
+# key, name (openssl speed has all but the last of RSA), flags, requests in a round
 KEYS = [
     (("ed25519", "256"), "ed25519", 0, 1000),
     (("rsa", "2048"), "rsa2048", 4, 200),
     (("rsa", "3072"), "rsa3072", 4, 60),
+    (("rsa", "4096"), "rsa4096", 4, 20),
+    (("rsa", "8192"), "rsa8192", 4, 5),
     (("ecdsa", "256"), "ecdsap256", 0, 2000),
     (("ecdsa", "384"), "ecdsap384", 0, 60),
     (("ecdsa", "521"), "ecdsap521", 0, 200),
@@ -53,9 +53,9 @@ def asked(peer, body, count):
     return answer
 
 
-def helper_time(words, body, count):
+def helper_time(program, body, count):
     """What a request takes in a helper that has answered one."""
-    child = rig.Child(*words)
+    child = rig.Child(program)
     asked(child.peer, body, 2)
     begin = used(child.process.pid)
     asked(child.peer, body, count)
@@ -76,14 +76,15 @@ def agent_time(agent, key, flags, count):
 
 
 def speed(name):
-    """Processor seconds of libcrypto for a signature and a verification, with a key that is kept."""
+    """Processor seconds of libcrypto for a signature and a verification, with a key that is kept; none of a kind that
+    openssl speed doesn't know."""
     words = ["openssl", "speed", "-mr", "-seconds", "1", name]
-    said = subprocess.run(words, capture_output=True, text=True, check=True).stdout
+    said = subprocess.run(words, capture_output=True, text=True).stdout
     for line in said.splitlines():
         fields = line.split(":")
         if fields[0] in ("+F2", "+F4", "+F6"):
-            return [1 / float(rate) for rate in fields[-2:]]
-    raise SystemExit(f"helper: openssl speed said nothing of {name}")
+            return {what: 1 / float(rate) for what, rate in zip(("signs", "verifies"), fields[-2:])}
+    return {}
 
 
 def with_key(what, count):
@@ -91,22 +92,15 @@ def with_key(what, count):
     return int(rig.run([WORK / "libcrypto", what, count])) / 1e9
 
 
-def helpers(plain):
-    """The helpers that know keys of this type, by names, with their words."""
-    found = {}
-    if PROVED.exists() and plain not in BEHIND:
-        found["mortarleek_signer"] = [PROVED]
-    if OTHER.exists():
-        found["mortarleek-helper"] = [OTHER]
-    if PROVED.exists() and OTHER.exists() and plain in BEHIND:
-        found["through both"] = [PROVED, OTHER]
-    return found
+def helpers():
+    """The helpers that are built, by names."""
+    return {path.name: path for path in (PROVED, OTHER) if path.exists()}
 
 
 def bodies(key, flags):
     """A request to sign, and one to verify that signature."""
     sign = sign_body(1, key.private, key.blob, MESSAGE, flags)
-    child = rig.Child(*(helpers(key.plain) or {"": [OTHER]}).popitem()[1])
+    child = rig.Child(next(iter(helpers().values())))
     child.peer.send(sign)
     (signature,) = strings(child.peer.reply()[9:])
     child.end()
@@ -119,10 +113,10 @@ def measure(kind, bits, name, flags, count):
     least = {}
     for _ in range(ROUNDS):
         now = {}
-        for helper, words in helpers(key.plain).items():
-            now[helper, "signs"] = helper_time(words, sign, count)
-            now[helper, "verifies"] = helper_time(words, verify, count)
-        now["libcrypto", "signs"], now["libcrypto", "verifies"] = speed(name)
+        for helper, program in helpers().items():
+            now[helper, "signs"] = helper_time(program, sign, count)
+            now[helper, "verifies"] = helper_time(program, verify, count)
+        now.update({("libcrypto", what): seconds for what, seconds in speed(name).items()})
         now["ssh-agent", "signs"] = agent_time(rig.openssh_agent(WORK, stderr=subprocess.DEVNULL), key, flags, count)
         if kind == "ed25519":
             now["libcrypto with its key", "signs"] = with_key("sign", count)
@@ -161,9 +155,9 @@ def instructions():
     """Of many less those of few, so that the start of a program isn't counted."""
     few, many = 2, 22
     sign, verify = bodies(openssh.generate(WORK, "ed25519", "256"), 0)
-    for helper, words in helpers("ssh-ed25519").items():
+    for helper, program in helpers().items():
         for what, body in (("signs", sign), ("verifies", verify)):
-            run = lambda count: counted([*words, "-", "1", "0" * 32], lambda peer: asked(peer, body, count))
+            run = lambda count: counted([program, "-", "1", "0" * 32], lambda peer: asked(peer, body, count))
             print(f"ed25519: {helper} {what} by {(run(many) - run(few)) / (many - few):.0f} instructions", flush=True)
     for what in ("sign", "verify"):
         run = lambda count: counted([WORK / "libcrypto", what, count])

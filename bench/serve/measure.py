@@ -302,7 +302,7 @@ def calls(agents, null):
     for clients in (1, 16, 100):
         found = {name: system_calls(agent, clients) for name, agent in dict(agents, null=null).items()}
         tell(f"system calls a refusal, {clients} clients", found, "calls")
-    if (rig.BUILT / "mortarleek-helper").exists():
+    if rig.HELPER.exists():
         request = signs(agents, "ed25519", "256")
         for clients in (1, 16, 100):
             found = {name: system_calls(agent, clients, request) for name, agent in agents.items()}
@@ -362,8 +362,8 @@ def signs(agents, kind, bits, flags=0):
 
 def signatures(agents, null):
     """Signatures over one key at a time, agent and helper together."""
-    if not (rig.BUILT / "mortarleek-helper").exists():
-        print("serve: no signatures: bin/mortarleek-helper isn't built")
+    if not rig.HELPER.exists():
+        print("serve: no signatures: bin/mortarleek_signer isn't built")
         return
     for kind, bits, flags in (("ed25519", "256", 0), ("rsa", "2048", 4), ("ecdsa", "256", 0)):
         request = signs(agents, kind, bits, flags)
