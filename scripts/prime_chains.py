@@ -1,0 +1,120 @@
+"""Chains of primes, by which prime_laws shows that a curve's p is prime: for each n of a chain an element whose order,
+modulo any divisor of n but 1, is a product of smaller primes, and greater than the root of n."""
+from math import isqrt, prod
+
+# below this, trial division shows that a number is prime
+TRIED = 2**20
+
+# the primes of the chains: each divides n - 1 for a greater n of its chain, or p - 1
+PRIMES = [
+    # of P-256
+    197,
+    3677,
+    78283,
+    704251,
+    66417393611,
+    11290956913871,
+    46076956964474543,
+    774023187263532362759620327192479577272145303,
+    835945042244614951780389953367877943453916927241,
+    # of P-384
+    38557,
+    312289,
+    363557,
+    532247449,
+    44925942675193,
+    35581458644053887931343,
+    23964610537191310276190549303,
+    862725979338887169942859774909,
+    20705423504133292078628634597817,
+    413244619895455989650825325680172591660047,
+    12397338596863679689524759770405177749801411,
+    19173790298027098165721053155794528970226934547887232785722672956982046098136719667167519737147526097,
+    # of P-521, where p - 1 is 2 (2^260 - 1) (2^260 + 1)
+    7,
+    11,
+    151,
+    223,
+    347,
+    397,
+    1433,
+    1663,
+    2437,
+    23609,
+    49481,
+    2995763,
+    8620289,
+    9211861,
+    308761441,
+    2400573761,
+    2534364967,
+    24098228377,
+    65427463921,
+    674750394557,
+    108140989558681,
+    145295143558111,
+    361725589517273017,
+    173308343918874810521923841,
+]
+
+
+def factors(n: int) -> list:
+    """Primes that divide n - 1, the greatest first, until the square of their product is greater than n."""
+    chosen = []
+    for prime in sorted(PRIMES, reverse=True):
+        while prod(chosen) ** 2 <= n and (n - 1) % (prod(chosen) * prime) == 0:
+            chosen.append(prime)
+    for prime in sorted(chosen):
+        if prod(chosen) ** 2 > n * prime**2:
+            chosen.remove(prime)
+    assert prod(chosen) ** 2 > n, f"more primes that divide {n} - 1 are wanted"
+    return chosen
+
+
+def certificate(n: int, primes: list):
+    """An element of the order that is the product of primes, and for each an inverse, as `is-certificate` reads them."""
+    order = prod(primes)
+    element = next(
+        x
+        for x in (pow(base, (n - 1) // order, n) for base in range(2, n))
+        if all(pow(x, order // prime, n) != 1 for prime in primes)
+    )
+    inverses, x = [], element
+    for place, prime in enumerate(primes):
+        inverses.append(pow(pow(x, prod(primes[place + 1 :]), n) - 1, -1, n))
+        x = pow(x, prime, n)
+    return element, list(zip(primes, inverses))
+
+
+def number(n: int) -> str:
+    return str(n) if n < 2**64 else hex(n)
+
+
+def name(n: int) -> str:
+    return f"prime-{n}" if n < 2**64 else f"prime-of-{n.bit_length()}-bits"
+
+
+def links(n: int, known: list) -> list:
+    """The lemmas that end with the one that n is prime, those in known left out."""
+    if n in known:
+        return []
+    known.append(n)
+    if n < TRIED:
+        return [f"{name(n)} : IsPrime {n}\n{name(n)} = prime-by-trial {n} {isqrt(n) - 1} refl refl\n"]
+    primes = factors(n)
+    lemmas = [lemma for prime in sorted(set(primes)) for lemma in links(prime, known)]
+    element, pairs = certificate(n, primes)
+    listed = " ∷ ".join(f"({number(prime)}, {number(inverse)})" for prime, inverse in pairs)
+    shown = "".join(f"({name(prime)}, " for prime in primes) + "tt" + ")" * len(primes)
+    bits = prod(primes).bit_length()
+    lemmas.append(
+        f"{name(n)} : IsPrime {number(n)}\n{name(n)} =\n"
+        f"    prime-by-order {number(n)} {bits} {number(element)}\n    ({listed} ∷ [])\n    {shown} refl refl\n"
+    )
+    return lemmas
+
+
+def chain(prime: int) -> str:
+    """The lemmas that show that a curve's p is prime; the last says it."""
+    *before, last = links(prime, [])
+    return "\n".join([*before, "pub " + last])
