@@ -2,6 +2,7 @@
 """`log_prog` and `mortarleek log` over literal records and over one that `agent_prog serve --record` made with OpenSSH's
 clients: a login and signatures for files are told with their keys, host and fates, and a refusal too."""
 
+import base64
 import json
 import os
 import pathlib
@@ -14,7 +15,7 @@ sys.dont_write_bytecode = True
 
 import rig
 from hosts import SSHD, USER, Hosts, keygen
-from rig import our_agent, run, until
+from rig import our_agent, run, string, until
 
 sys.path.insert(0, str(rig.TOP))
 from model.rows_log import ROWS
@@ -96,8 +97,11 @@ def what_real_clients_had_signed_is_told(folder):
         (folder / "text.sig").unlink()
         wanted.append(f'  file in namespace "{name}"  key "other" {shown(other)}  signed')
     agent.run("ssh-add", "-q", "-d", other)
-    agent.run("ssh-keygen", "-q", "-Y", "sign", "-n", "file", "-f", f"{other}.pub", folder / "text", status=None)
-    wanted.append(f'  file in namespace "file"  key "other" {shown(other)}  refused')
+    # ssh-keygen asks for no signature with a key that the agent doesn't list.
+    with agent.peer() as peer:
+        blob = base64.b64decode(pathlib.Path(f"{other}.pub").read_text().split()[1])
+        assert peer.ask(rig.SIGN, string(blob), string(b"other data"), bytes(4)) == bytes([rig.FAILURE])
+    wanted.append(f'  other data, 10 bytes  key "other" {shown(other)}  refused')
     agent.end()
     printed, status, said = logged(folder / "record")
     assert (status, said) == (0, ""), (status, said)
