@@ -267,7 +267,7 @@ def a_program_asks_where_ssh_agent_would_ask(folder):
 @check
 def a_lock_is_asked_for_by_a_program_where_there_is_no_terminal(folder):
     installed = Installed(folder)
-    asker = rig.script(folder / "ask", f'echo "$1" >> {folder}/asked; echo "a b"')
+    asker = rig.script(folder / "ask", f'echo "$1" >> {folder}/asked; echo "a long passphrase"')
     with installed.start() as daemon, openssh_agent(folder) as other:
         for variables in ({"DISPLAY": ":7"}, {"SSH_ASKPASS_REQUIRE": "force"}):
             seen = []
