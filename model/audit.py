@@ -97,8 +97,8 @@ def read_file(path: str) -> bytes | None:
     return text if len(text) <= LONGEST_SCHEDULE else None
 
 
-def main() -> int:
-    output, status = audit(sys.argv[1:], read_file)
+def written(output: bytes, status: int) -> int:
+    """Writes an output; its status, or that of a failed write."""
     try:
         while output:
             output = output[os.write(1, output) :]
@@ -108,4 +108,4 @@ def main() -> int:
 
 
 if __name__ == "__main__":
-    sys.exit(main())
+    sys.exit(written(*audit(sys.argv[1:], read_file)))

@@ -8,13 +8,9 @@ PROGRAM may be several words, as 'python3 -m model.audit'. .ci/differential_audi
 
 from __future__ import annotations
 
-import multiprocessing
 import os
-import shlex
-import subprocess
 import sys
 import tempfile
-import time
 from collections import Counter
 from dataclasses import dataclass
 from functools import partial
@@ -23,11 +19,12 @@ from random import Random
 
 from . import audit
 from .audit import BAD_RECORD, DIFFERS, FILE_FAULT, USAGE, WRITE_FAULT, YES
-from .differential import Result, rows_agree, show, wrong_module
+from .differential import Result, rows_agree, wrong_module
 from .generate import Schedule, garbled_text
+from .over_files import edge_holds, found_by, run, run_program, show_difference, try_cases
 from .record import record
 from .replay import LONGEST_SCHEDULE, replay
-from .replays import JOBS, Played, attempt, try_each
+from .replays import Played, try_each
 from .rows_audit import ROWS
 
 WRONG = "wrong_audits.txt"
@@ -135,20 +132,6 @@ CHANGES += ["no LF at the end", "cut", "another byte", "another lifetime", "the 
 CHANGES += ["the record's format"]
 
 
-def run_program(program: list[str], words: list[str], files: dict[str, bytes]) -> Result:
-    with tempfile.TemporaryDirectory() as folder:
-        for name, text in files.items():
-            Path(folder, name).write_bytes(text)
-        paths = [f"{folder}/{word}" if word in ("r", "d", "none") else word for word in words]
-        done = subprocess.run(
-            [*program, *paths], stdout=subprocess.PIPE, stderr=subprocess.DEVNULL, env=ENVIRONMENT
-        )
-    return done.stdout, done.returncode
-
-
-ENVIRONMENT = os.environ | {"PYTHONDONTWRITEBYTECODE": "1"}
-
-
 def try_rows(program: list[str]) -> bool:
     return rows_agree(
         ROWS,
@@ -183,15 +166,7 @@ def try_edges(program: list[str]) -> bool:
             ("record none", "/dev/full", (b"", FILE_FAULT)),
             ("record", "/dev/full", (b"", USAGE)),
         ]:
-            paths = [word if word == "x" else f"{folder}/{word}" for word in words.split(" ")]
-            with open(place or f"{folder}/output", "wb") as output:
-                status = subprocess.run(
-                    [*program, *paths], stdout=output, stderr=subprocess.DEVNULL, env=ENVIRONMENT
-                ).returncode
-            result = (b"" if place else Path(folder, "output").read_bytes(), status)
-            if result != wanted:
-                good = False
-                print(f"audit {words}, into {place or 'a file'}: {result}, not {wanted}")
+            good = edge_holds(program, folder, "audit", words, place, wanted) and good
     print("files at the bound and above it, and outputs that can't be written, by the program")
     return good
 
@@ -220,31 +195,8 @@ GOALS += ["in reports: use: last", "in reports: helper: TRUE"]
 
 
 def try_pairs(program: list[str], count: int, seed: str) -> bool:
-    began, told = time.monotonic(), Counter()
-    seeds = [f"{seed}/{place}" for place in range(count)]
-    with multiprocessing.Pool(JOBS) as pool:
-        for each, (same, some) in zip(seeds, pool.imap(partial(try_one, program), seeds, 4)):
-            if not same:
-                pool.terminate()
-                show_mismatch(program, each)
-                return False
-            told += some
-    print("; ".join(f"{name} {number}" for name, number in sorted(told.items())))
-    missed = [name for name in GOALS if not told[name]]
-    if missed:
-        print("not reached: " + "; ".join(missed))
-    print(f"{count} records with deeds, in {time.monotonic() - began:.0f} s: no mismatch")
-    return not missed or count < 2000
-
-
-def show_mismatch(program: list[str], seed: str) -> None:
-    case = Case(seed)
-    output, status = run_program(program, case.words, case.files)
-    print(f"pair {seed}, {case.kind}, words {case.words}; bin/mismatch.r and .d are its files")
-    for name, text in case.files.items():
-        Path(f"bin/mismatch.{name}").write_bytes(text)
-    show(f"the program, with status {status}", output)
-    show(f"the model, with status {case.wanted[1]}", case.wanted[0])
+    mismatch = lambda each: show_difference(program, Case(each), f"pair {each}")
+    return try_cases("records with deeds", partial(try_one, program), mismatch, GOALS, count, seed)
 
 
 # Wrong audits
@@ -253,15 +205,7 @@ CASES: list[Case] = []
 
 
 def first_found(edit: dict[str, str]) -> tuple[int, str | None]:
-    """How many rows tell a wrong audit from the right one, and which pair does."""
-    wrong, rows = wrong_module(edit, "audit"), 0
-    for row in ROWS:
-        wanted = row.printed, row.status
-        rows += attempt(lambda: wrong.audit(row.words, row.files.get) != wanted) is not False
-    for place, case in enumerate(CASES, 1):
-        if attempt(lambda: wrong.audit(case.words, case.files.get) != case.wanted) is not False:
-            return rows, f"pair {place}"
-    return rows, None
+    return found_by(wrong_module(edit, "audit").audit, ROWS, CASES, "pair")
 
 
 def try_wrong(count: int, seed: str) -> bool:
@@ -269,19 +213,9 @@ def try_wrong(count: int, seed: str) -> bool:
     return try_each("audits", WRONG, CASES, Case, first_found, seeds)
 
 
-def main(program: str = "", count: str = "", seed: str = "") -> int:
-    if not count.isdigit():
-        print(__doc__)
-        return 2
-    seed = seed or str(int.from_bytes(os.urandom(4), "big"))
-    print(f"seed {seed}")
-    if program == "--wrong":
-        return int(not try_wrong(int(count), seed))
-    words = shlex.split(program)
-    words[:1] = [os.path.abspath(words[0])] if "/" in words[0] else words[:1]
-    good = try_rows(words) and try_edges(words) and try_pairs(words, int(count), seed)
-    return int(not good)
+def tries(program: list[str], count: int, seed: str) -> bool:
+    return try_rows(program) and try_edges(program) and try_pairs(program, count, seed)
 
 
 if __name__ == "__main__":
-    sys.exit(main(*sys.argv[1:]))
+    sys.exit(run(__doc__, sys.argv[1:], tries, try_wrong))

@@ -8,13 +8,9 @@ PROGRAM may be several words, as 'python3 -m model.log'. .ci/differential_log do
 
 from __future__ import annotations
 
-import multiprocessing
 import os
-import shlex
-import subprocess
 import sys
 import tempfile
-import time
 from collections import Counter
 from functools import partial
 from pathlib import Path
@@ -22,13 +18,14 @@ from random import Random
 
 from . import log
 from .audit import BAD_RECORD, FILE_FAULT, USAGE, WRITE_FAULT
-from .differential import rows_agree, show, wrong_module
-from .differential_audit import ENVIRONMENT, run_program, with_comments, written
+from .differential import rows_agree, wrong_module
+from .differential_audit import with_comments, written
 from .generate import garbled_text
 from .log import WHOLE
+from .over_files import edge_holds, found_by, run, run_program, show_difference, try_cases
 from .pool import KEYS
 from .replay import LONGEST_SCHEDULE
-from .replays import JOBS, attempt, try_each
+from .replays import try_each
 from .rows_log import ROWS
 from .wire import string, uint32
 
@@ -133,15 +130,7 @@ def try_edges(program: list[str]) -> bool:
             ("none", "/dev/full", (b"", FILE_FAULT)),
             ("record record record", "/dev/full", (b"", USAGE)),
         ]:
-            paths = [word if word == "x" else f"{folder}/{word}" for word in words.split(" ")]
-            with open(place or f"{folder}/output", "wb") as output:
-                status = subprocess.run(
-                    [*program, *paths], stdout=output, stderr=subprocess.DEVNULL, env=ENVIRONMENT
-                ).returncode
-            result = (b"" if place else Path(folder, "output").read_bytes(), status)
-            if result != wanted:
-                good = False
-                print(f"log {words}, into {place or 'a file'}: {result}, not {wanted}")
+            good = edge_holds(program, folder, "log", words, place, wanted) and good
     print("files at the bound and above it, and outputs that can't be written, by the program")
     return good
 
@@ -172,31 +161,8 @@ GOALS += [*FATES, *CONSENTS, *KINDS, "to a host", "without a comment", "cut: sta
 
 
 def try_records(program: list[str], count: int, seed: str) -> bool:
-    began, told = time.monotonic(), Counter()
-    seeds = [f"{seed}/{place}" for place in range(count)]
-    with multiprocessing.Pool(JOBS) as pool:
-        for each, (same, some) in zip(seeds, pool.imap(partial(try_one, program), seeds, 4)):
-            if not same:
-                pool.terminate()
-                show_mismatch(program, each)
-                return False
-            told += some
-    print("; ".join(f"{name} {number}" for name, number in sorted(told.items())))
-    missed = [name for name in GOALS if not told[name]]
-    if missed:
-        print("not reached: " + "; ".join(missed))
-    print(f"{count} records, in {time.monotonic() - began:.0f} s: no mismatch")
-    return not missed or count < 2000
-
-
-def show_mismatch(program: list[str], seed: str) -> None:
-    case = Case(seed)
-    output, status = run_program(program, case.words, case.files)
-    print(f"record {seed}, {case.kind}, words {case.words}; bin/mismatch.r is its file")
-    for name, text in case.files.items():
-        Path(f"bin/mismatch.{name}").write_bytes(text)
-    show(f"the program, with status {status}", output)
-    show(f"the model, with status {case.wanted[1]}", case.wanted[0])
+    mismatch = lambda each: show_difference(program, Case(each), f"record {each}")
+    return try_cases("records", partial(try_one, program), mismatch, GOALS, count, seed)
 
 
 # Wrong logs
@@ -205,15 +171,7 @@ CASES: list[Case] = []
 
 
 def first_found(edit: dict[str, str]) -> tuple[int, str | None]:
-    """How many rows tell a wrong log from the right one, and which record does."""
-    wrong, rows = wrong_module(edit, "log"), 0
-    for row in ROWS:
-        wanted = row.printed, row.status
-        rows += attempt(lambda: wrong.log(row.words, row.files.get) != wanted) is not False
-    for place, case in enumerate(CASES, 1):
-        if attempt(lambda: wrong.log(case.words, case.files.get) != case.wanted) is not False:
-            return rows, f"record {place}"
-    return rows, None
+    return found_by(wrong_module(edit, "log").log, ROWS, CASES, "record")
 
 
 def try_wrong(count: int, seed: str) -> bool:
@@ -221,19 +179,9 @@ def try_wrong(count: int, seed: str) -> bool:
     return try_each("logs", WRONG, CASES, Case, first_found, seeds)
 
 
-def main(program: str = "", count: str = "", seed: str = "") -> int:
-    if not count.isdigit():
-        print(__doc__)
-        return 2
-    seed = seed or str(int.from_bytes(os.urandom(4), "big"))
-    print(f"seed {seed}")
-    if program == "--wrong":
-        return int(not try_wrong(int(count), seed))
-    words = shlex.split(program)
-    words[:1] = [os.path.abspath(words[0])] if "/" in words[0] else words[:1]
-    good = try_rows(words) and try_edges(words) and try_records(words, int(count), seed)
-    return int(not good)
+def tries(program: list[str], count: int, seed: str) -> bool:
+    return try_rows(program) and try_edges(program) and try_records(program, count, seed)
 
 
 if __name__ == "__main__":
-    sys.exit(main(*sys.argv[1:]))
+    sys.exit(run(__doc__, sys.argv[1:], tries, try_wrong))

@@ -10,7 +10,6 @@ from __future__ import annotations
 
 import base64
 import hashlib
-import os
 import sys
 from collections.abc import Callable
 from dataclasses import dataclass
@@ -19,7 +18,7 @@ from datetime import datetime, timedelta, timezone
 from . import formats
 from .add_tool import read_life
 from .agent import Agent, Identity, Port
-from .audit import BAD_RECORD, FILE_FAULT, USAGE, WRITE_FAULT, Result, read_file
+from .audit import BAD_RECORD, FILE_FAULT, USAGE, Result, read_file, written
 from .replay import Run
 from .wire import Fault, Reader, demand
 
@@ -202,15 +201,5 @@ def log(words: list[str], read: Callable[[str], bytes | None]) -> Result:
     return (b"", FILE_FAULT) if record is None else log_of(record, life)
 
 
-def main() -> int:
-    output, status = log(sys.argv[1:], read_file)
-    try:
-        while output:
-            output = output[os.write(1, output) :]
-    except OSError:
-        return WRITE_FAULT
-    return status
-
-
 if __name__ == "__main__":
-    sys.exit(main())
+    sys.exit(written(*log(sys.argv[1:], read_file)))

@@ -2,8 +2,7 @@
 
 from __future__ import annotations
 
-from dataclasses import dataclass
-
+from .over_files import FileRow, lines
 from .rows import ADD1, CERT, ED25519_CERT, H1, H2, K1, K2, LIST, NO, OK, ONE, S1, TERMS1, USES
 from .rows import added, hear, listing, lock, st, to, u32
 from .rows_children import LEAVING, TWO, TWO_PRINT, bind, chain, helper, put1, sign, signed
@@ -14,30 +13,15 @@ from .rows_rules import GRANT1, ORIGIN, RAISED, RAISED_PRINT, SIXTEEN, hop, rule
 from .rows_uses import BOTH, BOTH_PRINT, GONE, HOLDING, granted
 
 
-@dataclass
-class AuditRow:
-    """The words, the files by their names, what is printed, and the status."""
-
-    name: str
-    words: list[str]
-    files: dict[str, bytes]
-    printed: bytes
-    status: int
-
-
-ROWS: list[AuditRow] = []
+ROWS: list[FileRow] = []
 WORDS = ["r", "d"]
 KEY1, KEY2 = f"key {K1.hex()}", f"key {K2.hex()}"
-
-
-def lines(texts: list[str]) -> bytes:
-    return "".join(text + "\n" for text in texts).encode()
 
 
 def words(
     name: str, given: list[str], files: dict[str, bytes], printed: list[str], status: int
 ) -> None:
-    ROWS.append(AuditRow(name, given, files, lines(printed), status))
+    ROWS.append(FileRow(name, given, files, lines(printed), status))
 
 
 def row(name: str, record: list[str], deeds: list[str], report: list[str], life: str = "") -> None:

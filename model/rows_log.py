@@ -7,8 +7,8 @@ from __future__ import annotations
 
 import base64
 import hashlib
-from dataclasses import dataclass
 
+from .over_files import FileRow, lines
 from .rows import ADD1, K1, K2, hear, st
 from .rows_children import helper, sign, signed
 from .rows_deadlines import ASKED, at
@@ -16,27 +16,12 @@ from .rows_hostile import SIGN1
 from .rows_rules import GRANT1, RAISED
 
 
-@dataclass
-class LogRow:
-    """The words, the files by their names, what is printed, and the status."""
-
-    name: str
-    words: list[str]
-    files: dict[str, bytes]
-    printed: bytes
-    status: int
-
-
-ROWS: list[LogRow] = []
-
-
-def lines(texts: list[str]) -> bytes:
-    return "".join(text + "\n" for text in texts).encode()
+ROWS: list[FileRow] = []
 
 
 def row(name: str, record: list[str], told: list[str], life: str = "", status: int = 0) -> None:
     words = ["r", *[life] * (life != "")]
-    ROWS.append(LogRow(name, words, {"r": lines(record)}, lines(told), status))
+    ROWS.append(FileRow(name, words, {"r": lines(record)}, lines(told), status))
 
 
 def shown(blob: bytes) -> str:
@@ -166,7 +151,7 @@ for kind, message, told in [
 # Records that are cut or refused
 
 ROWS.append(
-    LogRow(
+    FileRow(
         "a last line without its LF waits",
         ["r"],
         {"r": lines(RECORD) + b"end 1"},
@@ -181,6 +166,6 @@ row(
     [f"{ZERO}  {ABC}  {KEY1}  signed", f"{ZERO}  {ABC}  {KEY1}  no answer yet"],
     status=4,
 )
-ROWS.append(LogRow("no words", [], {}, b"", 2))
-ROWS.append(LogRow("a lifetime that is none", ["r", "1y"], {"r": b""}, b"", 2))
-ROWS.append(LogRow("a file that isn't there", ["none"], {}, b"", 3))
+ROWS.append(FileRow("no words", [], {}, b"", 2))
+ROWS.append(FileRow("a lifetime that is none", ["r", "1y"], {"r": b""}, b"", 2))
+ROWS.append(FileRow("a file that isn't there", ["none"], {}, b"", 3))
