@@ -1,4 +1,5 @@
-// A request and its reply.
+//! One request to the agent: its frame is sent, its reply read, and its line written on SUCCESS.
+
 ghost use Rattle.std.specs.Prelude.{◌≡◌, ◌≢◌, ℕ, List, Some, Err, IfOk};
 ghost use Rattle.add_core.specs.Exchanges.{Judges, asked, reply_at, requested, verdict_of};
 ghost use Rattle.add_core.specs.Steps.{Follows, HasPeerCause, HasSinkCause, IsOfTalk};

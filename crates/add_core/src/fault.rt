@@ -1,3 +1,5 @@
+//! Why `ssh-add` stops, and how it ends.
+
 ghost use Rattle.std.specs.Prelude.{◌≡◌};
 ghost use Rattle.add_core.specs.declared.fault.AddFault.TheVariants.{OutputFault};
 ghost use Rattle.add_core.specs.declared.fault.PeerStop.TheVariants.{Failed as PeerFailed, Memory as PeerMemory};

@@ -1,4 +1,5 @@
-// Files of keys, one after another.
+//! The files of keys that the words name, each read and sent to the agent in turn.
+
 ghost use Rattle.std.specs.Prelude.{◌≡◌, ◌≢◌, ℕ, List, Option, OnOk, Some, Err, map};
 ghost use Rattle.add_core.specs.Sendings.{IsDoable, each_file, file_step, place_of, sending_of, sent_for, text_held};
 ghost use Rattle.add_core.specs.Exchanges.{Tells};

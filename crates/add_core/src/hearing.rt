@@ -1,4 +1,5 @@
-// Reads of replies. What follows a reply stays where it is.
+//! Reads of the agent's replies: four bytes of length, then as many bytes of body.
+
 ghost use Rattle.std.specs.Prelude.{◌≡◌, ◌≢◌, ◌⊎◌, ◌<◌, ◌≤◌, ℕ, List, Some, None, Err, IfOk, MatchOption, MatchResult, length};
 ghost use Rattle.add_core.specs.Hearing.{Announces, PullsNothing, PullsPiece, TakesFirst, TakesReply, answer_at};
 ghost use Rattle.wire_text.specs.Bounds.{longest_body};

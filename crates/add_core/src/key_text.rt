@@ -1,4 +1,5 @@
-// The text of a key's file, in memory that is wiped.
+//! The text of a key's file, in memory that is set to zero before it is given back.
+
 ghost use Rattle.std.specs.Prelude.{◌≡◌};
 ghost use Rattle.secret_buf.specs.Buffers.{IsWiped};
 

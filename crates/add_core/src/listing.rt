@@ -1,4 +1,5 @@
-// Lists of identities.
+//! The lists that `-l` and `-L` write: an identity a line, as fingerprint or as public key.
+
 ghost use Rattle.std.specs.Prelude.{◌≡◌, ◌++◌, ℕ, List, Some, OnOk, map, codes, decimal};
 ghost use Rattle.add_core.specs.Listings.{columns, identity_line, key_line, lines_of, list_reply, list_step, listed};
 ghost use Rattle.add_core.specs.Steps.{Follows, HasPeerCause, HasSinkCause, IsOfOutput, IsOfTalk};

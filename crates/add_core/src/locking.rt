@@ -1,4 +1,5 @@
-// Requests that need no file.
+//! Requests that need no file: to lock the agent, to unlock it, and to remove all identities.
+
 ghost use Rattle.std.specs.Prelude.{◌≡◌, ◌≢◌, ◌≤◌, ℕ, List, Some, Err, IfOk, MatchResult, length};
 ghost use Rattle.add_core.specs.Locks.{lock_body, lock_line, lock_step, remove_all_step};
 ghost use Rattle.add_core.specs.Steps.{Follows, HasPeerCause, HasSinkCause, IsOfTalk};

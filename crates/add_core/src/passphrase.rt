@@ -1,4 +1,5 @@
-// The passphrase, in memory that is wiped.
+//! The passphrase that locks the agent, read from the input's first line into wiped memory.
+
 ghost use Rattle.std.specs.Prelude.{◌≡◌, ◌≢◌, ◌⊎◌, ◌∷◌, [], ◌≤◌, ℕ, List, Some, Err, IfOk, MatchOption, MatchResult, length, take};
 ghost use Rattle.add_core.specs.Exchanges.{Tells};
 ghost use Rattle.add_core.specs.Passphrases.{first_line, passphrase_of};

@@ -1,4 +1,5 @@
-// The constraints of keys that are added.
+//! The constraints of keys that are added, by the words and the files of known hosts.
+
 ghost use Rattle.std.specs.Prelude.{◌≡◌, ℕ, List, Option, Some, Ok, All, IfOk, map};
 ghost use Rattle.add_core.specs.Exchanges.{Tells};
 ghost use Rattle.add_core.specs.FileCauses.{HasFileCause};

@@ -1,4 +1,5 @@
-// The request that is made of a file.
+//! The request that is made of a file's text, to add its key or to remove it, and its line.
+
 ghost use Rattle.std.specs.Prelude.{◌≡◌, ◌≢◌, [], Ok, Err, All, IfOk, OnOk, MatchResult};
 ghost use Rattle.add_core.specs.Exchanges.{Tells, sized};
 ghost use Rattle.add_core.specs.Sendings.{added_line, addition_of, body_stop, line_stop, removal_of, removed_line, sending_of, sent_for, IsDoable};

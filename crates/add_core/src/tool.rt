@@ -1,4 +1,5 @@
-// The tool.
+//! The tool `ssh-add`: it reads its words, talks with the agent, and writes its last line.
+
 ghost use Rattle.std.specs.Prelude.{◌≡◌, ◌≢◌, ◌⊎◌, ◌≤◌, ℕ, List, Option, Some, None, Err, IfOk, IfSome, MatchResult, true, is_some, map, option_map, string_bytes};
 ghost use Rattle.add_core.specs.FileCauses.{FailsByWords, FailsIn};
 ghost use Rattle.add_core.specs.Steps.{Follows, HasPeerCause, HasSinkCause};

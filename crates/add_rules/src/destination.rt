@@ -1,4 +1,5 @@
-// Destinations as they are typed.
+//! A destination as ssh-add's `-h` takes it, read from a word into its hosts and its user.
+
 ghost use Rattle.std.specs.Prelude.{◌≡◌, position, ◌==◌};
 ghost use Rattle.std.specs.Option.{option_map};
 ghost use Rattle.add_rules.specs.Destinations.{destination, destination_of, entered, first_fault, has_user, is_empty_text, split_at};

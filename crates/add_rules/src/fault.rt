@@ -1,3 +1,5 @@
+//! What may be wrong with a typed destination, so that no constraint is made of it.
+
 /// Why a destination is none.
 #[derive(Clone, Copy, Debug, PartialEq, Eq)]
 pub enum DestFault {

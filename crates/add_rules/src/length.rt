@@ -1,4 +1,5 @@
-// How many bytes constraints take, without writing them.
+//! The length of constraints on the wire, by their parts: keys, hops, destinations and limits.
+
 ghost use Rattle.std.specs.Prelude.{◌≡◌, ◌<◌, ◌^◌, All, length, map};
 ghost use Rattle.std.specs.List.{flat_map};
 ghost use Rattle.constraint_rec.specs.Constraints.{item_text};

@@ -1,4 +1,5 @@
-// The constraints of destinations.
+//! Words that name destinations made into constraints, with the keys that known hosts have.
+
 ghost use Rattle.std.specs.Prelude.{◌≡◌, All, IfOk, Ok, map};
 ghost use Rattle.std.specs.Option.{option_map};
 ghost use Rattle.constraint_rec.specs.Hops.{IsDestination};

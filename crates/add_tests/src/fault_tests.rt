@@ -1,4 +1,5 @@
-// Each fault with its word, and what fails.
+//! Tests that each fault of the tool ends it with its own status and its words on the errors.
+
 use crate::fixtures::{NO_IDENTITIES, SUCCESS};
 use crate::play::{Failing, NOTHING, ends, play, play_words, prints, sends, words};
 use add_core::{AddFault, AddStatus, DestFault, add_main};

@@ -1,6 +1,6 @@
-// Files and messages of keys of the stand-in type, worked out apart from this code: the formats are those of
-// PROTOCOL.key, of the agent protocol and of sshd(8). A key is 32 bytes 11 with the secret 32 bytes 21, or 12
-// and 22; the host keys are 32 bytes a1 and a2.
+//! Files and messages of keys of the stand-in type, worked out apart from this code: the formats are those of
+//! PROTOCOL.key, of the agent protocol and of sshd(8). A key is 32 bytes 11 with the secret 32 bytes 21, or 12
+//! and 22; the host keys are 32 bytes a1 and a2.
 
 /// A private key's file, comment `one`.
 pub const FILE_ONE: &str =

@@ -1,4 +1,5 @@
-// The tool over files, a connection, an input and outputs in memory.
+//! Plays the tool in memory, with calls that fail where a test wants it, and tells what it did.
+
 use crate::fixtures::{FILE_ONE, FILE_TWO, HOSTS, PUBLIC};
 use add_core::{AddStatus, add_main};
 use std::alloc::{AllocError, Global};

@@ -1,4 +1,5 @@
-// Outside vectors, lists, and replies in pieces.
+//! Tests of keys that are added, of lists, of lifetimes, and of replies that come in pieces.
+
 use crate::fixtures::{
     ADD_ONE, ADD_ONE_RESTRICTED, ADD_ONE_THRICE, ENTRY, FINGERPRINT_LINE, NO_IDENTITIES, PUBLIC,
     SUCCESS,

@@ -1,4 +1,4 @@
-// Files that tell which one was read last.
+//! A wrapper of any files, which keeps the path of the one that was read last.
 
 use std::alloc::Global;
 use world_ports::{FileFault, Files};

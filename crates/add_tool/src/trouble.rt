@@ -1,4 +1,4 @@
-// What is told on standard error: which file failed, why, and what to try.
+//! The messages of a failure, from the program's status and the file that was read last.
 
 use add_core::{AddFault, AddStatus, DestFault};
 use key_file::{KeyFileFault, PubFault};

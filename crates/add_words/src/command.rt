@@ -1,4 +1,5 @@
-// What words say.
+//! The commands of ssh-add(1), what its words say as a whole, and why words are refused.
+
 ghost use Rattle.std.specs.Prelude.{◌≡◌};
 ghost use Rattle.add_words.specs.declared.command.WordsFault.TheVariants.{Memory};
 

@@ -1,4 +1,5 @@
-// Counts as words give them.
+//! Reads how often a key may be used: a decimal number from 1 to 2^32 - 1 (ours).
+
 ghost use Rattle.std.specs.Prelude.{◌≡◌};
 ghost use Rattle.add_words.specs.Counts.{count_of};
 

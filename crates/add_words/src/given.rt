@@ -1,4 +1,5 @@
-// The words so far, from the left.
+//! What the words of ssh-add say so far, and how the next one, from the left, adds to it.
+
 ghost use Rattle.std.specs.Prelude.{◌≡◌, ◌⊎◌, IfOk, MatchResult, None, Some, [], false, IsTrue};
 ghost use Rattle.add_words.specs.declared.command.WordsFault.TheVariants.{Memory};
 ghost use Rattle.add_words.specs.Given.{given_of, nothing_given, after_option, after_value, after_word};

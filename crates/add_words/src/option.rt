@@ -1,4 +1,5 @@
-// The options, each a word of its own.
+//! The options of ssh-add(1): what a word is that is no value of the word before it.
+
 ghost use Rattle.std.specs.Prelude.{◌≡◌};
 ghost use Rattle.add_words.specs.Options.{option_of};
 

@@ -1,4 +1,5 @@
-// The words as a whole.
+//! Reads all words of ssh-add(1) into a command, its constraints and its files.
+
 ghost use Rattle.std.specs.Prelude.{◌≡◌, ◌⊎◌, IfOk, MatchResult, None, Some, map, string_bytes};
 ghost use Rattle.add_words.specs.declared.command.WordsFault.TheVariants.{Memory};
 ghost use Rattle.add_words.specs.Counts.{IsCount};

@@ -1,3 +1,5 @@
+//! Who makes a request: the port, the hosts that its connection is bound to, and the time.
+
 use dest_rule::Chain;
 
 /// Who asks, and when.

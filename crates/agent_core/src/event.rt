@@ -1,3 +1,5 @@
+//! The settings that an agent is started with, and the events that it handles one by one.
+
 use world_ports::Door;
 
 /// What an agent is started with.

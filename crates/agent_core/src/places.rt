@@ -1,4 +1,5 @@
-// Ports by their numbers, which rise.
+//! Looks for a port's place among the open ones, first near a guess, and for who is owed bytes.
+
 ghost use Rattle.std.specs.Prelude.{◌≡◌, ◌^◌, IsTrue, None, MatchOption};
 ghost use Rattle.agent_model.specs.Sound.{IsRising};
 ghost use Rattle.agent_model.specs.State.{find_port};

@@ -1,3 +1,5 @@
+//! What a client may wait for: nothing, the helper's answer to an ask, or the user's consent.
+
 /// What a client waits for.
 #[derive(Clone, Copy, Debug, PartialEq, Eq)]
 pub enum Waits {

@@ -1,3 +1,5 @@
+//! An agent's replies as values, and why a body is none (draft-miller-ssh-agent).
+
 ghost use Rattle.std.specs.Prelude.{◌≡◌};
 ghost use Rattle.agent_msg.specs.declared.agent_reply.ReplyFault.TheVariants.{Short as TooShort, Memory};
 

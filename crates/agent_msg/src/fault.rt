@@ -1,3 +1,5 @@
+//! Why the body of a client's request is refused, the first fault in the order of its fields.
+
 ghost use Rattle.std.specs.Prelude.{◌≡◌};
 ghost use Rattle.agent_msg.specs.declared.fault.MsgFault.TheVariants.{Short as TooShort};
 ghost use Rattle.agent_msg.specs.Faults.{key_fault, term_fault};

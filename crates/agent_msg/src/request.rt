@@ -1,3 +1,5 @@
+//! The requests of a client to an agent, as values (draft-miller-ssh-agent).
+
 use constraint_rec::Terms;
 use key_blob::AddedKey;
 

@@ -44,6 +44,7 @@ abbrev pub status_at : Stop → AuditStatus
 status_at stops.Memory = status.Memory
 status_at stops.Write = status.WriteFault
 
+-- by what was found, and by what became of the report
 abbrev pub status_by : {T : Type 0} → Finding → Result T Stop → AuditStatus
 status_by finding (Ok done) = status_of finding
 status_by finding (Err stop) = status_at stop

@@ -50,6 +50,7 @@ pub record Signed : Type 0 where
   pub port : ℕ
   pub blob : List ℕ
 
+-- the one that an ask of this number, port and purpose is, where it is for a signature
 abbrev pub signed_for : ℕ → ℕ → Purpose → Option Signed
 signed_for ask port (ForSignature signing) =
     Some (record { ask = ask; port = port; blob = signing.blob })
@@ -70,5 +71,6 @@ signed_by Lost = None
 abbrev pub signed_in : List Stamped → List Signed
 signed_in past = filter_map (λ one. signed_by one.action) past
 
+-- a request that was put, without its line
 abbrev pub without_line : Put → Signed
 without_line put = record { ask = put.ask; port = put.port; blob = put.blob }

@@ -54,12 +54,15 @@ verdict_of life text deeds =
 abbrev pub key_part : Put → List ℕ
 key_part put = codes " key " ++ (encode_lower put.blob ++ codes "\n")
 
+-- the line from the word of its port on
 abbrev pub port_part : Put → List ℕ
 port_part put = codes " port " ++ (decimal put.port ++ key_part put)
 
+-- the line from the word of its ask on
 abbrev pub ask_part : Put → List ℕ
 ask_part put = codes " ask " ++ (decimal put.ask ++ port_part put)
 
+-- the line of a signing request, whole
 unfoldable pub put_line : Put → List ℕ
 put_line put = codes "sign " ++ (decimal put.line ++ ask_part put)
 

@@ -1,4 +1,5 @@
-// What a record prints is compared with deeds, piece by piece.
+//! What a record prints, compared with deeds piece by piece, and where they first differ.
+
 ghost use Rattle.std.specs.Prelude.{◌≡◌, ◌≤◌, ◌<◌, ◌+◌, ◌-◌, ◌^◌, ◌==◌, ◌++◌, ◌∷◌, List, ℕ, IfOk, [], false, if◌then◌else◌, suc};
 ghost use Rattle.audit_core.specs.Passes.{difference, finding_by, finding_of};
 ghost use Rattle.audit_core.specs.Reports.{verdict_of};

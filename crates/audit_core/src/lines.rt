@@ -1,4 +1,5 @@
-// A record that is run a line at a time.
+//! A record that is run a line at a time, up to its end or to a line that is refused.
+
 ghost use Rattle.std.specs.Prelude.{◌≡◌, ◌++◌, IfOk, MatchOption, OnOk, true};
 ghost use Rattle.std.specs.List.{flat_map};
 ghost use Rattle.audit_core.specs.Passes.{Notes};

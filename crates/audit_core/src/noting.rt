@@ -1,4 +1,5 @@
-// What the events of a record put.
+//! The signing requests that the lines of a record put, noted as the record is run.
+
 ghost use Rattle.std.specs.Prelude.{◌≡◌, ◌++◌, OnOk, []};
 ghost use Rattle.agent_core.specs.Happenings.{happening};
 ghost use Rattle.agent_model.specs.State.{Fits};

@@ -1,3 +1,5 @@
+//! A request for a signature that was put to the helper, with the line of its record.
+
 use plain_lists::Bytes;
 
 /// A request for a signature that was put to the helper.

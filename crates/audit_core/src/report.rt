@@ -1,4 +1,5 @@
-// The lines of a report.
+//! The lines of a report: those of signing requests, and those of a word and a number.
+
 ghost use Rattle.std.specs.Prelude.{◌≡◌, ◌++◌, OnOk};
 ghost use Rattle.audit_core.specs.Reports.{ask_part, key_part, number_line, port_part, put_line};
 

@@ -1,4 +1,5 @@
-// How the program ends.
+//! How an audit ends, and the exit status that says so.
+
 ghost use Rattle.std.specs.Prelude.{◌≡◌};
 ghost use Rattle.audit_core.specs.Program.{code_of, status_by};
 

@@ -1,4 +1,5 @@
-// The two files.
+//! The texts of the two files, the record and its deeds, each of which is read whole.
+
 ghost use Rattle.std.specs.Prelude.{◌≡◌, ℕ, List, Option, Some, Err, IfErr, IfOk};
 ghost use Rattle.audit_core.specs.Program.{HoldsShort, IsFileEnd, IsTextOf, StopsAt, StopsInOrder};
 ghost use Rattle.audit_core.specs.declared.status.AuditStatus.TheVariants as status;

@@ -1,4 +1,5 @@
-// The program over any files and any output.
+//! The program that audits a record, over any files and any output.
+
 ghost use Rattle.std.specs.Prelude.{◌≡◌, ℕ, List, Option, Some};
 ghost use Rattle.audit_core.specs.Program.{Audits, EndsAudit, StopsInOrder};
 ghost use Rattle.audit_core.specs.Words.{Asked, IsAsked, IsUsage};

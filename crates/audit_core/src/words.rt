@@ -1,4 +1,5 @@
-// The words of the command line.
+//! The words of the audit's command line: the record, its deeds, and a lifetime.
+
 ghost use Rattle.std.specs.Prelude.{◌≡◌, option_map};
 ghost use Rattle.audit_core.specs.Words.{asked_in, asked_of, some_life, texts_of};
 

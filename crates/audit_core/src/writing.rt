@@ -1,4 +1,5 @@
-// A report that is written: nothing of it before the record was compared, and its lines as a second run puts them.
+//! A report that is written after the record was compared, as a second run puts its lines.
+
 ghost use Rattle.std.specs.Prelude.{◌≡◌, ◌+◌, ◌++◌, codes, IfErr, IfOk, OnOk, [], length};
 ghost use Rattle.std.specs.List.{flat_map};
 ghost use Rattle.audit_core.specs.Puts.{puts, puts_from};

@@ -1,3 +1,5 @@
+//! Why a message's body was refused.
+
 ghost use Rattle.std.specs.Prelude.{◌≡◌};
 ghost use Rattle.child_msg.specs.declared.fault.ChildFault.TheVariants.{Short as TooShort};
 

@@ -1,3 +1,5 @@
+//! The messages between the agent and a child process, in both directions.
+
 /// What a child process sends to the agent.
 ///
 /// Has no `Debug`, since it may hold a one-time ticket.

@@ -1,3 +1,5 @@
+//! Why a child process read nothing from the agent, or told it nothing.
+
 ghost use Rattle.std.specs.Prelude.{◌≡◌};
 ghost use Rattle.child_peer.specs.declared.fault.HearFault.TheVariants.{Failed, Memory};
 ghost use Rattle.child_peer.specs.declared.fault.SayFault.TheVariants.{Failed as NotWritten, Memory as NoRoom};

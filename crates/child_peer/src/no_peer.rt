@@ -1,4 +1,5 @@
-// An agent that can't be reached.
+//! What stands for an agent that cannot be reached: each call on it fails, and is counted.
+
 ghost use Rattle.std.specs.Prelude.{None};
 
 use world_ports::{Fault, Pulled, Sink, Source, Stream};

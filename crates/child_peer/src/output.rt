@@ -1,4 +1,5 @@
-// Writes to the agent.
+//! Writes to the agent: all of a buffer, or the frame of a message.
+
 ghost use Rattle.std.specs.Io.KnownBytes.{Appends};
 ghost use Rattle.std.specs.Prelude.{◌≡◌, ◌≤◌, [], OnErr, OnOk};
 ghost use Rattle.child_msg.specs.ChildFrames.{from_child_body, from_child_length};

@@ -1,4 +1,5 @@
-// Reads from the agent.
+//! Reads from the agent, through room that holds nothing between them.
+
 ghost use Rattle.std.specs.Prelude.{◌≡◌};
 ghost use Rattle.child_peer.specs.Hearing.{Hears};
 ghost use Rattle.world_ports.specs.Streams.{OnlyReads};

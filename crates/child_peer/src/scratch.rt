@@ -1,4 +1,5 @@
-// Memory for bytes that no one may find later.
+//! Bytes on the heap that are set to zero before they are given back.
+
 ghost use Rattle.std.specs.Prelude.{◌≡◌, length, IfOk, MatchResult, true, false};
 ghost use Rattle.hex.specs.Hex.{decode_sized};
 ghost use Rattle.secret_buf.specs.Buffers.{IsWiped};

@@ -1,4 +1,5 @@
-// The words that a child process is started with.
+//! The words that a child process is started with: SOCKET JOB TICKET, and perhaps one more.
+
 ghost use Rattle.std.specs.Prelude.{◌≡◌, map, string_bytes, option_map};
 ghost use Rattle.child_peer.specs.Words.{is_shortest, job_of, plain_words, ticket_of, words_of, words_with};
 

@@ -7,6 +7,7 @@ use Rattle.confirm_desk.specs.declared.held.Held.{Held as CodeHeld}
 abbrev pub first_held : Held
 first_held = record { asker = 70; addition = 2; message = codes "abc"; flags = 0 }
 
+-- what the client of port 80 holds for the third addition
 abbrev pub second_held : Held
 second_held = record { asker = 80; addition = 3; message = codes "de"; flags = 2 }
 

@@ -1,3 +1,5 @@
+//! The list of the confirmations that are waited for, at most 16, from raising one to its end.
+
 ghost use Rattle.std.specs.Prelude.{◌≡◌, ◌+◌, ◌≤◌, [], IsSome, IsSomeAnd, IfOk, MatchResult, None, OnErr, OnOk, length};
 ghost use Rattle.std.specs.Option.{option_copied, option_map};
 ghost use Rattle.wire_text.specs.Bounds.{longest_to_child};

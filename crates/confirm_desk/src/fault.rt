@@ -1,3 +1,5 @@
+//! Why a confirmation isn't raised: too many are waited for, or memory ran out.
+
 ghost use Rattle.std.specs.Prelude.{◌≡◌};
 ghost use Rattle.confirm_desk.specs.declared.fault.DeskFault.TheVariants.{Memory};
 

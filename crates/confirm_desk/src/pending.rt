@@ -1,3 +1,5 @@
+//! One confirmation: who waits for it, what its child process is owed, and what that has said.
+
 ghost use Rattle.std.specs.Prelude.{◌≡◌, ◌+◌, ◌≤◌, ◌++◌, IfOk, OnErr, OnOk, length};
 ghost use Rattle.wire_text.specs.Bounds.{longest_to_child};
 ghost use Rattle.confirm_desk.specs.Calls.{given_back, held_of};

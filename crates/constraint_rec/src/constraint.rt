@@ -1,3 +1,5 @@
+//! A destination constraint and its two hops, by OpenSSH's PROTOCOL.agent.
+
 use crate::key_spec::KeySpec;
 use plain_lists::{Bytes, PlainList};
 

@@ -1,3 +1,5 @@
+//! Why the constraints of a key are refused, from fields that are too short to want of memory.
+
 ghost use Rattle.std.specs.Prelude.{◌≡◌};
 ghost use Rattle.constraint_rec.specs.declared.fault.TermFault.TheVariants.{Short as TooShort, Memory};
 

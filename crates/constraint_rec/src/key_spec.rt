@@ -1,3 +1,5 @@
+//! A host key, or a CA's for host keys, as a hop of OpenSSH's PROTOCOL.agent names it.
+
 use plain_lists::Bytes;
 
 /// A host key, or a certificate authority for host keys.

@@ -1,3 +1,5 @@
+//! The kinds of constraints, and reading which one comes next, by draft-miller-ssh-agent.
+
 ghost use Rattle.std.specs.Prelude.{◌≡◌, ◌<◌, length, OnOk, MatchResult, Ok, Err};
 ghost use Rattle.constraint_rec.specs.Constraints.{restrict_destination, uses_name};
 ghost use Rattle.constraint_rec.specs.Reading.{extension_at, kind_at};

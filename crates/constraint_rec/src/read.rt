@@ -1,3 +1,5 @@
+//! Reads all constraints behind a key that is added, each kind once, by draft-miller-ssh-agent.
+
 ghost use Rattle.std.specs.Prelude.{◌≡◌, ◌<◌, length, OnOk, List, [], ◌⊎◌, IfOk, OnErr, MatchResult, Ok, Err};
 ghost use Rattle.constraint_rec.specs.declared.fault.TermFault.TheVariants.{Memory};
 ghost use Rattle.constraint_rec.specs.declared.terms.Terms.{Terms};

@@ -1,3 +1,5 @@
+//! The constraints of one key together: lifetime, confirmation, uses and destinations.
+
 ghost use Rattle.std.specs.Prelude.{◌≡◌};
 ghost use Rattle.constraint_rec.specs.Constraints.{no_terms};
 

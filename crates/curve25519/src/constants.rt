@@ -1,3 +1,5 @@
+//! The constants of the curve, of RFC 8032, section 5.1, as elements of the field.
+
 ghost use Rattle.std.specs.Prelude.{◌≡◌, ◌%◌};
 ghost use Rattle.field25519.specs.Field.{field_mul, field_sub};
 ghost use Rattle.curve25519.specs.Points.{base_x, base_y, curve_d, twice_d, IsOnCurve};

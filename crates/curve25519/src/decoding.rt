@@ -1,4 +1,4 @@
-// Decoding, of RFC 8032, section 5.1.3. Its time depends on the point.
+//! The point of an encoding, where there is one (RFC 8032, section 5.1.3).
 
 ghost use Rattle.std.specs.Prelude.{◌≡◌, ◌%◌, ◌^◌, ◌≤◌};
 ghost use Rattle.curve25519.specs.Encoding.{decoded, recovered_x, root_candidate, square_root, with_sign};

@@ -1,3 +1,5 @@
+//! A table of the base point doubled 0 to 255 times, and multiples of that point by it.
+
 ghost use Rattle.std.specs.Prelude.{◌≡◌, ◌<◌, ◌≤◌};
 ghost use Rattle.curve25519.specs.Points.{addend_of, base, neutral};
 ghost use Rattle.curve25519.specs.Multiples.{doubled, multiply, multiply_from, AreDoublings};

@@ -1,3 +1,5 @@
+//! Multiples of any point, for numbers and points that are not secret.
+
 ghost use Rattle.std.specs.Prelude.{◌≡◌};
 ghost use Rattle.curve25519.specs.Multiples.{multiply};
 

@@ -1,3 +1,5 @@
+//! Points of the curve in extended coordinates, and their sums (RFC 8032, section 5.1.4).
+
 ghost use Rattle.std.specs.Prelude.{◌≡◌, ◌≤◌};
 ghost use Rattle.curve25519.specs.Points.{addend_of, base, negated, neutral, point_add, point_at};
 ghost use Rattle.curve25519.specs.Multiples.{choose};

@@ -1,3 +1,5 @@
+//! One binding of a connection: the host's key, the session, and whether it is for forwarding.
+
 use plain_lists::Bytes;
 
 /// A host that a connection was bound to.

@@ -1,3 +1,5 @@
+//! The bindings of a connection in their order, within bounds, and whether a new one is taken.
+
 ghost use Rattle.std.specs.Prelude.{◌≡◌, ◌≤◌, true, [], length, IfOk, OnOk, OnErr, IsOk};
 ghost use Rattle.std.specs.List.{sum_by};
 ghost use Rattle.std.specs.Option.{option_copied};

@@ -1,3 +1,5 @@
+//! Why a key under destination constraints isn't used for a signature that is asked for.
+
 ghost use Rattle.std.specs.Prelude.{◌≡◌};
 ghost use Rattle.dest_rule.specs.declared.denial.Denial.TheVariants.{NotUserAuth};
 

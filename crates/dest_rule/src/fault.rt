@@ -1,3 +1,5 @@
+//! Why a binding isn't taken, and what is done with one whose signature is right.
+
 /// Why a binding isn't taken: the first of these, the session's length before all others.
 #[derive(Clone, Copy, Debug, PartialEq, Eq)]
 pub enum ChainFault {

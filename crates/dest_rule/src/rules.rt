@@ -1,3 +1,5 @@
+//! Whether destination constraints let a connection see a key, and sign with it.
+
 ghost use Rattle.std.specs.Prelude.{◌≡◌, None, Some, MatchResult};
 ghost use Rattle.userauth_blob.specs.UserAuths.{login};
 ghost use Rattle.dest_rule.specs.Rules.{visible, denial, denial_of_newest};

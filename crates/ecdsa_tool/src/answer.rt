@@ -1,3 +1,5 @@
+//! What the tool answers to a line: bytes, a verdict, or that it refuses the line.
+
 /// The answer to a line.
 #[derive(Drop)]
 pub(crate) enum Answer {

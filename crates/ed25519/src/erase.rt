@@ -1,4 +1,4 @@
-// Signing that clears its traces. No clause speaks of the stack or of registers.
+//! Signs, then puts zeros over the stack and public numbers into the registers that it used.
 
 ghost use Rattle.std.specs.Prelude.{◌≡◌, ◌≢◌, length, MatchOption};
 ghost use Rattle.ed25519.specs.Keys.{public_key};

@@ -1,4 +1,4 @@
-// SHA-512 of texts that are taken as one.
+//! SHA-512 of one text, or of two or three that are taken as one.
 
 ghost use Rattle.std.specs.Prelude.{◌≡◌, ◌++◌};
 ghost use Rattle.sha2.specs.Sha512.{sha512};

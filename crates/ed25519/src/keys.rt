@@ -1,3 +1,5 @@
+//! The public key and the secret scalar of a seed (RFC 8032, section 5.1.5).
+
 ghost use Rattle.std.specs.Prelude.{◌≡◌, take};
 ghost use Rattle.words64.specs.Numbers.{little_endian, octets};
 ghost use Rattle.scalar25519.specs.Scalars.{clamped};

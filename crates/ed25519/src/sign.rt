@@ -1,3 +1,5 @@
+//! Signatures under a seed whose public key is checked first (RFC 8032, section 5.1.6).
+
 ghost use Rattle.std.specs.Prelude.{◌≡◌, ◌≢◌, ◌++◌, ℕ, List, MatchOption};
 ghost use Rattle.sha2.specs.Sha512.{sha512};
 ghost use Rattle.ed25519.specs.Keys.{public_key, secret_scalar};

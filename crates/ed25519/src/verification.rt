@@ -1,3 +1,5 @@
+//! Whether a signature is one of a message under a public key (RFC 8032, section 5.1.7).
+
 ghost use Rattle.std.specs.Prelude.{◌≡◌, nat_eq};
 ghost use Rattle.curve25519.specs.Points.{base, negated, point_add};
 ghost use Rattle.curve25519.specs.Multiples.{multiply};

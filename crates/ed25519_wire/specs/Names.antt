@@ -15,6 +15,7 @@ certified_name = codes "ssh-ed25519-cert-v01@openssh.com"
 abbrev pub is_plain_name : List ℕ → Bool
 is_plain_name name = bytes_eq name plain_name
 
+-- the name is that of the type in a certificate
 abbrev pub is_certified_name : List ℕ → Bool
 is_certified_name name = bytes_eq name certified_name
 

@@ -52,6 +52,7 @@ pub record KeyPair : Type 0 where
 abbrev pub plain_pair_of : Pair → KeyPair
 plain_pair_of pair = record { seed = pair.seed.now; public = pair.public.now }
 
+-- the pair of a public key and a seed
 abbrev pub pair_of : List ℕ → List ℕ → KeyPair
 pair_of public seed = record { seed = seed; public = public }
 

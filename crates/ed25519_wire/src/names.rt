@@ -1,4 +1,5 @@
-// The names of the types of Ed25519 keys.
+//! The names of the types of Ed25519 keys, by themselves and in certificates.
+
 ghost use Rattle.std.specs.Prelude.{◌≡◌};
 ghost use Rattle.ed25519_wire.specs.Names.{is_certified_name, is_ed25519, is_plain_name};
 

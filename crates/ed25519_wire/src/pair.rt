@@ -1,4 +1,5 @@
-// Keys: blobs and private strings.
+//! Ed25519 keys read from blobs and private strings: seeds and public keys (RFC 8709).
+
 ghost use Rattle.std.specs.Prelude.{◌≡◌, ℕ, List, length, Ok, Err, IfOk, MatchResult};
 ghost use Rattle.ed25519_wire.specs.Reading.{authority_key, certified_key_at, certified_pair, pair_at, pair_in, plain_key_at, plain_pair, plain_pair_of};
 ghost use Rattle.wire_core.specs.Readings.{IsAnswer};

@@ -1,4 +1,5 @@
-// Signatures.
+//! The 64 bytes of an Ed25519 signature, read from what SSH carries (RFC 8709).
+
 ghost use Rattle.std.specs.Prelude.{◌≡◌, Ok, Err, IfOk, length};
 ghost use Rattle.ed25519_wire.specs.Reading.{signature_in};
 ghost use Rattle.wire_core.specs.Readings.{IsAnswer};

@@ -1,3 +1,5 @@
+//! The process's own heap, read through the system and searched for copies of a mark.
+
 use std::fs::{self, File};
 use std::io;
 use std::os::unix::fs::FileExt;

@@ -1,3 +1,5 @@
+//! The events that a filter handles one by one: of its clients and of the agent behind.
+
 use pair_ports::Side;
 
 /// What happens to a filter: the atomic step of its pairs. Prints nothing, since it carries what clients sent.

@@ -1,4 +1,5 @@
-// Pairs by their numbers, which rise.
+//! Looks for a pair's place among the open ones, by its number.
+
 ghost use Rattle.std.specs.Prelude.{◌≡◌, ◌^◌, None, MatchOption};
 ghost use Rattle.filter_model.specs.Filters.{find_pair};
 ghost use Rattle.filter_core.specs.Places.{IsPlace};

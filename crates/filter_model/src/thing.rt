@@ -1,3 +1,5 @@
+//! What the filter can serve: the door, or a direction of one side of a pair.
+
 use pair_ports::Side;
 
 /// What can be served: the door, or one direction of one side of a pair. To write to the agent behind is to connect to

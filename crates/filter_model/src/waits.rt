@@ -1,3 +1,5 @@
+//! Which reply of the agent behind a pair of the filter waits for, if any.
+
 /// What a pair waits for.
 #[derive(Clone, Copy, Debug, PartialEq, Eq)]
 pub enum Waits {

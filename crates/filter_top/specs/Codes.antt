@@ -3,6 +3,7 @@ use Rattle.std.specs.Prelude.{ℕ}
 use Rattle.filter_top.specs.declared.status.FilterStatus.{FilterStatus}
 use Rattle.filter_top.specs.declared.status.FilterStatus.TheVariants as status
 
+-- the exit status
 abbrev pub code_of : FilterStatus → ℕ
 code_of status.Done = 0
 code_of (status.BadList line fault) = 1

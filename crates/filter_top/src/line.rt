@@ -1,4 +1,5 @@
-// What is ready, in the order in which it is served.
+//! The queue of what is ready: what was served goes to the back, so that all get their turn.
+
 ghost use Rattle.std.specs.Prelude.{◌≡◌, [], OnOk};
 ghost use Rattle.filter_model.specs.declared.thing.Thing.TheVariants.{Accept, Write};
 ghost use Rattle.pair_ports.specs.declared.side.Side.TheVariants.{Upstream};

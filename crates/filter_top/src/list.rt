@@ -1,4 +1,5 @@
-// The list of keys.
+//! Reads the text of a list of public keys, one a line, into the set of their blobs.
+
 ghost use Rattle.std.specs.Prelude.{◌≡◌, ◌==◌, ◌∷◌, [], List, ℕ, Ok, MatchOption, MatchResult, position, suc};
 ghost use Rattle.key_file.specs.PublicLines.{parts};
 ghost use Rattle.filter_core.specs.Slots.{blobs_of};

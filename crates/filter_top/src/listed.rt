@@ -1,4 +1,5 @@
-// What the filter lets be used: the file of the list, and the purposes of the command line.
+//! Reads the list's file and the words of purposes, or says how the program ends without them.
+
 ghost use Rattle.std.specs.Prelude.{◌≡◌, ℕ, List, Option, Some, Err, IfErr, MatchResult};
 ghost use Rattle.filter_core.specs.Slots.{blobs_of, listed_of};
 ghost use Rattle.filter_top.specs.Program.{IsEarlyEnd, IsListEnd, IsListOf, IsListed, IsReadAs, IsRefused, IsRefusedBy, IsUnread, texts_of};

@@ -1,4 +1,5 @@
-// The purposes of the command line.
+//! Reads the purposes that the command line names, of which there may be none.
+
 ghost use Rattle.std.specs.Prelude.{◌≡◌, Ok, MatchResult};
 ghost use Rattle.key_purposes.specs.Purposes.{purposes_in};
 ghost use Rattle.filter_core.specs.Slots.{purposes_of};

@@ -1,4 +1,5 @@
-// The loop.
+//! The filter's loop: it listens, then takes one turn after another until one ends the program.
+
 ghost use Rattle.std.specs.Prelude.{◌≡◌, ◌≤◌, [], IfOk, length};
 ghost use Rattle.filter_model.specs.Answered.{Binding, at};
 ghost use Rattle.filter_model.specs.Answered.{Free};

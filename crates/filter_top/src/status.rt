@@ -1,4 +1,5 @@
-// How the program ends.
+//! The ends of a run of the filter, each with its words and its exit status.
+
 ghost use Rattle.std.specs.Prelude.{◌≡◌};
 ghost use Rattle.filter_top.specs.Codes.{code_of};
 

@@ -1,4 +1,5 @@
-// Things: whether two are the same, and whether one can be served.
+//! Compares the things that can be served, finds them in lists, and says which can be served.
+
 ghost use Rattle.std.specs.Prelude.{◌≡◌};
 ghost use Rattle.filter_model.specs.Lines.{has_thing, is_of, is_servable, same_side, same_thing};
 

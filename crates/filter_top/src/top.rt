@@ -1,4 +1,5 @@
-// The program over any files and any pairs.
+//! The filter's main function, from the command line's words on, over any files and any pairs.
+
 ghost use Rattle.std.specs.Prelude.{◌≡◌, ◌≤◌, ℕ, Err, List, Option, Some};
 ghost use Rattle.filter_model.specs.Lists.{Listed};
 ghost use Rattle.key_purposes.specs.declared.fault.PurposeFault.{PurposeFault};

@@ -1,4 +1,5 @@
-// The parts of a turn: each makes one call on the pairs, tells the filter what came of it, and closes what that closed.
+//! One turn of the filter: serves the first thing that can be served, or polls without one.
+
 ghost use Rattle.std.specs.Prelude.{◌≡◌, ◌≤◌, [], OnOk, Some, false, length, take, true};
 ghost use Rattle.filter_model.specs.Filters.{Fits, is_reached, step};
 ghost use Rattle.filter_model.specs.declared.thing.Thing.TheVariants.{Accept, Read, Write};

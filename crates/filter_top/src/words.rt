@@ -1,4 +1,5 @@
-// The words of the command line.
+//! Takes the filter's words apart: the list, the agent behind, its own path, and purposes.
+
 ghost use Rattle.std.specs.Prelude.{◌≡◌, option_map};
 ghost use Rattle.filter_top.specs.Program.{asked_in, asked_of, texts_of};
 

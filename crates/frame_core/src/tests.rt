@@ -1,3 +1,5 @@
+//! Tests of looking at frames and putting them, by the request for the list of identities.
+
 use super::*;
 use secret_buf::ScrubBuf;
 use std::test::*;

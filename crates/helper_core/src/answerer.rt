@@ -1,4 +1,5 @@
-// What answers requests.
+//! What answers requests, or leaves them to the helper behind.
+
 use crate::asked::Asked;
 use secret_buf::ScrubBuf;
 use std::alloc::AllocError;

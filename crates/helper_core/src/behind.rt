@@ -1,4 +1,5 @@
-// The helper behind this one.
+//! The helper behind this one, to which requests are handed on one at a time.
+
 use plain_lists::Bytes;
 use secret_buf::ScrubBuf;
 use std::alloc::{AllocError, Global};

@@ -1,4 +1,5 @@
-// A helper behind, in memory.
+//! A helper behind in memory, which replies from a list and keeps what it was asked.
+
 ghost use Rattle.std.specs.Prelude.{◌≡◌, [], Some};
 
 use crate::behind::{Exchange, HelperBehind};

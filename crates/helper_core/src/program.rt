@@ -1,4 +1,5 @@
-// The program over anything that answers, any helper behind, and any connection.
+//! The program of a helper, over anything that answers, any helper behind and any connection.
+
 ghost use Rattle.std.specs.Prelude.{◌≡◌, ◌↔◌, [], List, ℕ, Option, map, string_bytes, None, MatchOption};
 ghost use Rattle.child_peer.specs.Words.{plain_words, words_of};
 ghost use Rattle.helper_core.specs.declared.behind.Exchange.{Exchange};

@@ -1,4 +1,5 @@
-// What the helper behind is asked, and which of its replies counts.
+//! What the helper behind is asked, and which of its replies counts.
+
 ghost use Rattle.std.specs.Prelude.{◌≡◌, ◌≤◌, ◌++◌, if◌then◌else◌, ℕ, List, Option, Some, length, IfSome, MatchResult, OnOk, option_map};
 ghost use Rattle.child_msg.specs.ChildFrames.{from_child_body, from_child_length};
 ghost use Rattle.child_msg.specs.Messages.{from_child_message};

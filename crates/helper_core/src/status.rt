@@ -1,4 +1,5 @@
-// How the program ends.
+//! How a helper ends, and the exit status that says so.
+
 ghost use Rattle.std.specs.Prelude.{◌≡◌};
 ghost use Rattle.helper_core.specs.Codes.{code_of};
 

@@ -1,4 +1,5 @@
-// The agent's stream, one frame after another.
+//! The agent's stream, whose frames are answered one after another until it ends.
+
 ghost use Rattle.std.specs.Prelude.{◌≡◌, [], List, ℕ, Option, IfNone, MatchOption};
 ghost use Rattle.helper_core.specs.Routes.{Route};
 ghost use Rattle.helper_core.specs.declared.behind.Exchange.{Exchange};

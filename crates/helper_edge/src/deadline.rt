@@ -1,4 +1,5 @@
-// When an answer is too late.
+//! How long the program behind may take for an answer, by the clock's seconds.
+
 ghost use Rattle.std.specs.Prelude.{◌≡◌, ◌+◌, ◌<◌, ◌≤◌, ◌^◌, MatchOption};
 
 /// How many seconds the program may take for an answer, its start included (ours).

@@ -1,4 +1,5 @@
-// The helper behind as a program.
+//! The helper behind as a program, started at the first request and again once it has failed.
+
 ghost use Rattle.std.specs.Prelude.{◌≡◌, None};
 
 use crate::deadline::Deadline;

@@ -1,4 +1,5 @@
-// A helper that was started, and its connection.
+//! A helper process that runs, and the connection over which it is asked and answers.
+
 ghost use Rattle.std.specs.Prelude.{◌≡◌};
 
 use crate::deadline::Deadline;

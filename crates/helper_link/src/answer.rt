@@ -1,3 +1,5 @@
+//! What the helper answers, to whom, and what a piece of its stream told in all.
+
 use crate::fault::LinkFault;
 use plain_lists::{Bytes, PlainList};
 

@@ -1,3 +1,5 @@
+//! An ask that was put to the helper: a signature, or the verification of one.
+
 use plain_lists::Bytes;
 
 /// What an ask is for.

@@ -1,3 +1,5 @@
+//! Why an ask is refused, and why the helper's stream is faulty.
+
 ghost use Rattle.std.specs.Prelude.{◌≡◌};
 ghost use Rattle.helper_link.specs.declared.fault.AskFault.TheVariants.{Memory};
 

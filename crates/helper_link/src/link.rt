@@ -1,3 +1,5 @@
+//! The link itself: what was asked and is unanswered, and what is still to be sent.
+
 ghost use Rattle.std.specs.Prelude.{◌≡◌, ◌≢◌, ◌↔◌, ◌+◌, ◌-◌, ◌^◌, ◌<◌, ◌≤◌, IsTrue, IfOk, MatchResult, None, Some, OnOk, OnErr, length};
 ghost use Rattle.std.specs.Option.{option_copied};
 ghost use Rattle.wire_text.specs.Bounds.{longest_to_child};

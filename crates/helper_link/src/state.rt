@@ -1,3 +1,5 @@
+//! How far the link has come: without a helper, with one being started, or with one at a port.
+
 /// How far the link has come.
 #[derive(Clone, Copy, Debug, PartialEq, Eq)]
 pub enum LinkState {

@@ -1,3 +1,5 @@
+//! Why a frame of the helper's settles nothing: it is faulty, or memory ran out.
+
 ghost use Rattle.std.specs.Prelude.{◌≡◌};
 ghost use Rattle.helper_link.specs.declared.stop.Stop.TheVariants.{Fault, Memory};
 

@@ -1,3 +1,5 @@
+//! Reads a key that is added to an agent, private fields included, by draft-miller-ssh-agent.
+
 ghost use Rattle.std.specs.Prelude.{◌≡◌, ◌^◌, ◌<◌, ◌++◌, List, ℕ, length, IfOk, OnOk, OnErr, MatchResult, Ok, Err, if◌then◌else◌, ◌⊎◌};
 ghost use Rattle.wire_text.specs.Wire.{string};
 ghost use Rattle.key_blob.specs.declared.fault.KeyFault.TheVariants.{Memory};

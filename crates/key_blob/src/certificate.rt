@@ -1,3 +1,5 @@
+//! Reads the fields of an OpenSSH certificate (PROTOCOL.certkeys), and judges one for a host.
+
 ghost use Rattle.std.specs.Prelude.{◌≡◌, ◌↔◌, IsTrue, MatchResult, Ok, Err};
 ghost use Rattle.key_blob.specs.Certificates.{IsValid, certificate_of, names_at, certificate_at};
 ghost use Rattle.key_blob.specs.Principals.{NamesHost, are_strings};

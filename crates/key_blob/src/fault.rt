@@ -1,3 +1,5 @@
+//! Why a key is refused, with the number of each fault.
+
 ghost use Rattle.std.specs.Prelude.{◌≡◌};
 ghost use Rattle.key_blob.specs.declared.fault.KeyFault.TheVariants.{Short as TooShort, Memory};
 

@@ -1,3 +1,5 @@
+//! Takes a key's type and its fields from a blob, as the table of types has them.
+
 ghost use Rattle.std.specs.Prelude.{◌≡◌, ◌^◌, ◌<◌, length, IfOk, OnErr, MatchResult, Ok, Err};
 ghost use Rattle.key_blob.specs.Rows.{field_of, fields_of};
 ghost use Rattle.key_blob.specs.Reading.{field_at, after_fields, form_at, taken};

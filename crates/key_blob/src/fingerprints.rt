@@ -1,3 +1,5 @@
+//! A key's SHA-256 fingerprint, in the form that ssh-keygen(1) prints.
+
 ghost use Rattle.std.specs.Prelude.{◌≡◌, string_bytes, IfOk};
 ghost use Rattle.key_blob.specs.PublicKeys.{parts_of};
 ghost use Rattle.key_blob.specs.Fingerprints.{fingerprint_of};

@@ -1,3 +1,5 @@
+//! A type of keys with its certificates told apart: the kind alone, or a certificate of it.
+
 ghost use Rattle.std.specs.Prelude.{◌≡◌};
 ghost use Rattle.key_blob.specs.KeyTypes.{kind_of};
 

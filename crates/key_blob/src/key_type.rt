@@ -1,3 +1,5 @@
+//! The table of key types (docs/PROTOCOL.md, "Keys"): names, fields, algorithms and sizes.
+
 ghost use Rattle.std.specs.Prelude.{◌≡◌, []};
 ghost use Rattle.key_blob.specs.KeyTypes.{key_type, certified_type, type_of, sized_type, ecdsa_type, form_named};
 ghost use Rattle.key_blob.specs.Rows.{line_of, fields_of};

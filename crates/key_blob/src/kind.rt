@@ -1,3 +1,5 @@
+//! The kinds of keys that are known, certificates or not, and one that stands in for tests.
+
 /// The types of keys, apart from whether a certificate carries the key.
 #[derive(Clone, Copy, Debug, PartialEq, Eq)]
 pub enum KeyKind {

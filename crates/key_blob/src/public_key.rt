@@ -1,3 +1,5 @@
+//! A public key or certificate, read from its blob by RFC 4253 and PROTOCOL.certkeys.
+
 ghost use Rattle.std.specs.Prelude.{◌≡◌, ◌≢◌, ◌↔◌, IsTrue, IfOk, IsOkAnd, MatchResult, Ok, Err, Contains};
 ghost use Rattle.std.specs.Option.{option_map};
 ghost use Rattle.key_blob.specs.declared.fault.KeyFault.TheVariants.{Memory};

@@ -1,3 +1,5 @@
+//! A key's size in bits: from the table of types, or counted in the modulus of an RSA key.
+
 ghost use Rattle.std.specs.Prelude.{◌≡◌, ◌^◌, ◌<◌, length};
 ghost use Rattle.key_blob.specs.PublicKeys.{parts_of};
 ghost use Rattle.key_blob.specs.KeySizes.{digits_of, modulus_of, bits_of};

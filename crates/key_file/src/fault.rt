@@ -1,3 +1,5 @@
+//! Why a private key's body or a public key's line was refused.
+
 ghost use Rattle.std.specs.Prelude.{◌≡◌};
 ghost use Rattle.key_file.specs.declared.fault.KeyFileFault.TheVariants.{Short as TooShort, Memory as NoMemory};
 ghost use Rattle.key_file.specs.declared.fault.PubFault.TheVariants.{Memory as NoMemoryForLine};

@@ -29,6 +29,7 @@ is_same one _ = false
 abbrev pub most : ℕ
 most = 64
 
+-- the most bytes of a word
 abbrev pub longest : ℕ
 longest = 255
 

@@ -1,4 +1,5 @@
-// A log that is written as the lines of its record are run.
+//! A log that is written as the lines of its record are run.
+
 ghost use Rattle.std.specs.Prelude.{◌≡◌, ◌++◌, OnOk, true};
 ghost use Rattle.audit_core.specs.Writing.{Writes};
 ghost use Rattle.log_book.specs.Books.{new_book, open_in, see_all};

@@ -1,4 +1,5 @@
-// What is seen of the events of a record.
+//! What is seen of the events of a record: bytes of clients, and what came of each event.
+
 ghost use Rattle.std.specs.Prelude.{◌≡◌, ◌++◌, IfOk, OnOk, [], map};
 ghost use Rattle.agent_core.specs.Happenings.{happening};
 ghost use Rattle.agent_model.specs.State.{Fits, find_port};

@@ -1,4 +1,5 @@
-// How the program ends.
+//! How a log ends, and the exit status that says so.
+
 ghost use Rattle.std.specs.Prelude.{◌≡◌, ◌==◌};
 ghost use Rattle.log_core.specs.Program.{code_of, ended_by, status_by};
 

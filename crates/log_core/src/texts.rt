@@ -1,4 +1,5 @@
-// The file of the record.
+//! The text of the file of the record, which is read once and whole.
+
 ghost use Rattle.std.specs.Prelude.{◌≡◌, ℕ, List, Option, Some, Err, IfErr, IfOk};
 ghost use Rattle.audit_core.specs.Program.{IsTextOf, StopsAt};
 ghost use Rattle.log_core.specs.Program.{IsFileEnd};

@@ -1,4 +1,5 @@
-// The program over any files and any output.
+//! The program that writes the log of a record, over any files and any output.
+
 ghost use Rattle.std.specs.Prelude.{◌≡◌, ℕ, List, Option, Some};
 ghost use Rattle.audit_core.specs.Program.{StopsAt};
 ghost use Rattle.log_core.specs.Program.{EndsLog, Logs};

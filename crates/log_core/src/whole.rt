@@ -1,4 +1,5 @@
-// The whole lines of a text.
+//! The whole lines of a text: all of it up to its last LF.
+
 ghost use Rattle.std.specs.Prelude.{◌≡◌};
 ghost use Rattle.log_core.specs.Lines.{whole_lines};
 

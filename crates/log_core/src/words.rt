@@ -1,4 +1,5 @@
-// The words of the command line.
+//! The words of the log's command line: the record and a lifetime.
+
 ghost use Rattle.std.specs.Prelude.{◌≡◌, option_map};
 ghost use Rattle.audit_core.specs.Words.{some_life, texts_of};
 ghost use Rattle.log_core.specs.Words.{asked_in, asked_of};

@@ -1,3 +1,5 @@
+//! A test that a record has a lock by its passphrase's number, and never the passphrase.
+
 use plain_lists::Bytes;
 use record_world::{Recorder, Tape};
 use std::alloc::{AllocError, Global};

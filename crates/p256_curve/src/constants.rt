@@ -1,3 +1,5 @@
+//! The constants of P-256 (SP 800-186): b, p and the base point, which is on the curve.
+
 ghost use Rattle.std.specs.Prelude.{◌≡◌};
 ghost use Rattle.p256_field.specs.Field.{prime};
 ghost use Rattle.p256_curve.specs.Points.{base_x, base_y, curve_b, IsOnCurve};

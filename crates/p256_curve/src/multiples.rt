@@ -1,3 +1,5 @@
+//! Multiples of any point of P-256 by double and add, for what isn't secret.
+
 ghost use Rattle.std.specs.Prelude.{◌≡◌};
 ghost use Rattle.p256_curve.specs.Multiples.{multiply};
 

@@ -1,4 +1,4 @@
-// Encoding and decoding of points that aren't secret, of SEC 1, sections 2.3.3 and 2.3.4.
+//! Points of P-384 read from their uncompressed encoding, and written in it.
 
 ghost use Rattle.std.specs.Prelude.{◌≡◌, ◌∷◌, ◌++◌};
 ghost use Rattle.p384_curve.specs.Encoding.{decoded, encoded, is_on_curve, valid_point};

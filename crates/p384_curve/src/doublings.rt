@@ -1,3 +1,5 @@
+//! The doublings of P-384's base point in a table, so that its multiples take additions alone.
+
 ghost use Rattle.std.specs.Prelude.{◌≡◌, ◌<◌, ◌≤◌};
 ghost use Rattle.p384_curve.specs.Points.{base, neutral};
 ghost use Rattle.p384_curve.specs.Multiples.{doubled, multiply, multiply_from, AreDoublings};

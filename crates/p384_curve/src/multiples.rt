@@ -1,3 +1,5 @@
+//! Multiples of any point of P-384 by double and add, for what isn't secret.
+
 ghost use Rattle.std.specs.Prelude.{◌≡◌};
 ghost use Rattle.p384_curve.specs.Multiples.{multiply};
 

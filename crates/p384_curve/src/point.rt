@@ -1,3 +1,5 @@
+//! Points of P-384 in homogeneous coordinates, and their complete addition.
+
 ghost use Rattle.std.specs.Prelude.{◌≡◌, ◌≤◌};
 ghost use Rattle.p384_curve.specs.Points.{base, neutral, point_add, point_at};
 ghost use Rattle.p384_curve.specs.Multiples.{choose};

@@ -1,4 +1,4 @@
-// Nonces, of RFC 6979, section 3.2.
+//! The state K and V that gives the nonces of ECDSA over P-384, and HMAC for it.
 
 ghost use Rattle.std.specs.Prelude.{◌≡◌, ℕ, ◌%◌, ◌∷◌, ◌++◌, [], List};
 ghost use Rattle.p384_order.specs.Scalars.{order};

@@ -1,3 +1,5 @@
+//! Verification of ECDSA signatures over P-384, by FIPS 186-5.
+
 ghost use Rattle.std.specs.Prelude.{◌≡◌, true, Some};
 ghost use Rattle.p384_ecdsa.specs.Keys.{in_range};
 ghost use Rattle.p384_ecdsa.specs.Verification.{accepts, meets, recovered};

@@ -1,3 +1,5 @@
+//! Multiples of any point of P-521 by double and add, for what isn't secret.
+
 ghost use Rattle.std.specs.Prelude.{◌≡◌};
 ghost use Rattle.p521_curve.specs.Multiples.{multiply};
 

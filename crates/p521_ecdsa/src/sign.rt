@@ -1,3 +1,5 @@
+//! ECDSA signatures over P-521, with the nonces of RFC 6979.
+
 ghost use Rattle.std.specs.Prelude.{◌≡◌, ◌≢◌, ◌⊎◌, ◌%◌, ℕ, false, true, Some, None, MatchOption};
 ghost use Rattle.sha2.specs.Sha512.{sha512};
 ghost use Rattle.wide_words.specs.Numbers.{big_endian};

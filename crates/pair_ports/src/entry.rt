@@ -1,4 +1,5 @@
-// One call on pairs of connections, as their journal keeps it.
+//! What a call on pairs answers, and the entry that the journal has of each call.
+
 use crate::Side;
 use plain_lists::{Bytes, PlainList};
 use std::alloc::AllocError;

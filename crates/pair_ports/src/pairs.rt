@@ -1,4 +1,5 @@
-// The outside as a filter's loop sees it.
+//! The trait of a listener and its pairs, with what each call adds to the journal.
+
 ghost use Rattle.std.specs.Prelude.{◌≡◌, ◌<◌, ◌-◌, ◌^◌, ℕ, List, Option, length, is_err};
 ghost use Rattle.world_ports.specs.Journal.{Tells, got_of, is_short};
 ghost use Rattle.world_ports.specs.Worlds.{IsCounted, GotWithin, KeepsRest, NumbersPort, TookWithin};

@@ -1,4 +1,5 @@
-// The calls on pairs in memory: which are to fail, and how many were made and failed.
+//! The calls on pairs in memory: which are to fail, and how many were made and failed.
+
 ghost use Rattle.std.specs.Prelude.{◌≡◌, ◌↔◌, IsErr, is_err};
 ghost use Rattle.world_ports.specs.Causes.{HasCause};
 ghost use Rattle.world_ports.specs.Memory.{IsNextListed, after_call};

@@ -1,4 +1,5 @@
-// What a script lets happen at pairs.
+//! What a script lets happen outside, at one turn, to the pairs that it plays.
+
 use pair_ports::Side;
 use plain_lists::Bytes;
 

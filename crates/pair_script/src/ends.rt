@@ -1,4 +1,5 @@
-// Both connections of a pair.
+//! Both connections of a pair in memory: the client's and the one upstream.
+
 ghost use Rattle.std.specs.Prelude.{◌≡◌};
 ghost use Rattle.pair_script.specs.Ends.{new_ends, side_of};
 ghost use Rattle.world_ports.specs.Script.{new_pipe};

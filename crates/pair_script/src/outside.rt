@@ -1,4 +1,5 @@
-// What is there around pairs in memory: clients that wait, and what the peers of each pair sent and take.
+//! What is there around pairs in memory: clients that wait, and what peers sent and take.
+
 ghost use Rattle.std.specs.Prelude.{◌≡◌, ◌+◌, ◌-◌, ◌^◌, ◌<◌, IfOk, take};
 ghost use Rattle.pair_ports.specs.declared.side.Side.TheVariants.{Upstream};
 ghost use Rattle.pair_script.specs.Ends.{end_of, next_linked};

@@ -1,4 +1,5 @@
-// The bytes that the peer of one side sends, and those that it takes.
+//! One side of a pair in memory: the bytes that its peer sends, and those that it takes.
+
 ghost use Rattle.std.specs.Prelude.{◌≡◌, ◌++◌, ◌+◌, ◌-◌, ◌^◌, ◌<◌, ◌≤◌, OnOk, None, Some, [], false, true, length, min, take, drop, vec_len};
 ghost use Rattle.world_ports.specs.Script.{PipeState, added_room, next_got, next_wrote, room_after};
 

@@ -1,4 +1,5 @@
-// Pairs in memory that play a script.
+//! Pairs in memory that play a script, one turn at each poll, and keep a journal of calls.
+
 ghost use Rattle.std.specs.Prelude.{◌≡◌, ◌++◌, ◌∷◌, ◌<◌, ◌-◌, ◌^◌, [], IfOk, OnOk, OnErr, Some, length, take, vec_len};
 ghost use Rattle.pair_ports.specs.declared.entry.PairEntry.{PairEntry};
 ghost use Rattle.pair_ports.specs.declared.entry.PairEntry.TheVariants as entry;

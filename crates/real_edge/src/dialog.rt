@@ -1,4 +1,5 @@
-// What a program that asks the user is started with.
+//! The environment of a program that asks the user: only the variables that a dialog needs.
+
 use crate::ticket::TICKET;
 use crate::watched::run_to_end;
 use std::alloc::{AllocGlobal, Global};

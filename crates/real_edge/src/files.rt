@@ -1,4 +1,5 @@
-// Files of the system.
+//! The system's files as a `Files`: failed reads are counted, and the memory between is wiped.
+
 ghost use Rattle.std.specs.Prelude.{◌≡◌, ◌<◌, ◌≤◌, IfOk, IfSome, None, length};
 
 use crate::errors::is_memory;

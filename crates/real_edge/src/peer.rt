@@ -1,4 +1,5 @@
-// Connections of the system.
+//! Connections of Unix sockets as a source and a sink: one by its path, or the standard input.
+
 ghost use Rattle.std.specs.Prelude.{◌≡◌};
 
 use std::io::Result as IoResult;

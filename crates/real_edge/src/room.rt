@@ -1,4 +1,5 @@
-// Room for the bytes of a file, in memory that is wiped.
+//! Memory that a file's bytes are read into, which grows and is wiped before it is given back.
+
 ghost use Rattle.std.specs.Prelude.{◌≡◌, ◌+◌, ◌<◌, ◌≤◌, IfOk, OnOk, length, take};
 ghost use Rattle.secret_buf.specs.Buffers.{IsWiped};
 

@@ -1,4 +1,5 @@
-// Programs of the system.
+//! The system's programs as a `Spawner`, those that ask the user among them.
+
 ghost use Rattle.std.specs.Prelude.{◌≡◌, None};
 
 use crate::dialog::give_dialog;

@@ -1,4 +1,5 @@
-// Where the agent puts the ticket of a program that it starts.
+//! Puts a child process's ticket from the environment into its words.
+
 use std::alloc::{AllocError, AllocGlobal};
 use std::env;
 use std::env::{Env, VarError};

@@ -1,4 +1,5 @@
-// The turns of relays: of those of one agent, one asks at a time.
+//! The lock by which of all relays of one agent only one asks the user at a time.
+
 use crate::dialog::value_of;
 use crate::watched::await_peer;
 use std::alloc::AllocGlobal;

@@ -1,4 +1,5 @@
-// A program that is run for as long as a connection stands.
+//! Runs a program to its end, and kills it where the connection's peer goes away before that.
+
 use libc::net::{POLLIN, POLLRDHUP, poll};
 use libc::types::pollfd;
 use std::alloc::Global;

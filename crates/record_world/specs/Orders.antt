@@ -8,6 +8,7 @@ use Rattle.world_ports.specs.declared.entry.Entry.{Entry}
 use Rattle.record_world.specs.Recording.{Recording, after, record_from, recording_after, text_of}
 use Rattle.record_world.specs.Leads.{BreaksFor, IsFront, IsWritten, Leads, Stays, Taped, Writes, is_stopped}
 
+-- inhabited by false alone
 abbrev Only : Bool → Type 0
 Only false = Unit {0}
 Only true = ⊥
@@ -17,6 +18,7 @@ no e = subst Only e tt
 
 -- ---- journals and texts
 
+-- no entries leave a journal as it is
 pub grows-none : {A : Type 0} (told : Option (List A)) → Grows told told []
 grows-none None = tt
 grows-none (Some items) = sym (append-nil items)
@@ -65,6 +67,7 @@ written-twice false false false x y z a b p q st tu first later = record {
 
 -- ---- stopping
 
+-- what doesn't change stays
 pub stays-same : (b : Bool) → Stays b b
 stays-same true = refl
 stays-same false = tt
@@ -101,12 +104,14 @@ cause-twice false true false a b c ab bc stays first later = absurd (no stays)
 cause-twice false false true a b c ab bc stays first later = rose-earlier a b c ab later
 cause-twice false false false a b c ab bc stays first later = later ∙ first
 
+-- where no write failed, it is as broken as before
 pub cause-same : (b : Bool) (n : ℕ) → BreaksFor b b n n
 cause-same true n = tt
 cause-same false n = refl
 
 -- ---- the sink
 
+-- a sink that stands as it was is only written
 pub only-none : (sink : StreamView) → OnlyWrites sink sink
 only-none sink = record { taken = refl; left = refl; read_faults = refl; later = le_refl sink.write_faults }
 
@@ -120,6 +125,7 @@ only-twice x y z first later = record {
 
 -- ---- the order
 
+-- of no entries nothing is written
 pub writes-none : (tape : Taped) → Writes [] tape tape
 writes-none x = record {
   text = [];
@@ -131,6 +137,7 @@ writes-none x = record {
   lines = written-none (is_stopped x) x.recording;
 }
 
+-- what was written of one list and then of another was written of both
 pub writes-twice : (x y z : Taped) (a b : List Entry) → Writes a x y → Writes b y z → Writes (a ++ b) x z
 writes-twice x y z a b first later = record {
   text = first.text ++ later.text;
@@ -143,9 +150,11 @@ writes-twice x y z a b first later = record {
       (stays-or x.is_broken x.is_short y.is_broken y.is_short first.broken first.short) (stays-or y.is_broken y.is_short z.is_broken z.is_short later.broken later.short) first.lines later.lines;
 }
 
+-- no entries lead from a journal and a tape to themselves
 pub leads-same : (journal : Option (List Entry)) (tape : Taped) → Leads journal journal tape tape
 leads-same journal tape = record { entries = []; grows = grows-none journal; writes = writes-none tape }
 
+-- the entries of one stretch and then of another are those of both
 pub leads-twice : (i j k : Option (List Entry)) (x y z : Taped) → Leads i j x y → Leads j k y z → Leads i k x z
 leads-twice i j k x y z first later = record {
   entries = first.entries ++ later.entries;

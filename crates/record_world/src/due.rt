@@ -1,4 +1,5 @@
-// Short lines that wait for a moment.
+//! The line that a call left to be written, until the clocks are read next.
+
 use world_ports::Door;
 
 /// The line of the last call, where it is one that its arguments and its answer tell.

@@ -1,4 +1,5 @@
-// Whole frames of a client.
+//! Takes whole frames out of what a client sent, and appends them without their secrets.
+
 ghost use Rattle.std.specs.Prelude.{◌≡◌, ◌++◌, IfOk, OnOk};
 ghost use Rattle.wire_text.specs.Bounds.{longest_body};
 ghost use Rattle.wire_text.specs.Frames.{Whole, after_front, front, front_body, split};

@@ -1,4 +1,5 @@
-// Lines that tell of bytes.
+//! Writes the lines `hold` and `hear` of a record, the latter in pieces of at most 16384 bytes.
+
 ghost use Rattle.std.specs.Prelude.{◌≡◌, ◌++◌, ◌<◌, IfOk, OnOk, drop, length, take};
 ghost use Rattle.schedule_text.specs.declared.step.Step.TheVariants as steps;
 ghost use Rattle.schedule_text.specs.Steps.{step_line};

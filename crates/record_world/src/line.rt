@@ -1,4 +1,5 @@
-// Short lines of the record, in an array: they are written without memory.
+//! Writes the lines of a record that fit 128 bytes: `at`, and that of the last call.
+
 ghost use Rattle.std.specs.Prelude.{◌≡◌, ◌≤◌, ◌+◌, ◌++◌, codes, decimal, length};
 ghost use Rattle.arrayvec.specs.ArrayVec.{array_vec_len};
 ghost use Rattle.hex.specs.Hex.{encode_lower};

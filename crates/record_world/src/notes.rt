@@ -1,4 +1,5 @@
-// What is kept between two calls.
+//! A recorder's memory between two calls: its connections, its passphrases, and a line due.
+
 ghost use Rattle.std.specs.Prelude.{◌≡◌, ◌++◌, MatchOption, None, OnOk, [], ◌∷◌, not, length, true};
 ghost use Rattle.std.specs.List.{position};
 ghost use Rattle.lists.specs.Firsts.{IsFirst};

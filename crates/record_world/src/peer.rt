@@ -1,4 +1,5 @@
-// A connection whose calls are recorded.
+//! An accepted connection, with the bytes that came of it and aren't recorded yet.
+
 ghost use Rattle.std.specs.Prelude.{◌≡◌, ◌++◌, OnOk, OnErr, length, []};
 ghost use Rattle.record_world.specs.Recording.{held, new_port, number_of, taken};
 

@@ -1,4 +1,5 @@
-// The side of a recorder that writes.
+//! What a recorder writes for each call on its world, until its sink fails or memory runs out.
+
 ghost use Rattle.std.specs.Prelude.{◌≡◌, ◌++◌, ◌||◌, ℕ, List, Option, OnErr, OnOk, false, true, is_err, not, []};
 ghost use Rattle.std.specs.Io.KnownBytes.{Appends};
 ghost use Rattle.world_ports.specs.Causes.{HasCause};

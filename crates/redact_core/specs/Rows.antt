@@ -46,6 +46,7 @@ certified secret =
 abbrev pub lock : List ℕ → List ℕ
 lock passphrase = 22 ∷ string passphrase
 
+-- an unlock with this passphrase
 abbrev pub unlock : List ℕ → List ℕ
 unlock passphrase = 23 ∷ string passphrase
 

@@ -1,4 +1,5 @@
-// Asking the user, and telling the agent.
+//! Runs the askpass program with the prompt, and sends the agent the user's answer.
+
 ghost use Rattle.std.specs.Prelude.{◌≡◌, List, ℕ};
 ghost use Rattle.child_msg.specs.ChildFrames.{from_child_body};
 ghost use Rattle.child_peer.specs.Hearing.{Says};

@@ -1,4 +1,5 @@
-// What the program that asks the user says.
+//! Whether an askpass program's exit status and output mean that the user consents.
+
 ghost use Rattle.std.specs.Prelude.{◌≡◌, ◌≤◌, length, take};
 ghost use Rattle.relay_core.specs.Verdicts.{first_line, is_consent, verdict_of};
 

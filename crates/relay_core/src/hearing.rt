@@ -1,4 +1,5 @@
-// Waiting for the agent's request.
+//! Reads from the agent until one whole frame has come.
+
 ghost use Rattle.std.specs.Prelude.{◌≡◌, ◌<◌, [], length, IfNone, MatchOption};
 ghost use Rattle.relay_core.specs.Steps.{HearsFrame};
 ghost use Rattle.world_ports.specs.Streams.{OnlyReads};

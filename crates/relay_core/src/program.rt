@@ -1,4 +1,5 @@
-// The program over any spawner and any connection.
+//! The relay from its words to its exit status, over any spawner and any connection.
+
 ghost use Rattle.std.specs.Prelude.{◌≡◌, ◌↔◌, map, string_bytes, None};
 ghost use Rattle.child_peer.specs.Words.{plain_words};
 ghost use Rattle.relay_core.specs.Claims.{Answers, Ends, Relaying};

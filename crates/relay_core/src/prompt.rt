@@ -1,4 +1,5 @@
-// The prompt of a request.
+//! Reads the prompt from the agent's request, if it is for this job and plain.
+
 ghost use Rattle.std.specs.Prelude.{◌≡◌, option_map};
 ghost use Rattle.relay_core.specs.Prompts.{is_plain, is_plain_byte, prompt_of, shown_for};
 

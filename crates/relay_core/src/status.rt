@@ -1,4 +1,5 @@
-// How the program ends.
+//! The ways in which the relay ends, each with its words and its exit status.
+
 ghost use Rattle.std.specs.Prelude.{◌≡◌};
 ghost use Rattle.relay_core.specs.Codes.{code_of};
 

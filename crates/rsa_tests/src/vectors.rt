@@ -1,6 +1,6 @@
-// The first key and its first signature of RSA Laboratories' "Test vectors for RSA PKCS#1 v1.5 Signature"
-// (pkcs1v15sign-vectors.txt, which Debian's python3-cryptography-vectors has), by SHA-1, and what has to be
-// refused beside them.
+//! The first key and its first signature of RSA Laboratories' "Test vectors for RSA PKCS#1 v1.5 Signature"
+//! (pkcs1v15sign-vectors.txt, which Debian's python3-cryptography-vectors has), by SHA-1, and what has to be
+//! refused beside them.
 
 use rsa_sign::{Key, sign};
 use rsa_verify::{Hash, verify};

@@ -1,3 +1,5 @@
+//! Guards: no type of secret bytes is Clone, Debug or Display, and storage has no Drop.
+
 // Two impls of one trait may not overlap. Each pair below overlaps as soon as the type has the
 // unwanted trait. So an impl or a derive of that trait anywhere in the crate is an error, and no
 // other crate may write one.

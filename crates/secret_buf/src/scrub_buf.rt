@@ -1,3 +1,5 @@
+//! A buffer, pushed behind and consumed in front, whose storage is zero outside its bytes.
+
 ghost use Rattle.std.specs.Prelude.{◌≡◌, ◌+◌, ◌*◌, ◌-◌, ◌/◌, ◌^◌, ◌<◌, ◌≤◌, [], ◌++◌, IfSome, IsOk, OnErr, OnOk, drop, length, slice_range};
 ghost use Rattle.secret_buf.specs.Buffers.{buffer_of, no_bytes, IsScrubbed, KeepsRoom};
 

@@ -1,3 +1,5 @@
+//! Secret bytes, which no derive copies or prints, and which are wiped when dropped.
+
 ghost use Rattle.std.specs.Prelude.{◌≡◌, ◌↔◌, ◌≤◌, ◌++◌, IfOk, IsOk, IsTrue, OnErr, OnOk, length};
 ghost use Rattle.secret_buf.specs.Buffers.{KeepsRoom};
 

@@ -1,3 +1,5 @@
+//! Bytes on the heap that never grow, and are zero when they are given up.
+
 ghost use Rattle.std.specs.Prelude.{◌≡◌, ◌+◌, ◌≤◌, [], ◌++◌, IfOk, drop, length, replicate, slice_range};
 ghost use Rattle.secret_buf.specs.Buffers.{cleared, overwritten, IsWiped};
 

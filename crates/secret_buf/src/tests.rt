@@ -1,3 +1,5 @@
+//! Tests of the buffer and of secret bytes: their order, their growth, and refused memory.
+
 use crate::{ScrubBuf, SecretBytes};
 use std::test::Fail;
 

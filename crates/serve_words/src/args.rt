@@ -1,4 +1,5 @@
-// The kinds of argument.
+//! The kinds of argument of `serve`: long, short, and flags.
+
 ghost use Rattle.std.specs.Prelude.{◌≡◌, false};
 ghost use Rattle.clap.specs.Walk.{rule_of};
 ghost use Rattle.serve_words.specs.Rules.{flag_rule, long_rule, short_rule};

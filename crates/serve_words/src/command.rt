@@ -1,4 +1,5 @@
-// The command line of `serve` as clap reads it.
+//! The command line of `serve` as clap reads it.
+
 ghost use Rattle.std.specs.Prelude.{◌≡◌, IfOk, List, ℕ, map, string_bytes, true, false};
 ghost use Rattle.clap.specs.Matches.{first_value, found_of};
 ghost use Rattle.clap.specs.Simple.{app_of};

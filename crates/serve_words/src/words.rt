@@ -1,4 +1,5 @@
-// What the words of `serve` say.
+//! What the words of `serve` say, or why they are no such command.
+
 ghost use Rattle.std.specs.Prelude.{◌≡◌, IfOk, MatchResult, Some, codes, map, option_map, string_bytes, true, false};
 ghost use Rattle.serve_words.specs.Serve.{begins, default_life, is_no_life, is_recorded, is_set, is_usage, life_in, value_of};
 ghost use Rattle.serve_words.specs.declared.words.ServeFault.TheVariants.{Memory};

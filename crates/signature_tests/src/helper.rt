@@ -1,6 +1,6 @@
-// The helper that signs, over a connection and a helper behind in memory: one signature is made here, and one
-// with a key of another type behind. The frames are written out from docs/PROTOCOL.md; key, message and signature are
-// TEST 2 of RFC 8032, section 7.1.
+//! The helper that signs, over a connection and a helper behind in memory: one signature is made here, and one
+//! with a key of another type behind. The frames are written out from docs/PROTOCOL.md; key, message and signature are
+//! TEST 2 of RFC 8032, section 7.1.
 
 use helper_core::{HelperStatus, ListBehind};
 use plain_lists::Bytes;

@@ -1,5 +1,5 @@
-// What RFC 8032, sections 5.1.3 and 5.1.7, refuses. The signature of 64 bytes below is right under the key
-// of the neutral point for each message, since R is then [S]B: B itself, and S = 1.
+//! What RFC 8032, sections 5.1.3 and 5.1.7, refuses. The signature of 64 bytes below is right under the key
+//! of the neutral point for each message, since R is then [S]B: B itself, and S = 1.
 
 use ed25519::{Doublings, public_key, sign_checked, verify};
 

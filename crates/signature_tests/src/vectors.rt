@@ -1,4 +1,4 @@
-// RFC 8032, section 7.1, TEST 1, TEST 2, TEST 3 and TEST SHA(abc).
+//! Tests of Ed25519's keys, signatures and verification by the vectors of RFC 8032.
 
 use ed25519::{Doublings, public_key, sign_checked, verify};
 use hex::FromHex;

@@ -70,6 +70,7 @@ is_sha1 Sha1 = true
 is_sha1 Sha256 = false
 is_sha1 Sha512 = false
 
+-- whether a signature that was read is by SHA-1
 abbrev pub is_sha1_read : Result SignatureBytes KeyFault → Bool
 is_sha1_read (Ok signature) = is_sha1 signature.algorithm
 is_sha1_read (Err _) = false

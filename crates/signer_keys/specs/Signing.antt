@@ -43,6 +43,7 @@ signature_by Rsa request = do
   bytes ← rsa_signature request.private request.blob (asked_for request.flags) request.message
   Ok (rsa_text (asked_for request.flags) bytes)
 
+-- the signature by a key of this type, if the type is known
 abbrev pub signature_typed : Option KeyType → Signing → Result (List ℕ) KeyFault
 signature_typed (Some key) request = signature_by (kind_of key) request
 signature_typed None request = Err Unfit

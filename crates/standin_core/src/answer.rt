@@ -1,4 +1,5 @@
-// The answer to a request.
+//! Answers one request of the agent with a frame (docs/PROTOCOL.md).
+
 ghost use Rattle.std.specs.Prelude.{◌≡◌, ◌++◌, IfOk, OnOk, List, option_map};
 ghost use Rattle.child_msg.specs.ChildFrames.{from_child_body};
 ghost use Rattle.standin_core.specs.Answers.{IsAnswered, answer_of, is_signed_with, host_secret, signed_with};

@@ -1,3 +1,5 @@
+//! Why the data file gives no hosts: it can't be read, is too long or bad, or memory ran out.
+
 ghost use Rattle.std.specs.Prelude.{◌≡◌};
 ghost use Rattle.standin_core.specs.declared.fault.DataFault.TheVariants.{Memory};
 

@@ -1,4 +1,5 @@
-// The hosts of the data file.
+//! Reads the data file, each line a tag and a secret in hexadecimal (ours), and looks tags up.
+
 ghost use Rattle.std.specs.Prelude.{◌≡◌, ◌≤◌, ◌+◌, ◌++◌, IfOk, OnOk, OnErr, length, take, drop, List, option_map};
 ghost use Rattle.standin_core.specs.Hosts.{Host, ArePairs, secret_for};
 ghost use Rattle.standin_core.specs.Reading.{ReadsLine, ReadsText, ReadsData};

@@ -1,4 +1,5 @@
-// Stand-in keys: their blobs, their private strings, their signatures.
+//! The stand-in key type keyed-sha256@example.com: its blobs, private strings and signatures.
+
 ghost use Rattle.std.specs.Prelude.{◌≡◌, ◌++◌, MatchOption, option_map};
 ghost use Rattle.standin_core.specs.Keys.{HasNoFront, secret_of, signature_of, tag_of};
 

@@ -1,4 +1,5 @@
-// The program over any files and any connection.
+//! The helper's main function: it reads the data file, says HELLO, and serves the agent.
+
 ghost use Rattle.std.specs.Prelude.{◌≡◌, ◌↔◌, ◌⊎◌, [], List, ℕ, map, string_bytes, None, MatchOption};
 ghost use Rattle.child_peer.specs.Words.{plain_words, words_of};
 ghost use Rattle.standin_core.specs.Claims.{Answers, Ends};

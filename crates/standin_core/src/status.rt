@@ -1,4 +1,5 @@
-// How the program ends.
+//! The ends of a run of the helper, each with its exit status.
+
 ghost use Rattle.std.specs.Prelude.{◌≡◌};
 ghost use Rattle.standin_core.specs.Codes.{code_of};
 

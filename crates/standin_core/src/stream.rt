@@ -1,4 +1,5 @@
-// The agent's stream, one frame after another.
+//! The helper's loop: it reads the agent's frames and answers them in order, wiping what it read.
+
 ghost use Rattle.std.specs.Prelude.{◌≡◌, [], List, ℕ, IfNone, MatchOption};
 ghost use Rattle.standin_core.specs.Claims.{Ends};
 ghost use Rattle.standin_core.specs.Hosts.{Host, ArePairs};

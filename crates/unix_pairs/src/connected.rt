@@ -1,4 +1,5 @@
-// The connections of a pair, and their tokens.
+//! A client's connection with the one behind it, and the tokens by which epoll names them.
+
 use mio::Token;
 use pair_ports::Side;
 use unix_world::Port;

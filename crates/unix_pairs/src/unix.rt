@@ -1,4 +1,5 @@
-// The pairs of a running filter.
+//! Pairs of Unix sockets over epoll, which implement the trait of pair_ports.
+
 ghost use Rattle.std.specs.Prelude.{◌≡◌, ◌≤◌, ◌<◌, ◌+◌, ◌^◌, ◌-◌, length, OnErr, IfOk, Ok};
 ghost use Rattle.world_ports.specs.Causes.{Rose};
 ghost use Rattle.world_ports.specs.Worlds.{OnFailed, NumbersPort, GotWithin, KeepsRest, TookWithin};

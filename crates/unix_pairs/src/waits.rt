@@ -1,4 +1,5 @@
-// A wait: what epoll tells, and what is owed beside it.
+//! How a poll waits for epoll, and tells what is ready and what is still owed.
+
 ghost use Rattle.std.specs.Prelude.{◌≡◌};
 
 use crate::UnixPairs;

@@ -1,4 +1,5 @@
-// The child processes that haven't named themselves, and those whose connection was closed.
+//! Ends child processes that don't name themselves, or stay once their connection was closed.
+
 use crate::started::Started;
 use std::alloc::{AllocError, Global};
 use std::process::OpenProcess;

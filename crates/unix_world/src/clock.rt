@@ -1,4 +1,5 @@
-// The clock that goes on while the machine sleeps.
+//! Reads the system's clocks: seconds with those slept, and milliseconds at the last tick.
+
 use libc::clock_gettime;
 use libc::types::timespec;
 use std::time::Clock;

@@ -1,4 +1,5 @@
-// A client's connection, or a child process's.
+//! A connection of a client or a child process, whose hello comes whole before all else.
+
 ghost use Rattle.std.specs.Prelude.{◌≡◌, ◌<◌, length, IfOk, OnErr, Ok};
 ghost use Rattle.world_ports.specs.Worlds.{KeepsRest, GotWithin, TookWithin};
 

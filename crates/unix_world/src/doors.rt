@@ -1,4 +1,5 @@
-// The files at which the agent listens.
+//! Listeners at socket files: makes the files, takes a bounded number a round, removes them.
+
 use crate::lock::hold;
 use libc::net::listen;
 use mio::net::{UnixListener, UnixStream};

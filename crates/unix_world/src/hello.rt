@@ -1,4 +1,5 @@
-// The frame by which a child process names itself, and how far it has come.
+//! A child process's HELLO as far as it came, which is said for it where it doesn't come.
+
 ghost use Rattle.std.specs.Prelude.{◌≡◌, ◌<◌, length, Ok};
 ghost use Rattle.world_ports.specs.Worlds.{KeepsRest, GotWithin};
 

@@ -1,4 +1,5 @@
-// Which file a program is, so that no other one is started in its place.
+//! Tells whether the program at a path is still the file that it was at the agent's start.
+
 use std::alloc::Global;
 use std::fs;
 use std::fs::Files;

@@ -1,4 +1,5 @@
-// The lock beside a socket's file, held from the look at what stands there until somebody listens.
+//! Takes the lock of a socket's path, so that two agents never make or remove it at once.
+
 use std::fs;
 use std::fs::{File, Files, OpenOptions, TryLockError};
 use std::io::{Error, ErrorKind, Result as IoResult};

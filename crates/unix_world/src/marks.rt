@@ -1,4 +1,5 @@
-// What is known of the bytes that may wait at a port. epoll tells of a change once, so what is left unread is kept here.
+//! Whether a port is to be read, written or told of again, since epoll tells of a change once.
+
 ghost use Rattle.std.specs.Prelude.{◌≡◌};
 
 // So many writes of a port are tried in a round.

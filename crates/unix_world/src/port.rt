@@ -1,4 +1,5 @@
-// A connection.
+//! One connection under epoll: its reads, its writes, and its end.
+
 ghost use Rattle.std.specs.Prelude.{◌≡◌, ◌<◌, length, IfOk, OnErr};
 ghost use Rattle.world_ports.specs.Worlds.{KeepsRest, GotWithin, TookWithin};
 

@@ -1,4 +1,5 @@
-// The open connections.
+//! The open connections by their keys, found by the numbers that they were accepted under.
+
 ghost use Rattle.std.specs.Prelude.{◌<◌};
 
 use crate::connection::Connection;

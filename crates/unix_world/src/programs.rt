@@ -1,4 +1,5 @@
-// The programs that the agent starts, and their words.
+//! Starts the helper and the relay with their words, and with few variables of the environment.
+
 use crate::identity::Known;
 use std::alloc::{AllocGlobal, Global};
 use std::env::Env;

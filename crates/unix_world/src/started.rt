@@ -1,4 +1,5 @@
-// A child process that was started.
+//! A child process that runs: the hello that it owes, its end, and how it is killed and reaped.
+
 use crate::hello::Hello;
 use std::process::{Child, OpenProcess};
 

@@ -1,4 +1,5 @@
-// The world of a running agent.
+//! `UnixWorld`, the world of Unix sockets over epoll, of child processes and of clocks.
+
 ghost use Rattle.std.specs.Prelude.{◌≡◌, ◌≤◌, ◌<◌, ◌+◌, ◌^◌, ◌-◌, length, OnErr, IfOk, Ok};
 ghost use Rattle.world_ports.specs.Causes.{Rose};
 ghost use Rattle.world_ports.specs.Worlds.{OnFailed, NumbersPort, GotWithin, KeepsRest, TookWithin};

@@ -1,3 +1,5 @@
+//! Why a message is not what a key signs for a login (RFC 4252, section 7).
+
 ghost use Rattle.std.specs.Prelude.{◌≡◌};
 ghost use Rattle.userauth_blob.specs.declared.fault.AuthFault.TheVariants.{Short as TooShort};
 

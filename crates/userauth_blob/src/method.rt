@@ -1,3 +1,5 @@
+//! The methods by which a public key logs in: `publickey`, and that bound to a host.
+
 ghost use Rattle.std.specs.Prelude.{◌≡◌, MatchResult, Ok, Err};
 ghost use Rattle.userauth_blob.specs.Reading.{method_named, method_at};
 

@@ -1,3 +1,5 @@
+//! The login that a signature is for (RFC 4252, section 7, and OpenSSH's PROTOCOL).
+
 ghost use Rattle.std.specs.Prelude.{◌≡◌, IfOk, IsOkAnd, MatchResult, Ok, Err};
 ghost use Rattle.userauth_blob.specs.UserAuths.{Login, login, IsUserAuth};
 ghost use Rattle.userauth_blob.specs.Reading.{auth_of, opening_at, signer_at};

@@ -1,3 +1,5 @@
+//! Reads the data types of RFC 4251, section 5, from the front of bytes.
+
 ghost use Rattle.std.specs.Prelude.{◌≡◌, ◌+◌, ◌^◌, ◌<◌, ◌≤◌, ◌↔◌, [], ◌∷◌, ◌++◌, length, take, drop, IsTrue, IsErr, IfOk, IfErr, OnOk, OnErr, MatchResult, Some, None};
 ghost use Rattle.wire_text.specs.Wire.{IsBytes, uint32, uint64, string};
 ghost use Rattle.wire_core.specs.Fields.{boolean_at, uint32_at, uint64_at, string_at, string_len, IsShortOf};

@@ -1,3 +1,5 @@
+//! Writes the data types of RFC 4251, section 5, at the end of a vector.
+
 ghost use Rattle.std.specs.Prelude.{◌≡◌, ◌^◌, ◌<◌, [], ◌∷◌, ◌++◌, length, OnOk, OnErr};
 ghost use Rattle.wire_text.specs.Wire.{uint32, uint64, string};
 

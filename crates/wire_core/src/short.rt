@@ -1,3 +1,5 @@
+//! The fault of a field that passes the end of the bytes, with how many it needs and has.
+
 /// Fewer bytes are left than a field needs.
 #[derive(Clone, Copy, Debug, PartialEq, Eq)]
 pub struct Short {

@@ -1,3 +1,5 @@
+//! Tests of sources, sinks and peers: cut, refused and failed reads and writes.
+
 ghost use Rattle.std.specs.Prelude.{◌≡◌, ◌⊎◌, ◌<◌, IfNone, IfSome, length, take};
 ghost use Rattle.std.specs.Io.KnownBytes.{Appends, IsAtEnd};
 ghost use Rattle.world_ports.specs.Causes.{Rose};

@@ -17,6 +17,7 @@ pub record StreamView : Type 0 where
 abbrev pub reading_view : Option (List ℕ) → ℕ → StreamView
 reading_view left faults = record { taken = None; left = left; written = None; read_faults = faults; write_faults = 0 }
 
+-- what an object tells that is only written
 abbrev pub writing_view : Option (List ℕ) → ℕ → StreamView
 writing_view written faults = record { taken = None; left = None; written = written; read_faults = 0; write_faults = faults }
 

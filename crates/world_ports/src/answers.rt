@@ -1,4 +1,5 @@
-// What the calls on a world are answered.
+//! The answers of a world's calls: readiness, connections, reads, writes and faults.
+
 ghost use Rattle.std.specs.Prelude.{◌≡◌};
 ghost use Rattle.world_ports.specs.declared.answers.WorldFault.TheVariants.{Memory};
 

@@ -1,4 +1,5 @@
-// The calls of a source or a sink in memory: which are to fail, and how many were made and failed.
+//! A count of the calls on a source or a sink in memory, some of which are made to fail.
+
 ghost use Rattle.std.specs.Prelude.{◌≡◌, ◌↔◌, ◌⊎◌, IsErr, IsTrue, is_err};
 ghost use Rattle.world_ports.specs.Causes.{HasCause};
 ghost use Rattle.world_ports.specs.Memory.{CallState, IsNextListed, after_call};

@@ -1,4 +1,5 @@
-// What a script lets happen in a world.
+//! The cues of a scripted world: what happens outside at a turn.
+
 use crate::Door;
 use plain_lists::Bytes;
 

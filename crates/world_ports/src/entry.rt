@@ -1,4 +1,5 @@
-// One call on a world, as its journal keeps it.
+//! The entry that a world's journal has of each call.
+
 use crate::{Accepted, Door, Got, Job, Moment, Polled, Ready, WorldFault, Wrote};
 use plain_lists::{Bytes, PlainList};
 use std::alloc::AllocError;

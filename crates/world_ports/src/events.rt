@@ -1,3 +1,5 @@
+//! The doors, jobs and moments that the calls on a world speak of.
+
 /// A listener: of the agent's clients, or of the child processes that it started.
 #[derive(Clone, Copy, Debug, PartialEq, Eq)]
 pub enum Door {

@@ -1,4 +1,5 @@
-// Files that are read whole.
+//! The trait of files that are read whole, up to a bound, and why a read fails.
+
 ghost use Rattle.std.specs.Prelude.{◌≡◌, ◌≤◌, IfOk, IfErr, MatchResult, length};
 ghost use Rattle.world_ports.specs.declared.files.FileFault.TheVariants.{Memory};
 

@@ -1,4 +1,5 @@
-// Lifetimes as words give them.
+//! Reads a lifetime such as `1h30m` into seconds, in the time format of sshd_config(5).
+
 ghost use Rattle.std.specs.Prelude.{◌≡◌, ◌∷◌, List, ℕ, MatchOption, None};
 ghost use Rattle.world_ports.specs.Life.{in_range, life_of, unit_of};
 ghost use Rattle.world_ports.specs.LifeParts.{sum_from};

@@ -1,4 +1,5 @@
-// Runs of programs in memory.
+//! A spawner for tests, which answers each run from a list and keeps what was run.
+
 ghost use Rattle.std.specs.Prelude.{◌≡◌, [], IfOk, Some};
 
 use crate::calls::Calls;

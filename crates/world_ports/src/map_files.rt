@@ -1,4 +1,5 @@
-// Files in memory.
+//! Files for tests, which are held in memory by their paths.
+
 ghost use Rattle.std.specs.Prelude.{◌≡◌, [], Some, map, option_map, string_bytes};
 ghost use Rattle.world_ports.specs.Files.{held_at};
 

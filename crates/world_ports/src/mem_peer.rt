@@ -1,4 +1,5 @@
-// A source and a sink in one object.
+//! A peer for tests, which is read from a slice and written to memory.
+
 ghost use Rattle.std.specs.Prelude.{◌≡◌, Some};
 ghost use Rattle.world_ports.specs.Memory.{source_view};
 

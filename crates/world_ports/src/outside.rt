@@ -1,4 +1,5 @@
-// What is there in a scripted world: connections, clocks and one-time tokens.
+//! What a scripted world has outside, as its cues change it and its calls find it.
+
 ghost use Rattle.std.specs.Prelude.{◌≡◌, ◌++◌, ◌+◌, ◌-◌, ◌^◌, ◌<◌, ◌≤◌, IfOk, length, min, take};
 ghost use Rattle.world_ports.specs.Script.{next_accepted, next_got, next_ticket, next_wrote, pipe_of, waiting_at};
 

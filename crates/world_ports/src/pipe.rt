@@ -1,4 +1,5 @@
-// The two directions of a connection in a scripted world.
+//! A connection of a scripted world: what its peer sent, and how much it still takes.
+
 ghost use Rattle.std.specs.Prelude.{◌≡◌, ◌++◌, ◌+◌, ◌-◌, ◌^◌, ◌<◌, ◌≤◌, OnOk, None, Some, [], false, true, length, min, take, drop, vec_len};
 ghost use Rattle.world_ports.specs.Script.{PipeState, added_room, next_got, next_wrote, room_after};
 

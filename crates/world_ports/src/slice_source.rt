@@ -1,4 +1,5 @@
-// A source over a slice.
+//! A source for tests, which gives a slice's bytes in pieces, and fails where it is told to.
+
 ghost use Rattle.std.specs.Prelude.{◌≡◌, ◌↔◌, ◌<◌, ◌≤◌, IsErr, IfOk, [], length, take, drop, is_err};
 ghost use Rattle.world_ports.specs.Causes.{HasCause};
 ghost use Rattle.world_ports.specs.Memory.{SourceState, IsNextListed, after_call, read_len, pulled_of, source_view};

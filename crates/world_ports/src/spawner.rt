@@ -1,4 +1,5 @@
-// Programs that are run to their end.
+//! The trait of running a program to its end, with what the run gives or why it failed.
+
 ghost use Rattle.std.specs.Prelude.{◌≡◌, MatchResult};
 ghost use Rattle.world_ports.specs.declared.spawner.SpawnFault.TheVariants.{Memory};
 

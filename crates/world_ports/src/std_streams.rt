@@ -1,4 +1,5 @@
-// std's readers and writers as a source and a sink.
+//! Sources and sinks over std's `Read` and `Write`, which count what fails.
+
 ghost use Rattle.std.specs.Prelude.{◌≡◌, ◌≢◌, ◌<◌, None, IfOk, IfErr, length, take, is_err};
 ghost use Rattle.std.specs.Io.{ReadsAtMost, WritesAtMost};
 ghost use Rattle.std.specs.Io.KnownBytes.{Appends, Keeps, ReadConsumes};

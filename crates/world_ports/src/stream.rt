@@ -1,4 +1,5 @@
-// Readers and writers as programs see them: what they tell of their bytes, and how often they fail.
+//! The traits of sources and sinks, with what a read brings.
+
 ghost use Rattle.std.specs.Prelude.{◌<◌, length};
 ghost use Rattle.world_ports.specs.Causes.{HasCause};
 ghost use Rattle.world_ports.specs.Streams.{StreamView, OnlyReads, OnlyWrites, Reads, Writes};

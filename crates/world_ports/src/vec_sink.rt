@@ -1,4 +1,5 @@
-// A sink that keeps what is written.
+//! A sink for tests, which keeps what is written, and fails where it is told to.
+
 ghost use Rattle.std.specs.Prelude.{◌≡◌, ◌↔◌, ◌⊎◌, ◌+◌, ◌-◌, ◌<◌, ◌≤◌, ◌^◌, IsErr, IfOk, [], length, min, vec_len, vec_capacity, is_err};
 ghost use Rattle.world_ports.specs.Causes.{HasCause};
 ghost use Rattle.world_ports.specs.Memory.{SinkState, IsNextListed, after_call, sink_view};

@@ -1,4 +1,5 @@
-// Writes of more than one piece.
+//! Writes all bytes to a sink, piece by piece, until one write fails.
+
 ghost use Rattle.std.specs.Io.KnownBytes.{Appends};
 ghost use Rattle.std.specs.Prelude.{OnErr, OnOk};
 ghost use Rattle.world_ports.specs.Causes.{HasCause};

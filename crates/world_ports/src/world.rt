@@ -1,4 +1,5 @@
-// The outside as the agent's loop sees it: listeners, connections, child processes and clocks.
+//! The trait of an agent's outside, with what each call adds to the journal.
+
 ghost use Rattle.std.specs.Prelude.{◌≡◌, ◌<◌, ◌-◌, ◌^◌, ⊤, ℕ, List, Option, length, is_err};
 ghost use Rattle.world_ports.specs.declared.entry.Entry.{Entry};
 ghost use Rattle.world_ports.specs.declared.entry.Entry.TheVariants as entry;

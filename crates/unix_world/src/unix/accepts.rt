@@ -1,4 +1,5 @@
-// Connections that are taken, and clients that leave.
+//! Takes clients' and child processes' connections, and lets clients go.
+
 ghost use Rattle.std.specs.Prelude.{◌≡◌, ◌<◌, ◌+◌, ◌^◌, ◌-◌, OnErr, IfOk, Ok};
 ghost use Rattle.world_ports.specs.Worlds.{NumbersPort};
 

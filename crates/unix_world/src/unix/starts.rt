@@ -1,4 +1,5 @@
-// Child processes: a new one, one that left, and those of which something is due.
+//! Starts child processes, notes those that leave, and does what is due of the others.
+
 ghost use Rattle.std.specs.Prelude.{◌≡◌};
 
 use crate::UnixWorld;

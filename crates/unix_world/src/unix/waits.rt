@@ -1,4 +1,5 @@
-// A wait: what epoll tells, and what is owed beside it.
+//! Waits in epoll for as long as may be, and tells what is ready and what is owed.
+
 ghost use Rattle.std.specs.Prelude.{◌≡◌};
 
 use crate::UnixWorld;
