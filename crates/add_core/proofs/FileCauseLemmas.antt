@@ -14,7 +14,8 @@ use Rattle.add_core.proofs.FileLemmas.{lent}
 use Rattle.add_core.proofs.TalkLemmas.{rose_earlier}
 
 -- a call failed behind others that didn't
-pub fails_earlier : (path : List ℕ) (f0 f1 f2 : FilesView) → f1.failed ≡ f0.failed → f0.faults ≤ f1.faults → FailsAt path f1 f2 → FailsAt path f0 f2
+pub fails_earlier : (path : List ℕ) (f0 f1 f2 : FilesView) → f1.failed ≡ f0.failed
+    → f0.faults ≤ f1.faults → FailsAt path f1 f2 → FailsAt path f0 f2
 fails_earlier path f0 f1 f2 same later fails = record {
   failed = subst (λ (failed : Option (List (List ℕ))). Grows failed f2.failed (path ∷ [])) same fails.failed;
   cause = rose_earlier f0.faults f1.faults f2.faults later fails.cause;
@@ -27,11 +28,13 @@ parted paths n d more =
     ap lent (sym (take-append-drop n paths) ∙ ap (λ (left : List (Bor (List ℕ))). take n paths ++ left) (drop_more paths n d more))
     ∙ map-append (λ (path : Bor (List ℕ)). path.now) (take n paths) (get_or paths n d ∷ drop (n + 1) paths)
 
-length_before : (paths : List (Bor (List ℕ))) (n : ℕ) → n < length paths → length (lent (take n paths)) ≡ n
+length_before : (paths : List (Bor (List ℕ))) (n : ℕ) → n < length paths
+    → length (lent (take n paths)) ≡ n
 length_before paths n more = length-map (take n paths) (λ (path : Bor (List ℕ)). path.now) ∙ length-take-le n paths (omega (arith, more))
 
 -- a call that failed behind others that didn't is the one at its place
-pub fails_among : (paths : List (Bor (List ℕ))) (n : ℕ) (d : Bor (List ℕ)) (place at : ℕ) (f0 f1 f2 : FilesView) → n < length paths → at ≡ n
+pub fails_among : (paths : List (Bor (List ℕ))) (n : ℕ) (d : Bor (List ℕ)) (place at : ℕ) (f0 f1 f2 : FilesView)
+    → n < length paths → at ≡ n
     → f1.failed ≡ f0.failed → f0.faults ≤ f1.faults → (place ≡ place_of at) × FailsAt (get_or paths n d).now f1 f2 → FailsAmong (lent paths) place f0 f2
 fails_among paths n d place at f0 f1 f2 more at_is same later fails = record {
   earlier = lent (take n paths);
@@ -43,7 +46,8 @@ fails_among paths n d place at f0 f1 f2 more at_is same later fails = record {
 }
 
 -- the same of files that were read behind others that didn't fail
-pub fails_among_later : (paths : List (List ℕ)) (place : ℕ) (f0 f1 f2 : FilesView) → f1.failed ≡ f0.failed → f0.faults ≤ f1.faults
+pub fails_among_later : (paths : List (List ℕ)) (place : ℕ) (f0 f1 f2 : FilesView)
+    → f1.failed ≡ f0.failed → f0.faults ≤ f1.faults
     → FailsAmong paths place f1 f2 → FailsAmong paths place f0 f2
 fails_among_later paths place f0 f1 f2 same later among = record {
   earlier = among.earlier;
@@ -55,7 +59,8 @@ fails_among_later paths place f0 f1 f2 same later among = record {
 }
 
 -- what a step stops with is what its call stopped with
-pub same_stop : {T : Type 0} (result : Result T Stop) (stop why : Stop) → IsErrAnd result (λ own. own ≡ stop) → result ≡ Err why → stop ≡ why
+pub same_stop : {T : Type 0} (result : Result T Stop) (stop why : Stop)
+    → IsErrAnd result (λ own. own ≡ stop) → result ≡ Err why → stop ≡ why
 same_stop (Ok value) stop why from is = absurd from
 same_stop (Err own) stop why from is = let own_is : own ≡ why = cc in sym from ∙ own_is
 

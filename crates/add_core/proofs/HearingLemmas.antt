@@ -12,7 +12,8 @@ use Rattle.add_core.specs.declared.fault.PeerStop.TheVariants.{BadReply}
 use Rattle.add_core.specs.Hearing.{answer_of, answer_at, Announces, TakesFirst, TakesReply}
 
 -- what is answered where this stands at the front
-by_front : (replies : List ℕ) (is : Front) → front longest_body replies ≡ is → answer_at replies ≡ answer_of is replies
+by_front : (replies : List ℕ) (is : Front) → front longest_body replies ≡ is
+    → answer_at replies ≡ answer_of is replies
 by_front replies is same = ap (λ (f : Front). answer_of f replies) same
 
 -- no length is there
@@ -20,7 +21,8 @@ pub no_length : (replies : List ℕ) → length replies < 4 → answer_at replie
 no_length replies short = by_front replies More (front-short longest_body replies short)
 
 -- the length in the four bytes is that of the front
-announced : (replies header : List ℕ) → 4 ≤ length replies → header ≡ take 4 replies → announced_len header ≡ announced_len replies
+announced : (replies header : List ℕ) → 4 ≤ length replies → header ≡ take 4 replies
+    → announced_len header ≡ announced_len replies
 announced replies header enough first = ap announced_len first ∙ announced_len-take replies enough
 
 -- a length that no reply has
@@ -34,7 +36,8 @@ bad_length replies header enough first (inr long) =
     by_front replies (Bad (announced_len replies)) (front-bad longest_body replies record { header = enough; refused = inr (omega (arith, same)) })
 
 -- the body isn't there
-pub no_body : (replies header : List ℕ) (count : ℕ) → 4 ≤ length replies → header ≡ take 4 replies → Announces header count
+pub no_body : (replies header : List ℕ) (count : ℕ) → 4 ≤ length replies → header ≡ take 4 replies
+    → Announces header count
     → length (drop 4 replies) < count → answer_at replies ≡ None
 no_body replies header count enough first announces short =
     let same = announced replies header enough first in
@@ -43,7 +46,8 @@ no_body replies header count enough first announces short =
     (omega (arith, same, length-drop 4 replies)))
 
 -- the body is there
-pub whole_reply : (replies header body : List ℕ) (count : ℕ) (now : StreamView) → 4 ≤ length replies → header ≡ take 4 replies
+pub whole_reply : (replies header body : List ℕ) (count : ℕ) (now : StreamView)
+    → 4 ≤ length replies → header ≡ take 4 replies
     → Announces header count → TakesFirst count (drop 4 replies) body now → TakesReply replies body now
 whole_reply replies header body count now enough first announces takes =
     let same = announced replies header enough first in

@@ -24,18 +24,21 @@ next_line listing before after start all identities n d more so_far is =
     ∙ ap (λ (l : List (Bor (List ℕ) × Bor (List ℕ))). before ++ lines_of listing (map lent l)) (sym (drop_more identities n d more)) ∙ so_far
 
 -- no identity is listed
-none_listed : (listing : Listing) (identities : List (Bor (List ℕ) × Bor (List ℕ))) (left : List ℕ) → length identities ≡ 0
+none_listed : (listing : Listing) (identities : List (Bor (List ℕ) × Bor (List ℕ))) (left : List ℕ)
+    → length identities ≡ 0
     → listed listing (map lent identities) left ≡ record { sent = []; told = none_line; left = []; fault = Some NoIdentities }
 none_listed listing [] left none = refl
 none_listed listing (identity ∷ identities) left none = absurd (omega (arith, none))
 
-some_listed : (listing : Listing) (identities : List (Bor (List ℕ) × Bor (List ℕ))) (left : List ℕ) → 0 < length identities
+some_listed : (listing : Listing) (identities : List (Bor (List ℕ) × Bor (List ℕ))) (left : List ℕ)
+    → 0 < length identities
     → listed listing (map lent identities) left ≡ telling (lines_of listing (map lent identities)) left
 some_listed listing [] left some = absurd (omega (arith, some))
 some_listed listing (identity ∷ identities) left some = refl
 
 -- that there is none was written
-pub none_told : (listing : Listing) (identities : List (Bor (List ℕ) × Bor (List ℕ))) (left : List ℕ) (p o0 o1 : StreamView) → length identities ≡ 0
+pub none_told : (listing : Listing) (identities : List (Bor (List ℕ) × Bor (List ℕ))) (left : List ℕ) (p o0 o1 : StreamView)
+    → length identities ≡ 0
     → Appends o0.written o1.written none_line → IsStopped NoIdentities (listed listing (map lent identities) left) p p o0 o1
 none_told listing identities left p o0 o1 none written =
     subst (λ (x : Step). IsStopped NoIdentities x p p o0 o1) (sym (none_listed listing identities left none)) record {
@@ -44,13 +47,15 @@ none_told listing identities left p o0 o1 none written =
     }
 
 -- or a front of it
-pub none_cut : (listing : Listing) (identities : List (Bor (List ℕ) × Bor (List ℕ))) (left : List ℕ) (p o0 o1 : StreamView) → length identities ≡ 0
+pub none_cut : (listing : Listing) (identities : List (Bor (List ℕ) × Bor (List ℕ))) (left : List ℕ) (p o0 o1 : StreamView)
+    → length identities ≡ 0
     → WritesPart none_line o0 o1 → IsCut (listed listing (map lent identities) left) p p o0 o1
 none_cut listing identities left p o0 o1 none part =
     subst (λ (x : Step). IsCut x p p o0 o1) (sym (none_listed listing identities left none)) record { sent = no_front [] p; told = part }
 
 -- a front of the lines was written
-pub lines_cut : (listing : Listing) (identities : List (Bor (List ℕ) × Bor (List ℕ))) (left text : List ℕ) (p o0 o1 : StreamView) → 0 < length identities
+pub lines_cut : (listing : Listing) (identities : List (Bor (List ℕ) × Bor (List ℕ))) (left text : List ℕ) (p o0 o1 : StreamView)
+    → 0 < length identities
     → text ≡ lines_of listing (map lent identities) → WritesPart text o0 o1 → IsCut (listed listing (map lent identities) left) p p o0 o1
 lines_cut listing identities left text p o0 o1 some is part =
     subst (λ (x : Step). IsCut x p p o0 o1) (ap (λ (t : List ℕ). telling t left) is ∙ sym (some_listed listing identities left some))

@@ -40,7 +40,8 @@ refuses_on (Fault why.BadReply) part whole on h = on why.BadReply h
 refuses_on (Fault why.NoIdentities) part whole on h = on why.NoIdentities h
 
 -- texts in front of others
-abbrev pub in_front : List (List ℕ) → Result (List (List ℕ)) AddFault → Result (List (List ℕ)) AddFault
+abbrev pub in_front : List (List ℕ) → Result (List (List ℕ)) AddFault
+    → Result (List (List ℕ)) AddFault
 in_front texts (Ok others) = Ok (texts ++ others)
 in_front texts (Err fault) = Err fault
 

@@ -22,7 +22,8 @@ pub no_front : (bytes : List ℕ) (seen : StreamView) → WritesPart bytes seen 
 no_front bytes seen = (bytes, record { front = []; whole = refl; written = Appends-nil seen.written })
 
 -- a front of what begins a text is one of the text
-longer : (bytes more : List ℕ) (old new : StreamView) → WritesPart bytes old new → WritesPart (bytes ++ more) old new
+longer : (bytes more : List ℕ) (old new : StreamView) → WritesPart bytes old new
+    → WritesPart (bytes ++ more) old new
 longer bytes more old new part = (
   part.0 ++ more,
   record {
@@ -33,7 +34,8 @@ longer bytes more old new part = (
 )
 
 -- a front of what follows a text, and the text before it
-pub later_front : (bytes more : List ℕ) (old mid new : StreamView) → Appends old.written mid.written bytes → WritesPart more mid new
+pub later_front : (bytes more : List ℕ) (old mid new : StreamView)
+    → Appends old.written mid.written bytes → WritesPart more mid new
     → WritesPart (bytes ++ more) old new
 later_front bytes more old mid new before part = (
   part.0,
@@ -56,7 +58,8 @@ by_fault : (step : Step) (later : List ℕ → Step) (fault : Option AddFault) �
 by_fault step later fault is = ap (λ (f : Option AddFault). followed_by f step (later step.left)) is
 
 -- what is cut in a step is cut in it and what follows
-cut_in_front : (step : Step) (later : List ℕ → Step) (p0 p1 s0 s1 : StreamView) (fault : Option AddFault) → step.fault ≡ fault
+cut_in_front : (step : Step) (later : List ℕ → Step) (p0 p1 s0 s1 : StreamView) (fault : Option AddFault)
+    → step.fault ≡ fault
     → IsCut step p0 p1 s0 s1 → IsCut (followed step later) p0 p1 s0 s1
 cut_in_front step later p0 p1 s0 s1 None is cut =
     subst (λ (x : Step). IsCut x p0 p1 s0 s1) (sym (by_fault step later None is)) record {
@@ -93,28 +96,32 @@ stops_in_front (Fault why.BadReply) step later p0 p1 s0 s1 h = stopped_in_front 
 stops_in_front (Fault why.NoIdentities) step later p0 p1 s0 s1 h = stopped_in_front why.NoIdentities step later p0 p1 s0 s1 h
 
 -- two steps that are made are one
-made_after : (step after : Step) (p0 p1 p2 s0 s1 s2 : StreamView) → IsMade step p0 p1 s0 s1 → IsMade after p1 p2 s1 s2
+made_after : (step after : Step) (p0 p1 p2 s0 s1 s2 : StreamView) → IsMade step p0 p1 s0 s1
+    → IsMade after p1 p2 s1 s2
     → IsMade (followed_by None step after) p0 p2 s0 s2
 made_after step after p0 p1 p2 s0 s1 s2 first second = record {
   sent = Appends-trans p0.written p1.written p2.written step.sent after.sent first.sent second.sent;
   told = Appends-trans s0.written s1.written s2.written step.told after.told first.told second.told;
 }
 
-cut_after : (step after : Step) (p0 p1 p2 s0 s1 s2 : StreamView) → IsMade step p0 p1 s0 s1 → IsCut after p1 p2 s1 s2
+cut_after : (step after : Step) (p0 p1 p2 s0 s1 s2 : StreamView) → IsMade step p0 p1 s0 s1
+    → IsCut after p1 p2 s1 s2
     → IsCut (followed_by None step after) p0 p2 s0 s2
 cut_after step after p0 p1 p2 s0 s1 s2 first second = record {
   sent = later_front step.sent after.sent p0 p1 p2 first.sent second.sent;
   told = later_front step.told after.told s0 s1 s2 first.told second.told;
 }
 
-stopped_after : (why_it : AddFault) (step after : Step) (p0 p1 p2 s0 s1 s2 : StreamView) → IsMade step p0 p1 s0 s1
+stopped_after : (why_it : AddFault) (step after : Step) (p0 p1 p2 s0 s1 s2 : StreamView)
+    → IsMade step p0 p1 s0 s1
     → IsStopped why_it after p1 p2 s1 s2 → IsStopped why_it (followed_by None step after) p0 p2 s0 s2
 stopped_after why_it step after p0 p1 p2 s0 s1 s2 first second = record {
   fault_is = second.fault_is;
   made = made_after step after p0 p1 p2 s0 s1 s2 first second.made;
 }
 
-stops_after : (stop : Stop) (step after : Step) (p0 p1 p2 s0 s1 s2 : StreamView) → IsMade step p0 p1 s0 s1
+stops_after : (stop : Stop) (step after : Step) (p0 p1 p2 s0 s1 s2 : StreamView)
+    → IsMade step p0 p1 s0 s1
     → Stops stop after p1 p2 s1 s2 → Stops stop (followed_by None step after) p0 p2 s0 s2
 stops_after Memory step after p0 p1 p2 s0 s1 s2 m h = cut_after step after p0 p1 p2 s0 s1 s2 m h
 stops_after (Fault (why.File place)) step after p0 p1 p2 s0 s1 s2 m h = cut_after step after p0 p1 p2 s0 s1 s2 m h
@@ -133,7 +140,8 @@ stops_after (Fault why.Refused) step after p0 p1 p2 s0 s1 s2 m h = stopped_after
 stops_after (Fault why.BadReply) step after p0 p1 p2 s0 s1 s2 m h = stopped_after why.BadReply step after p0 p1 p2 s0 s1 s2 m h
 stops_after (Fault why.NoIdentities) step after p0 p1 p2 s0 s1 s2 m h = stopped_after why.NoIdentities step after p0 p1 p2 s0 s1 s2 m h
 
-by_result : {T : Type 0} (result : Result T Stop) (step after : Step) (p0 p1 p2 s0 s1 s2 : StreamView) → IsMade step p0 p1 s0 s1
+by_result : {T : Type 0} (result : Result T Stop) (step after : Step) (p0 p1 p2 s0 s1 s2 : StreamView)
+    → IsMade step p0 p1 s0 s1
     → Follows result after p1 p2 s1 s2 → Follows result (followed_by None step after) p0 p2 s0 s2
 by_result (Ok value) step after p0 p1 p2 s0 s1 s2 m h = record {
   goes_on = h.goes_on;
@@ -188,7 +196,8 @@ judges_follows (Err (Fault why.NoIdentities)) verdict left p s known is = absurd
 -- ---- a request
 
 -- a frame that is sent, and the reply that was read
-pub asked_whole : (frame replies body : List ℕ) (p0 p1 p2 s : StreamView) → Appends p0.written p1.written frame → OnlyReads p1 p2
+pub asked_whole : (frame replies body : List ℕ) (p0 p1 p2 s : StreamView)
+    → Appends p0.written p1.written frame → OnlyReads p1 p2
     → TakesReply replies body p2 → IsWhole (asked frame replies) p0 p2 s s
 asked_whole frame replies body p0 p1 p2 s sent only takes =
     subst (λ (answer : Option (List ℕ × List ℕ)). IsWhole (answered frame answer) p0 p2 s s) (sym takes.answer) record {
@@ -201,7 +210,8 @@ asked_whole frame replies body p0 p1 p2 s sent only takes =
     }
 
 -- the reply that was read is the agent's next
-pub reply_is : (replies body : List ℕ) (now : StreamView) → TakesReply replies body now → reply_at replies ≡ reply_of body
+pub reply_is : (replies body : List ℕ) (now : StreamView) → TakesReply replies body now
+    → reply_at replies ≡ reply_of body
 reply_is replies body now takes = ap reply_in takes.answer
 
 -- what is made of the reply to a frame that was sent
@@ -214,7 +224,8 @@ asked_judged result frame replies body p0 p1 s whole is judges =
     (subst (λ (r : Result AgentReply ReplyFault). Judges result (verdict_of r)) (sym is) judges))
 
 -- a text that is written
-pub told_whole : (text left : List ℕ) (p s0 s1 : StreamView) → p.left ≡ Some left → Appends s0.written s1.written text
+pub told_whole : (text left : List ℕ) (p s0 s1 : StreamView) → p.left ≡ Some left
+    → Appends s0.written s1.written text
     → IsWhole (telling text left) p p s0 s1
 told_whole text left p s0 s1 known written = record {
   goes_on = refl;
@@ -223,13 +234,15 @@ told_whole text left p s0 s1 known written = record {
 }
 
 -- a front of a text that is written
-pub told_cut : (text left : List ℕ) (p s0 s1 : StreamView) → WritesPart text s0 s1 → IsCut (telling text left) p p s0 s1
+pub told_cut : (text left : List ℕ) (p s0 s1 : StreamView) → WritesPart text s0 s1
+    → IsCut (telling text left) p p s0 s1
 told_cut text left p s0 s1 part = record { sent = no_front [] p; told = part }
 
 -- ---- readings
 
 -- a fault that a reading ends with
-failed : {A : Type 0} (fault : AddFault) (defined : Result A AddFault) (step : A → Step) (p s : StreamView) → defined ≡ Err fault
+failed : {A : Type 0} (fault : AddFault) (defined : Result A AddFault) (step : A → Step) (p s : StreamView)
+    → defined ≡ Err fault
     → IsStopped fault (stepped defined step) p p s s
 failed fault defined step p s is =
     subst (λ (x : Step). IsStopped fault x p p s s) (ap (λ d. stepped d step) (sym is)) record {
@@ -274,7 +287,8 @@ joined-assoc a b c =
     ap (λ (l : List ℕ). record { sent = l; told = (a.told ++ b.told) ++ c.told; left = c.left; fault = c.fault }) (append_assoc a.sent b.sent c.sent)
     ∙ ap (λ (l : List ℕ). record { sent = a.sent ++ (b.sent ++ c.sent); told = l; left = c.left; fault = c.fault }) (append_assoc a.told b.told c.told)
 
-assoc_by : (a : Step) (f g : List ℕ → Step) (first second : Option AddFault) → a.fault ≡ first → (f a.left).fault ≡ second
+assoc_by : (a : Step) (f g : List ℕ → Step) (first second : Option AddFault) → a.fault ≡ first
+    → (f a.left).fault ≡ second
     → followed (followed a f) g ≡ followed a (λ left. followed (f left) g)
 assoc_by a f g (Some fault) second is is2 =
     ap (λ (x : Step). followed x g) (by_fault a f (Some fault) is) ∙ by_fault a g (Some fault) is
@@ -288,7 +302,8 @@ assoc_by a f g None None is is2 =
     ∙ ap (joined a) (sym (by_fault (f a.left) g None is2)) ∙ sym (by_fault a (λ left. followed (f left) g) None is)
 
 -- three in a row
-pub followed-assoc : (a : Step) (f g : List ℕ → Step) → followed (followed a f) g ≡ followed a (λ left. followed (f left) g)
+pub followed-assoc : (a : Step) (f g : List ℕ → Step)
+    → followed (followed a f) g ≡ followed a (λ left. followed (f left) g)
 followed-assoc a f g = assoc_by a f g a.fault (f a.left).fault refl refl
 
 -- nothing follows
@@ -300,7 +315,8 @@ followed-nothing a is =
     ∙ ap (λ (f : Option AddFault). record { sent = a.sent; told = a.told; left = a.left; fault = f }) (sym is)
 
 -- before the first step
-pub nothing_made : (left : List ℕ) (p s : StreamView) → p.left ≡ Some left → IsWhole (nothing left) p p s s
+pub nothing_made : (left : List ℕ) (p s : StreamView) → p.left ≡ Some left
+    → IsWhole (nothing left) p p s s
 nothing_made left p s known = record {
   goes_on = refl;
   made = record { sent = Appends-nil p.written; told = Appends-nil s.written };

@@ -24,13 +24,15 @@ rose_earlier before mid now low (inr full) = inr full
 -- ---- the last line
 
 -- a status that the code reads off an answer
-pub fault_is : (answer : Result (Unit {0}) Stop) (fault : AddFault) → ended answer ≡ Failed fault → answer ≡ Err (Fault fault)
+pub fault_is : (answer : Result (Unit {0}) Stop) (fault : AddFault) → ended answer ≡ Failed fault
+    → answer ≡ Err (Fault fault)
 fault_is (Ok value) fault is = absurd cc
 fault_is (Err Memory) fault is = absurd cc
 fault_is (Err (Fault other)) fault is = let same : other ≡ fault = cc in ap (λ (f : AddFault). Err (Fault f)) same
 
 -- lines that were written, and then the last one
-both_written : (lines last : List ℕ) (e0 m e1 : StreamView) → Appends e0.written m.written lines → e0.write_faults ≤ m.write_faults
+both_written : (lines last : List ℕ) (e0 m e1 : StreamView) → Appends e0.written m.written lines
+    → e0.write_faults ≤ m.write_faults
     → WritesAllOrFails last m e1 → WritesAllOrFails (lines ++ last) e0 e1
 both_written lines last e0 m e1 written later ends = record {
   part = later_front lines last e0 m e1 written ends.part;
@@ -41,7 +43,8 @@ both_written lines last e0 m e1 written later ends = record {
       ];
 }
 
-list_done : (status : AddStatus) (step : Step) (p0 p1 o0 o1 e0 m e1 : StreamView) → status ≡ status_of step.fault → IsMade step p0 p1 o0 o1 → m ≡ e0
+list_done : (status : AddStatus) (step : Step) (p0 p1 o0 o1 e0 m e1 : StreamView)
+    → status ≡ status_of step.fault → IsMade step p0 p1 o0 o1 → m ≡ e0
     → WritesAllOrFails (last_line status) m e1 → IsEnd status (told_by true step) p0 p1 o0 o1 e0 e1
 list_done status step p0 p1 o0 o1 e0 m e1 is made same ends = record {
   status_is = is;
@@ -52,7 +55,8 @@ list_done status step p0 p1 o0 o1 e0 m e1 is made same ends = record {
   };
 }
 
-lines_done : (status : AddStatus) (step : Step) (p0 p1 o0 o1 e0 m e1 : StreamView) → status ≡ status_of step.fault → IsMade step p0 p1 e0 m → o1 ≡ o0
+lines_done : (status : AddStatus) (step : Step) (p0 p1 o0 o1 e0 m e1 : StreamView)
+    → status ≡ status_of step.fault → IsMade step p0 p1 e0 m → o1 ≡ o0
     → e0.write_faults ≤ m.write_faults → WritesAllOrFails (last_line status) m e1 → IsEnd status (told_by false step) p0 p1 o0 o1 e0 e1
 lines_done status step p0 p1 o0 o1 e0 m e1 is made same later ends = record {
   status_is = is;
@@ -63,7 +67,8 @@ lines_done status step p0 p1 o0 o1 e0 m e1 is made same later ends = record {
   };
 }
 
-list_cut : (last : List ℕ) (step : Step) (p0 p1 o0 o1 e0 m e1 : StreamView) → IsCut step p0 p1 o0 o1 → m ≡ e0 → WritesAllOrFails last m e1
+list_cut : (last : List ℕ) (step : Step) (p0 p1 o0 o1 e0 m e1 : StreamView)
+    → IsCut step p0 p1 o0 o1 → m ≡ e0 → WritesAllOrFails last m e1
     → IsCutOff (told_by true step) last p0 p1 o0 o1 e0 e1
 list_cut last step p0 p1 o0 o1 e0 m e1 cut same ends = record {
   sent = cut.sent;
@@ -74,7 +79,8 @@ list_cut last step p0 p1 o0 o1 e0 m e1 cut same ends = record {
   errors = subst (λ (e : StreamView). WritesPart last e e1) same ends.part;
 }
 
-lines_cut : (last : List ℕ) (step : Step) (p0 p1 o0 o1 e0 m e1 : StreamView) → IsCut step p0 p1 e0 m → o1 ≡ o0 → WritesAllOrFails last m e1
+lines_cut : (last : List ℕ) (step : Step) (p0 p1 o0 o1 e0 m e1 : StreamView)
+    → IsCut step p0 p1 e0 m → o1 ≡ o0 → WritesAllOrFails last m e1
     → IsCutOff (told_by false step) last p0 p1 o0 o1 e0 e1
 lines_cut last step p0 p1 o0 o1 e0 m e1 cut same ends = record {
   sent = cut.sent;
@@ -87,10 +93,12 @@ lines_cut last step p0 p1 o0 o1 e0 m e1 cut same ends = record {
 
 -- ---- all of it
 
-fault_status : (fault : AddFault) (step : Step) → step.fault ≡ Some fault → Failed fault ≡ status_of step.fault
+fault_status : (fault : AddFault) (step : Step) → step.fault ≡ Some fault
+    → Failed fault ≡ status_of step.fault
 fault_status fault step is = ap status_of (sym is)
 
-list_ends : (answer : Result (Unit {0}) Stop) (step : Step) (p0 p1 o0 o1 e0 m e1 : StreamView) → Runs true answer step p0 p1 o0 o1 e0 m
+list_ends : (answer : Result (Unit {0}) Stop) (step : Step) (p0 p1 o0 o1 e0 m e1 : StreamView)
+    → Runs true answer step p0 p1 o0 o1 e0 m
     → WritesAllOrFails (last_line (ended answer)) m e1 → Ends (ended answer) (told_by true step) p0 p1 o0 o1 e0 e1
 list_ends (Ok value) step p0 p1 o0 o1 e0 m e1 runs ends =
     list_done Done step p0 p1 o0 o1 e0 m e1 (ap status_of (sym runs.0.goes_on)) runs.0.made runs.1 ends
@@ -126,7 +134,8 @@ list_ends (Err (Fault why.BadReply)) step p0 p1 o0 o1 e0 m e1 runs ends =
 list_ends (Err (Fault why.NoIdentities)) step p0 p1 o0 o1 e0 m e1 runs ends =
     list_done (Failed why.NoIdentities) step p0 p1 o0 o1 e0 m e1 (fault_status why.NoIdentities step runs.0.fault_is) runs.0.made runs.1 ends
 
-lines_ends : (answer : Result (Unit {0}) Stop) (step : Step) (p0 p1 o0 o1 e0 m e1 : StreamView) → Runs false answer step p0 p1 o0 o1 e0 m
+lines_ends : (answer : Result (Unit {0}) Stop) (step : Step) (p0 p1 o0 o1 e0 m e1 : StreamView)
+    → Runs false answer step p0 p1 o0 o1 e0 m
     → e0.write_faults ≤ m.write_faults → WritesAllOrFails (last_line (ended answer)) m e1
     → Ends (ended answer) (told_by false step) p0 p1 o0 o1 e0 e1
 lines_ends (Ok value) step p0 p1 o0 o1 e0 m e1 runs later ends =

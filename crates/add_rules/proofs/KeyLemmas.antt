@@ -25,13 +25,15 @@ use Rattle.add_rules.specs.Rules.{keys_of}
 -- ---- a key
 
 -- a blob that was read as a key of the type
-of_type_readable : (type made blob : List ℕ) (read : Result KeyParts KeyFault) → public_key_of made ≡ read → of_type type made read ≡ Ok blob → IsOk (public_key_of blob)
+of_type_readable : (type made blob : List ℕ) (read : Result KeyParts KeyFault)
+    → public_key_of made ≡ read → of_type type made read ≡ Ok blob → IsOk (public_key_of blob)
 of_type_readable type made blob (Ok key) is e =
     let same : made ≡ blob = (guard_ok (bytes_eq key.type_name type) OtherType made blob e).1 in
     subst (λ (b : List ℕ). IsOk (public_key_of b)) same (ap is_ok is)
 of_type_readable type made blob (Err fault) is e = absurd cc
 
-typed_readable : (type text blob : List ℕ) → typed_key type text ≡ Ok blob → IsOk (public_key_of blob)
+typed_readable : (type text blob : List ℕ) → typed_key type text ≡ Ok blob
+    → IsOk (public_key_of blob)
 unfolding typed_key
 typed_readable type text blob e =
     let a = line_bind_ok (ok_or (bytes_of text) Base64) (λ made. of_type type made (public_key_of made)) blob e in
@@ -39,7 +41,8 @@ typed_readable type text blob e =
 
 -- ---- a line
 
-entry_readable : (entry : Entry) (key : KeySpec) (read : Result (List ℕ) PubFault) → typed_key entry.type_name entry.encoded ≡ read
+entry_readable : (entry : Entry) (key : KeySpec) (read : Result (List ℕ) PubFault)
+    → typed_key entry.type_name entry.encoded ≡ read
     → option_map (λ (blob : List ℕ). record { blob = blob; authority = entry.authority }) (result_ok read) ≡ Some key → IsReadable key
 entry_readable entry key (Ok blob) is e =
     let made : KeySpec = record { blob = blob; authority = entry.authority } in
@@ -47,23 +50,27 @@ entry_readable entry key (Ok blob) is e =
     subst IsReadable same (typed_readable entry.type_name entry.encoded blob is)
 entry_readable entry key (Err fault) is e = absurd cc
 
-some_guard : (b : Bool) (made : Option KeySpec) (key : KeySpec) → cond b made None ≡ Some key → made ≡ Some key
+some_guard : (b : Bool) (made : Option KeySpec) (key : KeySpec) → cond b made None ≡ Some key
+    → made ≡ Some key
 some_guard true made key e = e
 some_guard false made key e = absurd cc
 
-key_readable : (host : List ℕ) (found : Option Entry) (key : KeySpec) → key_for host found ≡ Some key → IsReadable key
+key_readable : (host : List ℕ) (found : Option Entry) (key : KeySpec)
+    → key_for host found ≡ Some key → IsReadable key
 key_readable host None key e = absurd cc
 key_readable host (Some entry) key e =
     let g = some_guard (takes_in entry.hosts host) (entry_key entry) key e in
     entry_readable entry key (typed_key entry.type_name entry.encoded) refl g
 
-line_readable : (host line : List ℕ) (key : KeySpec) → line_key host line ≡ Some key → IsReadable key
+line_readable : (host line : List ℕ) (key : KeySpec) → line_key host line ≡ Some key
+    → IsReadable key
 unfolding line_key
 line_readable host line key e = key_readable host (entry_in line) key e
 
 -- ---- files
 
-onto_readable : (found : Option KeySpec) (keys : List KeySpec) → ((key : KeySpec) → found ≡ Some key → IsReadable key) → All IsReadable keys
+onto_readable : (found : Option KeySpec) (keys : List KeySpec)
+    → ((key : KeySpec) → found ≡ Some key → IsReadable key) → All IsReadable keys
     → All IsReadable (cons_option found keys)
 onto_readable None keys one others = others
 onto_readable (Some key) keys one others = All-cons IsReadable key keys (one key refl) others

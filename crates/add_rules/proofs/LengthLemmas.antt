@@ -32,7 +32,8 @@ abbrev pub key_bytes : KeySpec → List ℕ
 key_bytes key = key_text (spelt_key key)
 
 -- a hop
-pub length-hop : (hop : Hop) → length (hop_text (spelt_hop hop)) ≡ length hop.user + length hop.host + length (flat_map key_bytes hop.keys) + 12
+pub length-hop : (hop : Hop)
+    → length (hop_text (spelt_hop hop)) ≡ length hop.user + length hop.host + length (flat_map key_bytes hop.keys) + 12
 length-hop hop =
     let keys : List ℕ = flat_map key_text (map spelt_key hop.keys) in
     omega (
@@ -66,7 +67,8 @@ abbrev pub rule_bytes : Constraint → List ℕ
 rule_bytes rule = string (constraint_text (spelt_constraint rule))
 
 -- all constraints, where so many are all
-pub list_of : (rules : List Constraint) (n : ℕ) → length rules ≤ n → flat_map rule_bytes (take n rules) ≡ list_text (map spelt_constraint rules)
+pub list_of : (rules : List Constraint) (n : ℕ) → length rules ≤ n
+    → flat_map rule_bytes (take n rules) ≡ list_text (map spelt_constraint rules)
 list_of rules n all =
     ap (flat_map rule_bytes) (take_all n rules all) ∙ sym (flat_map-map (λ rule. string (constraint_text rule)) spelt_constraint rules)
 
@@ -89,7 +91,8 @@ length-rules rule rules =
       length-name,
     )
 
-pub some_rules : (rules : List Constraint) → 0 < length rules → length (flat_map item_text (rule_items rules)) ≡ length (list_text (map spelt_constraint rules)) + 45
+pub some_rules : (rules : List Constraint) → 0 < length rules
+    → length (flat_map item_text (rule_items rules)) ≡ length (list_text (map spelt_constraint rules)) + 45
 some_rules [] some = absurd (omega (arith, some))
 some_rules (rule ∷ rules) some = length-rules rule rules
 
@@ -129,10 +132,12 @@ length-constraints terms =
       length-append uses rules,
     )
 
-list_within : (rules : List Constraint) → length (list_text (map spelt_constraint rules)) ≤ length (flat_map item_text (rule_items rules))
+list_within : (rules : List Constraint)
+    → length (list_text (map spelt_constraint rules)) ≤ length (flat_map item_text (rule_items rules))
 list_within [] = omega arith
 list_within (rule ∷ rules) = omega (arith, length-rules rule rules)
 
 -- constraints that aren't too long can be written
-pub short_writable : (terms : Terms) → MeetsRules terms → length (constraints_bytes terms) < 2 ^ 32 → IsWritable terms
+pub short_writable : (terms : Terms) → MeetsRules terms → length (constraints_bytes terms) < 2 ^ 32
+    → IsWritable terms
 short_writable terms meets short = record { uses = meets.uses; rules = meets.rules; short = omega (arith, list_within terms.rules, length-constraints terms) }

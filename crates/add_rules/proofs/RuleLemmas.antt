@@ -38,17 +38,20 @@ record IsHopTo (user host : List ℕ) (hop : Hop) : Type 0 where
   some : hop.keys ≢ []
   readable : All IsReadable hop.keys
 
-made_with : (user host : List ℕ) (keys : List KeySpec) (hop : Hop) → All IsReadable keys → hop_with user host keys ≡ Ok hop → IsHopTo user host hop
+made_with : (user host : List ℕ) (keys : List KeySpec) (hop : Hop) → All IsReadable keys
+    → hop_with user host keys ≡ Ok hop → IsHopTo user host hop
 made_with user host [] hop good e = absurd cc
 made_with user host (key ∷ keys) hop good e =
     let made : Hop = record { user = user; host = host; keys = key ∷ keys } in
     let same : made ≡ hop = cc in
     subst (IsHopTo user host) same record { user_is = refl; host_is = refl; some = λ none. absurd cc; readable = good }
 
-made_to : (files : List (List ℕ)) (user host : List ℕ) (hop : Hop) → hop_to files user host ≡ Ok hop → IsHopTo user host hop
+made_to : (files : List (List ℕ)) (user host : List ℕ) (hop : Hop)
+    → hop_to files user host ≡ Ok hop → IsHopTo user host hop
 made_to files user host hop e = made_with user host (keys_of files host) hop (keys_readable files host) e
 
-from_is : (files : List (List ℕ)) (source : Option (List ℕ)) (hop : Hop) → is_empty_text source ≡ false → hop_from files source ≡ Ok hop → IsFromHop hop
+from_is : (files : List (List ℕ)) (source : Option (List ℕ)) (hop : Hop)
+    → is_empty_text source ≡ false → hop_from files source ≡ Ok hop → IsFromHop hop
 from_is files None hop some e =
     let same : own_host ≡ hop = cc in
     subst IsFromHop same record { no_user = refl; both = (λ none. refl, λ none. refl); readable = All-nil IsReadable }
@@ -60,14 +63,16 @@ from_is files (Some source) hop some e =
       readable = made.readable;
     }
 
-to_is : (files : List (List ℕ)) (user host : List ℕ) (hop : Hop) → has_no_byte host ≡ false → hop_to files user host ≡ Ok hop → IsToHop hop
+to_is : (files : List (List ℕ)) (user host : List ℕ) (hop : Hop) → has_no_byte host ≡ false
+    → hop_to files user host ≡ Ok hop → IsToHop hop
 to_is files user host hop some e =
     let made = made_to files user host hop e in
     record { named = λ none. some_byte host some (sym made.host_is ∙ none); some = made.some; readable = made.readable }
 
 -- ---- constraints
 
-between_is : (from to : Result Hop DestFault) (rule : Constraint) → between from to ≡ Ok rule → (from ≡ Ok rule.from) × (to ≡ Ok rule.to)
+between_is : (from to : Result Hop DestFault) (rule : Constraint) → between from to ≡ Ok rule
+    → (from ≡ Ok rule.from) × (to ≡ Ok rule.to)
 between_is (Err fault) to rule e = absurd cc
 between_is (Ok from) (Err fault) rule e = absurd cc
 between_is (Ok from) (Ok to) rule e =
@@ -75,7 +80,8 @@ between_is (Ok from) (Ok to) rule e =
     let same : made ≡ rule = cc in
     (ap (λ (r : Constraint). Ok r.from) same, ap (λ (r : Constraint). Ok r.to) same)
 
-rule_by : (files : List (List ℕ)) (typed : Destination) (fault : Option DestFault) (rule : Constraint) → first_fault typed ≡ fault
+rule_by : (files : List (List ℕ)) (typed : Destination) (fault : Option DestFault) (rule : Constraint)
+    → first_fault typed ≡ fault
     → rule_unless fault files typed ≡ Ok rule → IsDestination rule
 rule_by files typed (Some fault) rule is e = absurd cc
 rule_by files typed None rule is e =
@@ -87,14 +93,16 @@ rule_by files typed None rule is e =
     }
 
 -- a constraint that is made can be written
-pub rule_is : (files : List (List ℕ)) (word : List ℕ) (rule : Constraint) → rule_of files word ≡ Ok rule → IsDestination rule
+pub rule_is : (files : List (List ℕ)) (word : List ℕ) (rule : Constraint)
+    → rule_of files word ≡ Ok rule → IsDestination rule
 unfolding rule_of
 rule_is files word rule e = rule_by files (destination_of word) (first_fault (destination_of word)) rule refl e
 
 -- ---- one after another
 
 -- constraints in front of others
-abbrev pub behind : List Constraint → Result (List Constraint) DestFault → Result (List Constraint) DestFault
+abbrev pub behind : List Constraint → Result (List Constraint) DestFault
+    → Result (List Constraint) DestFault
 behind made (Ok rules) = Ok (made ++ rules)
 behind made (Err fault) = Err fault
 

@@ -49,7 +49,8 @@ module _ (run : Run) (left : List ℕ) (place : ℕ) (at : IsLineEnd left place)
   -- what was noted of it
   module _ (N : Type 0) (notes_of : Told → List N) (before after : List N) (noted : after ≡ before ++ flat_map notes_of says) where
     -- one that isn't refused
-    pub line_notes : IsCounted run → is_some new.refused ≡ false → Notes N notes_of (Some (place + 1)) run left new before after
+    pub line_notes : IsCounted run → is_some new.refused ≡ false
+        → Notes N notes_of (Some (place + 1)) run left new before after
     line_notes counted none = record {
       told = says;
       turns = record {
@@ -62,7 +63,8 @@ module _ (run : Run) (left : List ℕ) (place : ℕ) (at : IsLineEnd left place)
     }
 
     -- one that is refused
-    pub line_ends : (found : Option LineFault) → new.refused ≡ found → is_some found ≡ true → Notes N notes_of None run left new before after
+    pub line_ends : (found : Option LineFault) → new.refused ≡ found → is_some found ≡ true
+        → Notes N notes_of None run left new before after
     line_ends None is some = absurd (cc)
     line_ends (Some fault) is some = record {
       told = says;
@@ -85,7 +87,8 @@ last_notes N notes_of run part new before after none run_is noted = record {
 
 -- ---- what is printed
 
-pub printed-next : (run : Run) (left : List ℕ) (new : Run) (size : ℕ) (told : List Told) → TurnsOn run left new size told
+pub printed-next : (run : Run) (left : List ℕ) (new : Run) (size : ℕ) (told : List Told)
+    → TurnsOn run left new size told
     → printed true run (parts_of left) ≡ flat_map text_of told ++ printed true new (parts_of (drop size left))
 unfolding printed
 printed-next run left new size told turns =
@@ -107,7 +110,8 @@ pub record NotesOn (run : Run) (left : List ℕ) (new : Run) (size : ℕ) (puts 
   pub puts_are : puts_from run (parts_of left) ≡ puts ++ puts_from new (parts_of (drop size left))
   pub counted : IsCounted new
 
-pub notes_on : (run : Run) (left : List ℕ) (new : Run) (size : ℕ) (before puts : List Put) → Notes Put puts_in (Some size) run left new before puts
+pub notes_on : (run : Run) (left : List ℕ) (new : Run) (size : ℕ) (before puts : List Put)
+    → Notes Put puts_in (Some size) run left new before puts
     → before ≡ [] → NotesOn run left new size puts
 unfolding puts_from
 notes_on run left new size before puts notes nothing = record {
@@ -122,7 +126,8 @@ notes_on run left new size before puts notes nothing = record {
 }
 
 -- or it was the last one
-pub notes_end : (run : Run) (left : List ℕ) (new : Run) (before puts : List Put) → Notes Put puts_in None run left new before puts
+pub notes_end : (run : Run) (left : List ℕ) (new : Run) (before puts : List Put)
+    → Notes Put puts_in None run left new before puts
     → before ≡ [] → puts_from run (parts_of left) ≡ puts
 unfolding puts_from
 notes_end run left new before puts notes nothing =

@@ -46,12 +46,16 @@ same_end run left new before mid text deeds old next all notes empty text_is sam
     ∙ so_far
 
 -- what was found is what the verdict says
-finding_is : (refused : Option LineFault) (found : Option ℕ) (line : ℕ) (puts : List Put) → finding_by refused found line ≡ finding_of (verdict_by refused found line puts)
+finding_is : (refused : Option LineFault) (found : Option ℕ) (line : ℕ) (puts : List Put)
+    → finding_by refused found line ≡ finding_of (verdict_by refused found line puts)
 finding_is (Some fault) found line puts = refl
 finding_is None (Some difference) line puts = refl
 finding_is None None line puts = refl
 
-pub found_is : (life : Option ℕ) (text deeds : List ℕ) (run : Run) (found : Option ℕ) (result : Finding) → result ≡ finding_by run.refused found run.line → found ≡ first_difference (output_of life text) deeds → run ≡ run_of life text → result ≡ finding_of (verdict_of life text deeds)
+pub found_is : (life : Option ℕ) (text deeds : List ℕ) (run : Run) (found : Option ℕ) (result : Finding)
+    → result ≡ finding_by run.refused found run.line
+    → found ≡ first_difference (output_of life text) deeds → run ≡ run_of life text
+    → result ≡ finding_of (verdict_of life text deeds)
 found_is life text deeds run found result is difference_is run_is =
     is
     ∙ ap (λ (r : Run). finding_by r.refused found r.line) run_is

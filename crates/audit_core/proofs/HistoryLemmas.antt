@@ -15,12 +15,15 @@ use Rattle.audit_core.specs.Puts.{Signed, puts, puts_by, puts_from, puts_in, sig
 
 -- ---- what is put
 
-signed-actions : (line : ℕ) (actions : List Action) → map without_line (puts_by line actions) ≡ filter_map signed_by actions
+signed-actions : (line : ℕ) (actions : List Action)
+    → map without_line (puts_by line actions) ≡ filter_map signed_by actions
 signed-actions line [] = refl
 signed-actions line (Requested requesting ∷ later) = signed-actions line later
 signed-actions line (Asked asking ∷ later) = by_purpose asking.purpose refl (signed-actions line later)
   where
-    by_purpose : (purpose : Purpose) → asking.purpose ≡ purpose → map without_line (puts_by line later) ≡ filter_map signed_by later → map without_line (puts_by line (Asked asking ∷ later)) ≡ filter_map signed_by (Asked asking ∷ later)
+    by_purpose : (purpose : Purpose) → asking.purpose ≡ purpose
+        → map without_line (puts_by line later) ≡ filter_map signed_by later
+        → map without_line (puts_by line (Asked asking ∷ later)) ≡ filter_map signed_by (Asked asking ∷ later)
     by_purpose (ForSignature signing) is rest = rw is (ap (λ l. record { ask = asking.ask; port = asking.port; blob = signing.blob } ∷ l) rest)
     by_purpose (ForBinding binding) is rest = rw is rest
 signed-actions line (Answered one ∷ later) = signed-actions line later
@@ -39,7 +42,8 @@ signed-stamped moment (action ∷ later) = by_found (signed_by action) refl (sig
     by_found (Some one) is rest = rw is (ap (λ l. one ∷ l) rest)
 
 -- what is told of events puts what their history has
-signed-told : (state : State) (told : List Told) (end : State) → IsCourse state told end → map without_line (flat_map puts_in told) ≡ signed_in (history state (events_in told))
+signed-told : (state : State) (told : List Told) (end : State) → IsCourse state told end
+    → map without_line (flat_map puts_in told) ≡ signed_in (history state (events_in told))
 signed-told state [] end is = refl
 signed-told state (Came line before timed ∷ later) end is =
     let outcome = step before timed.moment timed.event in
@@ -50,7 +54,8 @@ signed-told state (Came line before timed ∷ later) end is =
     ∙ sym (ap (λ (s : State). signed_in (history s (timed ∷ events_in later))) is.0)
 signed-told state (Barred line fault ∷ later) end is = signed-told state later end is
 
-pub all_signed : (life : Option ℕ) (text : List ℕ) → map without_line (puts life text) ≡ signed_in (history (first_state (settings_of life text)) (events_of life text))
+pub all_signed : (life : Option ℕ) (text : List ℕ)
+    → map without_line (puts life text) ≡ signed_in (history (first_state (settings_of life text)) (events_of life text))
 unfolding puts_from
 all_signed life text =
     signed-told (first_state (settings_of life text)) (course true (start_run life) (parts_of text)).told (run_of life text).agent (schedule-course life text)

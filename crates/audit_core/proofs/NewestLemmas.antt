@@ -44,24 +44,29 @@ module _ (line : ℕ) where
   PutsNewest before actions link = puts_by line actions ≡ put_since line before link
 
   -- where the number stays, nothing was put
-  puts-none : (before : ℕ) (actions : List Action) (link : HelperLink) → puts_by line actions ≡ [] → link.last ≡ before → PutsNewest before actions link
+  puts-none : (before : ℕ) (actions : List Action) (link : HelperLink) → puts_by line actions ≡ []
+      → link.last ≡ before → PutsNewest before actions link
   puts-none before actions link none same =
       let is : (before == link.last) ≡ true = grind (arith, nat_tests, same) in
       none ∙ sym (ap (λ test. cond test [] (put_if line (newest link.asks))) is)
 
   -- where it rose, one ask
-  puts-one : (before : ℕ) (actions : List Action) (link : HelperLink) (asks : List Ask) (one : Ask) → link.asks ≡ asks ++ one ∷ [] → link.last ≡ before + 1 → puts_by line actions ≡ put_if line (Some one) → PutsNewest before actions link
+  puts-one : (before : ℕ) (actions : List Action) (link : HelperLink) (asks : List Ask) (one : Ask)
+      → link.asks ≡ asks ++ one ∷ [] → link.last ≡ before + 1
+      → puts_by line actions ≡ put_if line (Some one) → PutsNewest before actions link
   puts-one before actions link asks one more next puts =
       let isnt : (before == link.last) ≡ false = grind (arith, nat_tests, next) in
       puts ∙ ap (put_if line) (sym (ap newest more ∙ newest-push asks one))
       ∙ sym (ap (λ test. cond test [] (put_if line (newest link.asks))) isnt)
 
-  puts-asked : (errand : Errand) (asker : ℕ) (under_way : UnderWay) → PutsNewest under_way.link.last (Asked (asking_of errand asker (under_way.link.last + 1)) ∷ []) (with_ask errand asker under_way).link
+  puts-asked : (errand : Errand) (asker : ℕ) (under_way : UnderWay)
+      → PutsNewest under_way.link.last (Asked (asking_of errand asker (under_way.link.last + 1)) ∷ []) (with_ask errand asker under_way).link
   puts-asked errand asker under_way =
       puts-one under_way.link.last (Asked (asking_of errand asker (under_way.link.last + 1)) ∷ []) (with_ask errand asker under_way).link under_way.link.asks
       (ask_of (under_way.link.last + 1) asker (kind_of errand) (blob_of errand) under_way.second) refl refl (by_errand errand)
     where
-      by_errand : (e : Errand) → puts_by line (Asked (asking_of e asker (under_way.link.last + 1)) ∷ []) ≡ put_if line (Some (ask_of (under_way.link.last + 1) asker (kind_of e) (blob_of e) under_way.second))
+      by_errand : (e : Errand)
+          → puts_by line (Asked (asking_of e asker (under_way.link.last + 1)) ∷ []) ≡ put_if line (Some (ask_of (under_way.link.last + 1) asker (kind_of e) (blob_of e) under_way.second))
       by_errand (Signs key signing) = refl
       by_errand (Verifies bind is_new) = refl
 
@@ -84,29 +89,36 @@ module _ (line : ℕ) where
 
   -- ---- what an event makes
 
-  lost-last : (fault : Option LinkFault) (state : State) → (lose_if fault state).state.under_way.link.last ≡ state.under_way.link.last
+  lost-last : (fault : Option LinkFault) (state : State)
+      → (lose_if fault state).state.under_way.link.last ≡ state.under_way.link.last
   lost-last None state = refl
   lost-last (Some fault) state = refl
 
-  quiet-last : {event : Happening} {old mid : State} → Quiet event old mid → mid.under_way.link.last ≡ old.under_way.link.last
+  quiet-last : {event : Happening} {old mid : State} → Quiet event old mid
+      → mid.under_way.link.last ≡ old.under_way.link.last
   quiet-last (alters number f change) = refl
   quiet-last (closes number may) = refl
   quiet-last (goes_on new goes) = (same_asks goes).last
   quiet-last (names job number new) = refl
   quiet-last (links job number new) = refl
 
-  served : {asker : Asker} {held : KeyState} {under_way : UnderWay} {brought : Served} → IsServed asker held under_way brought → PutsNewest under_way.link.last brought.work.actions brought.work.under_way.link
+  served : {asker : Asker} {held : KeyState} {under_way : UnderWay} {brought : Served}
+      → IsServed asker held under_way brought
+      → PutsNewest under_way.link.last brought.work.actions brought.work.under_way.link
   served {under_way = under_way} (answered reply kept same) = puts-none under_way.link.last [] under_way.link refl refl
   served {under_way = under_way} (refused cause) = puts-none under_way.link.last [] under_way.link refl refl
   served {asker = asker} {under_way = under_way} (asked errand free may) = puts-asked errand asker.port under_way
   served {asker = asker} {under_way = under_way} (raised key signing free) = puts-none under_way.link.last (raise_unless None key signing asker.port under_way).actions under_way.link refl refl
 
-  granted : {chain : List Binding} {one : Confirmation} {wall : ℕ} {held : KeyState} {under_way : UnderWay} {work : Work} → IsGranted chain one wall held under_way work → PutsNewest under_way.link.last work.actions work.under_way.link
+  granted : {chain : List Binding} {one : Confirmation} {wall : ℕ} {held : KeyState} {under_way : UnderWay} {work : Work}
+      → IsGranted chain one wall held under_way work
+      → PutsNewest under_way.link.last work.actions work.under_way.link
   granted {under_way = under_way} (disallowed never) = puts-none under_way.link.last [] under_way.link refl refl
   granted {under_way = under_way} (unasked cause key may fault) = puts-none under_way.link.last [] under_way.link refl refl
   granted {one = one} {under_way = under_way} (allowed key may free) = puts-asked (Signs key (signing_of key one)) one.asker under_way
 
-  makes-newest : {event : Happening} {old : State} {outcome : Outcome} → Makes event old outcome → PutsNewest old.under_way.link.last outcome.actions outcome.state.under_way.link
+  makes-newest : {event : Happening} {old : State} {outcome : Outcome} → Makes event old outcome
+      → PutsNewest old.under_way.link.last outcome.actions outcome.state.under_way.link
   makes-newest (stays state) = puts-none state.under_way.link.last [] state.under_way.link refl refl
   makes-newest (first {outcome = outcome} quiet rest) =
       makes-newest rest ∙ ap (λ last. put_since line last outcome.state.under_way.link) (quiet-last quiet)
@@ -123,10 +135,12 @@ module _ (line : ℕ) where
 
 -- ---- a step
 
-last-moment : (moment : Moment) (state : State) → (at_moment moment state).under_way.link.last ≡ state.under_way.link.last
+last-moment : (moment : Moment) (state : State)
+    → (at_moment moment state).under_way.link.last ≡ state.under_way.link.last
 last-moment moment state = at_moment-keeps (λ s. s.under_way.link.last ≡ state.under_way.link.last) moment state (λ s same. same) (λ one s there same. same) refl
 
-pub newest-step : (state : State) (moment : Moment) (event : Happening) → PutsItsNewest state moment event
+pub newest-step : (state : State) (moment : Moment) (event : Happening)
+    → PutsItsNewest state moment event
 newest-step state moment event line =
     let opened = at_moment moment state in
     let later = handle event opened in
@@ -138,7 +152,10 @@ newest-step state moment event line =
 
 -- ---- what is noted
 
-pub noted : (line : ℕ) (state : State) (moment : Moment) (event : Happening) (later : Stepped) (result : Result (Unit {0}) AllocError) (before : ℕ) (old new : List Put) → later ≡ stepped (step state moment event) → before ≡ state.under_way.link.last → OnOk result (new ≡ old ++ put_since line before later.state.under_way.link) → OnOk result (new ≡ old ++ puts_by line (step state moment event).actions)
+pub noted : (line : ℕ) (state : State) (moment : Moment) (event : Happening) (later : Stepped) (result : Result (Unit {0}) AllocError) (before : ℕ) (old new : List Put)
+    → later ≡ stepped (step state moment event) → before ≡ state.under_way.link.last
+    → OnOk result (new ≡ old ++ put_since line before later.state.under_way.link)
+    → OnOk result (new ≡ old ++ puts_by line (step state moment event).actions)
 noted line state moment event later (Ok done) before old new later_is before_is is =
     is
     ∙ ap (λ n. old ++ put_since line n later.state.under_way.link) before_is

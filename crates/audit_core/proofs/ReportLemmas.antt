@@ -31,7 +31,10 @@ same_texts line [] (byte ∷ bytes) none = absurd cc
 same_texts line (byte ∷ bytes) [] none = absurd cc
 same_texts line (byte ∷ bytes) (other ∷ others) none = by_test (byte == other) refl (λ l. same_texts l bytes others) none
   where
-    by_test : (same : Bool) → (byte == other) ≡ same → ((l : ℕ) → mismatch l bytes others ≡ None → bytes ≡ others) → cond same (mismatch (cond (byte == 10) (suc line) line) bytes others) (Some line) ≡ None → byte ∷ bytes ≡ other ∷ others
+    by_test : (same : Bool) → (byte == other) ≡ same
+        → ((l : ℕ) → mismatch l bytes others ≡ None → bytes ≡ others)
+        → cond same (mismatch (cond (byte == 10) (suc line) line) bytes others) (Some line) ≡ None
+        → byte ∷ bytes ≡ other ∷ others
     by_test true is same left =
         let this : byte ≡ other = grind (arith, nat_tests) in
         let rest : bytes ≡ others = same (cond (byte == 10) (suc line) line) left in
@@ -48,12 +51,14 @@ record Accepted (refused : Option LineFault) (found : Option ℕ) : Type 0 where
   pub refused_is : refused ≡ None
   pub found_is : found ≡ None
 
-agreed_by : (refused : Option LineFault) (found : Option ℕ) (line : ℕ) (puts : List Put) → finding_of (verdict_by refused found line puts) ≡ findings.Agrees → Accepted refused found
+agreed_by : (refused : Option LineFault) (found : Option ℕ) (line : ℕ) (puts : List Put)
+    → finding_of (verdict_by refused found line puts) ≡ findings.Agrees → Accepted refused found
 agreed_by (Some fault) found line puts is = absurd cc
 agreed_by None (Some difference) line puts is = absurd cc
 agreed_by None None line puts is = record { refused_is = refl; found_is = refl }
 
-lawful_record : (life : Option ℕ) (text : List ℕ) → (run_of life text).refused ≡ None → IsLawfulRecord life text
+lawful_record : (life : Option ℕ) (text : List ℕ) → (run_of life text).refused ≡ None
+    → IsLawfulRecord life text
 lawful_record life text accepted = record {
   accepted = accepted;
   agent = run-schedule life text;
@@ -62,20 +67,24 @@ lawful_record life text accepted = record {
 }
 
 -- the report of a verdict, by what was found
-reports : (refused : Option LineFault) (found : Option ℕ) (line : ℕ) (puts : List Put) → report (verdict_by refused found line puts) ≡ report_by (finding_of (verdict_by refused found line puts)) puts
+reports : (refused : Option LineFault) (found : Option ℕ) (line : ℕ) (puts : List Put)
+    → report (verdict_by refused found line puts) ≡ report_by (finding_of (verdict_by refused found line puts)) puts
 reports (Some fault) found line puts = refl
 reports None (Some difference) line puts = refl
 reports None None line puts = refl
 
-report_is : (life : Option ℕ) (text deeds : List ℕ) → report (verdict_of life text deeds) ≡ report_by (finding_of (verdict_of life text deeds)) (puts life text)
+report_is : (life : Option ℕ) (text deeds : List ℕ)
+    → report (verdict_of life text deeds) ≡ report_by (finding_of (verdict_of life text deeds)) (puts life text)
 report_is life text deeds = reports (run_of life text).refused (first_difference (output_of life text) deeds) (run_of life text).line (puts life text)
 
-differs_by : (verdict : Verdict) (line : ℕ) → findings.Differs line ≡ finding_of verdict → verdict ≡ Differs line
+differs_by : (verdict : Verdict) (line : ℕ) → findings.Differs line ≡ finding_of verdict
+    → verdict ≡ Differs line
 differs_by (Agrees puts) line is = absurd cc
 differs_by (Differs other) line is = cc
 differs_by (IsBad other) line is = absurd cc
 
-bad_by : (verdict : Verdict) (line : ℕ) → findings.IsBad line ≡ finding_of verdict → verdict ≡ IsBad line
+bad_by : (verdict : Verdict) (line : ℕ) → findings.IsBad line ≡ finding_of verdict
+    → verdict ≡ IsBad line
 bad_by (Agrees puts) line is = absurd cc
 bad_by (Differs other) line is = absurd cc
 bad_by (IsBad other) line is = cc
@@ -83,12 +92,18 @@ bad_by (IsBad other) line is = cc
 -- ---- the end
 
 -- the report of what was found was not all written
-stops_of : (stop : Stop) (finding : Finding) (life : Option ℕ) (text deeds : List ℕ) (before after : StreamView) → finding ≡ finding_of (verdict_of life text deeds) → Stops stop (report_by finding (puts life text)) before after → Stops stop (report (verdict_of life text deeds)) before after
+stops_of : (stop : Stop) (finding : Finding) (life : Option ℕ) (text deeds : List ℕ) (before after : StreamView)
+    → finding ≡ finding_of (verdict_of life text deeds)
+    → Stops stop (report_by finding (puts life text)) before after
+    → Stops stop (report (verdict_of life text deeds)) before after
 stops_of stop finding life text deeds before after is stopped =
     subst (λ (t : List ℕ). Stops stop t before after)
     (ap (λ (f : Finding). report_by f (puts life text)) is ∙ sym (report_is life text deeds)) stopped
 
-ends_written : (finding : Finding) (life : Option ℕ) (text deeds : List ℕ) (before after : StreamView) → finding ≡ finding_of (verdict_of life text deeds) → Wrote before after (report_by finding (puts life text)) → EndsAudit life text deeds (status_of finding) before after
+ends_written : (finding : Finding) (life : Option ℕ) (text deeds : List ℕ) (before after : StreamView)
+    → finding ≡ finding_of (verdict_of life text deeds)
+    → Wrote before after (report_by finding (puts life text))
+    → EndsAudit life text deeds (status_of finding) before after
 ends_written findings.Agrees life text deeds before after is wrote =
     let both = agreed_by (run_of life text).refused (first_difference (output_of life text) deeds) (run_of life text).line (puts life text) (sym is) in
     record {
@@ -105,7 +120,10 @@ ends_written (findings.IsBad line) life text deeds before after is wrote = recor
   wrote = wrote;
 }
 
-pub ends_audit : {T : Type 0} (finding : Finding) (written : Result T Stop) (life : Option ℕ) (text deeds : List ℕ) (before after : StreamView) → finding ≡ finding_of (verdict_of life text deeds) → Writes written (report_by finding (puts life text)) before after → EndsAudit life text deeds (status_by finding written) before after
+pub ends_audit : {T : Type 0} (finding : Finding) (written : Result T Stop) (life : Option ℕ) (text deeds : List ℕ) (before after : StreamView)
+    → finding ≡ finding_of (verdict_of life text deeds)
+    → Writes written (report_by finding (puts life text)) before after
+    → EndsAudit life text deeds (status_by finding written) before after
 ends_audit finding (Ok done) life text deeds before after is writes = ends_written finding life text deeds before after is writes
 ends_audit finding (Err stops.Memory) life text deeds before after is writes = stops_of stops.Memory finding life text deeds before after is writes
 ends_audit finding (Err stops.Write) life text deeds before after is writes = stops_of stops.Write finding life text deeds before after is writes
@@ -113,7 +131,9 @@ ends_audit finding (Err stops.Write) life text deeds before after is writes = st
 -- ---- files
 
 -- both texts are those of the files
-pub audits_by : (held : List ℕ → Option (List ℕ)) (asked : Asked) (text deeds : List ℕ) (result : AuditStatus) (before after : StreamView) → IsTextOf (held asked.recording) text → IsTextOf (held asked.deeds) deeds → EndsAudit asked.life text deeds result before after → Audits held asked result before after
+pub audits_by : (held : List ℕ → Option (List ℕ)) (asked : Asked) (text deeds : List ℕ) (result : AuditStatus) (before after : StreamView)
+    → IsTextOf (held asked.recording) text → IsTextOf (held asked.deeds) deeds
+    → EndsAudit asked.life text deeds result before after → Audits held asked result before after
 audits_by held asked text deeds status.Yes before after text_is deeds_are ends =
     record { text = text; deeds = deeds; text_is = text_is; deeds_are = deeds_are; ends = ends }
 audits_by held asked text deeds (status.Differs line) before after text_is deeds_are ends =
@@ -128,5 +148,6 @@ audits_by held asked text deeds status.WriteFault before after text_is deeds_are
     record { text = text; deeds = deeds; text_is = text_is; deeds_are = deeds_are; ends = ends }
 
 -- what the words ask for is one thing
-pub asked_once : (read asked : Asked) (found : Option Asked) → Some read ≡ found → found ≡ Some asked → read ≡ asked
+pub asked_once : (read asked : Asked) (found : Option Asked) → Some read ≡ found
+    → found ≡ Some asked → read ≡ asked
 asked_once read asked found is also = same_Some _ _ (is ∙ also)

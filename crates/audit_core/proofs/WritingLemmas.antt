@@ -24,7 +24,8 @@ pub nothing_written : (text : List ℕ) (seen : StreamView) → WritesPart text 
 nothing_written text seen = (text, record { front = []; whole = refl; written = Appends-nil seen.written })
 
 -- a front of the first of two texts is a front of both
-part_before : (text more : List ℕ) (before after : StreamView) → WritesPart text before after → WritesPart (text ++ more) before after
+part_before : (text more : List ℕ) (before after : StreamView) → WritesPart text before after
+    → WritesPart (text ++ more) before after
 part_before text more before after part = (
   part.0 ++ more,
   record {
@@ -35,7 +36,8 @@ part_before text more before after part = (
 )
 
 -- the first of two texts and a front of the second
-part_behind : (text more : List ℕ) (before mid after : StreamView) → Wrote before mid text → WritesPart more mid after → WritesPart (text ++ more) before after
+part_behind : (text more : List ℕ) (before mid after : StreamView) → Wrote before mid text
+    → WritesPart more mid after → WritesPart (text ++ more) before after
 part_behind text more before mid after wrote part = (
   part.0,
   record {
@@ -45,14 +47,16 @@ part_behind text more before mid after wrote part = (
   },
 )
 
-pub stops_before : (stop : Stop) (text more : List ℕ) (before after : StreamView) → Stops stop text before after → Stops stop (text ++ more) before after
+pub stops_before : (stop : Stop) (text more : List ℕ) (before after : StreamView)
+    → Stops stop text before after → Stops stop (text ++ more) before after
 stops_before stops.Memory text more before after stopped = part_before text more before after stopped
 stops_before stops.Write text more before after stopped = record {
   front = part_before text more before after stopped.front;
   cause = stopped.cause;
 }
 
-pub stops_behind : (stop : Stop) (text more : List ℕ) (before mid after : StreamView) → Wrote before mid text → Stops stop more mid after → Stops stop (text ++ more) before after
+pub stops_behind : (stop : Stop) (text more : List ℕ) (before mid after : StreamView)
+    → Wrote before mid text → Stops stop more mid after → Stops stop (text ++ more) before after
 stops_behind stops.Memory text more before mid after wrote stopped = part_behind text more before mid after wrote stopped
 stops_behind stops.Write text more before mid after wrote stopped = record {
   front = part_behind text more before mid after wrote stopped.front;
@@ -60,23 +64,29 @@ stops_behind stops.Write text more before mid after wrote stopped = record {
 }
 
 -- memory ran out behind a text
-pub memory_behind : (text more : List ℕ) (before after : StreamView) → Wrote before after text → WritesPart (text ++ more) before after
+pub memory_behind : (text more : List ℕ) (before after : StreamView) → Wrote before after text
+    → WritesPart (text ++ more) before after
 memory_behind text more before after wrote = part_behind text more before after after wrote (nothing_written more after)
 
 -- ---- requests
 
 -- the lines of one more part of them
-lines_two : (puts more : List Put) → flat_map put_line (puts ++ more) ≡ flat_map put_line puts ++ flat_map put_line more
+lines_two : (puts more : List Put)
+    → flat_map put_line (puts ++ more) ≡ flat_map put_line puts ++ flat_map put_line more
 lines_two puts more = flat_map-append put_line puts more
 
-lists_then : (done puts : List Put) (count next : ℕ) (before mid after : StreamView) → ListsAll 0 count done before mid → ListsAll count next puts mid after → ListsAll 0 next (done ++ puts) before after
+lists_then : (done puts : List Put) (count next : ℕ) (before mid after : StreamView)
+    → ListsAll 0 count done before mid → ListsAll count next puts mid after
+    → ListsAll 0 next (done ++ puts) before after
 lists_then done puts count next before mid after first second = record {
   count_is = omega (arith, first.count_is, second.count_is, length-append done puts);
   wrote = subst (Wrote before after) (sym (lines_two done puts)) (Wrote-then first.wrote second.wrote);
 }
 
 -- a line of the record was run, which put these
-pub listing_next : (all from left puts : List Put) (count next : ℕ) (before mid after : StreamView) → from ≡ puts ++ left → IsListing all from count before mid → ListsAll count next puts mid after → IsListing all left next before after
+pub listing_next : (all from left puts : List Put) (count next : ℕ) (before mid after : StreamView)
+    → from ≡ puts ++ left → IsListing all from count before mid
+    → ListsAll count next puts mid after → IsListing all left next before after
 listing_next all from left puts count next before mid after is listing more = record {
   done = listing.done ++ puts;
   whole = append_assoc listing.done puts left ∙ ap (λ (l : List Put). listing.done ++ l) (sym is) ∙ listing.whole;
@@ -84,11 +94,13 @@ listing_next all from left puts count next before mid after is listing more = re
 }
 
 -- all lines are those of the requests so far and of the others
-lines_all : (all from : List Put) (count : ℕ) (before mid : StreamView) (listing : IsListing all from count before mid) → flat_map put_line listing.done ++ flat_map put_line from ≡ flat_map put_line all
+lines_all : (all from : List Put) (count : ℕ) (before mid : StreamView) (listing : IsListing all from count before mid)
+    → flat_map put_line listing.done ++ flat_map put_line from ≡ flat_map put_line all
 lines_all all from count before mid listing = sym (lines_two listing.done from) ∙ ap (flat_map put_line) listing.whole
 
 -- memory ran out
-pub listing_memory : (all from : List Put) (count : ℕ) (before mid : StreamView) → IsListing all from count before mid → WritesPart (flat_map put_line all) before mid
+pub listing_memory : (all from : List Put) (count : ℕ) (before mid : StreamView)
+    → IsListing all from count before mid → WritesPart (flat_map put_line all) before mid
 listing_memory all from count before mid listing =
     subst (λ (t : List ℕ). WritesPart t before mid) (lines_all all from count before mid listing)
     (memory_behind (flat_map put_line listing.done) (flat_map put_line from) before mid listing.listed.wrote)
@@ -134,13 +146,18 @@ listing_goes all logged puts run after left rest size count next before mid now 
 
 -- ---- the line of the total behind them
 
-total_line : (word : List ℕ) (puts : List Put) (count : ℕ) {before mid : StreamView} → word ≡ codes "yes " → ListsAll 0 count puts before mid → number_line word count ≡ number_line (codes "yes ") (length puts)
+total_line : (word : List ℕ) (puts : List Put) (count : ℕ) {before mid : StreamView}
+    → word ≡ codes "yes " → ListsAll 0 count puts before mid
+    → number_line word count ≡ number_line (codes "yes ") (length puts)
 total_line word puts count is listed =
     let many : count ≡ length puts = omega (arith, listed.count_is) in
     ap (λ (w : List ℕ). number_line w count) is ∙ ap (number_line (codes "yes ")) many
 
 -- the report of a record that agrees
-pub yes_written : {T : Type 0} (result : Result T Stop) (word : List ℕ) (puts : List Put) (count : ℕ) (before mid after : StreamView) → word ≡ codes "yes " → ListsAll 0 count puts before mid → Writes result (number_line word count) mid after → Writes result (yes_report puts) before after
+pub yes_written : {T : Type 0} (result : Result T Stop) (word : List ℕ) (puts : List Put) (count : ℕ) (before mid after : StreamView)
+    → word ≡ codes "yes " → ListsAll 0 count puts before mid
+    → Writes result (number_line word count) mid after
+    → Writes result (yes_report puts) before after
 yes_written (Ok done) word puts count before mid after is listed wrote =
     Wrote-then listed.wrote (subst (Wrote mid after) (total_line word puts count is listed) wrote)
 yes_written (Err stop) word puts count before mid after is listed stopped =

@@ -16,7 +16,8 @@ unfolding multiply_from
 multiply_from-zero s p q = refl
 
 -- one turn: what is left to be done gives the same multiple
-pub multiply_from-turn : (bits i w v bit : ℕ) (p twice sum next after whole : Point) → i < bits → v ≡ w / 2 → bit ≡ w % 2
+pub multiply_from-turn : (bits i w v bit : ℕ) (p twice sum next after whole : Point) → i < bits
+    → v ≡ w / 2 → bit ≡ w % 2
     → next ≡ point_add sum p → twice ≡ point_add p p → after ≡ choose bit sum next
     → multiply_from (bits - i) w p sum ≡ whole → multiply_from (bits - (i + 1)) v twice after ≡ whole
 multiply_from-turn bits i w v bit p twice sum next after whole turn v_is bit_is next_is twice_is after_is is =
@@ -25,7 +26,8 @@ multiply_from-turn bits i w v bit p twice sum next after whole turn v_is bit_is 
     cc
 
 -- after the last turn nothing is left
-pub multiply_from-end : (bits i s : ℕ) (p sum whole : Point) → bits ≤ i → multiply_from (bits - i) s p sum ≡ whole → sum ≡ whole
+pub multiply_from-end : (bits i s : ℕ) (p sum whole : Point) → bits ≤ i
+    → multiply_from (bits - i) s p sum ≡ whole → sum ≡ whole
 multiply_from-end bits i s p sum whole last is =
     let none : bits - i ≡ 0 = omega arith in
     sym (multiply_from-zero s p sum) ∙ ap (λ k. multiply_from k s p sum) (sym none) ∙ is

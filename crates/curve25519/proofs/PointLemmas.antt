@@ -19,7 +19,8 @@ moved : (a b d : ℕ) → a * b * 2 * d ≡ a * 2 * d * b
 moved a b d = omega arith
 
 -- C of the addition: the T of the second point may be multiplied by 2 d before
-pub field_mul-twice_d : (a b : ℕ) → field_mul a (field_mul b twice_d) ≡ field_mul (field_mul (field_mul a 2) curve_d) b
+pub field_mul-twice_d : (a b : ℕ)
+    → field_mul a (field_mul b twice_d) ≡ field_mul (field_mul (field_mul a 2) curve_d) b
 unfolding field_mul
 field_mul-twice_d a b =
     mul-mod_second a (b * twice_d) prime

@@ -16,12 +16,14 @@ use Rattle.ed25519.specs.Keys.{public_key, secret_scalar}
 use Rattle.ed25519.specs.Signatures.{signature, commitment, nonce, challenge, response}
 
 -- the public key, by the steps of section 5.1.5
-pub secret_scalar-made : (seed hash : List ℕ) (s : ℕ) → hash ≡ sha512 seed → s ≡ clamped (little_endian (take 32 hash))
+pub secret_scalar-made : (seed hash : List ℕ) (s : ℕ) → hash ≡ sha512 seed
+    → s ≡ clamped (little_endian (take 32 hash))
     → s ≡ secret_scalar seed
 unfolding secret_scalar
 secret_scalar-made seed hash s hash_is s_is = cc
 
-pub public_key-made : (seed made : List ℕ) (s : ℕ) → s ≡ secret_scalar seed → made ≡ octets (encoded (multiply s base))
+pub public_key-made : (seed made : List ℕ) (s : ℕ) → s ≡ secret_scalar seed
+    → made ≡ octets (encoded (multiply s base))
     → made ≡ public_key seed
 unfolding public_key
 public_key-made seed made s s_is made_is = cc
@@ -39,7 +41,8 @@ signature-made seed message hash public hash2 r_bytes hash3 s_bytes out scalar r
     cc
 
 -- two halves of 32 bytes, each put in its place
-pub put_mid-halves : (xs ys zeros first second : List ℕ) → length first ≡ 32 → length zeros ≡ 32 → xs ≡ first → ys ≡ second
+pub put_mid-halves : (xs ys zeros first second : List ℕ) → length first ≡ 32 → length zeros ≡ 32
+    → xs ≡ first → ys ≡ second
     → put_mid 32 32 (xs ++ zeros) ys ≡ first ++ second
 put_mid-halves xs ys zeros first second first_size zeros_size xs_is ys_is =
     let taken : take 32 (first ++ zeros) ≡ first = take_at first zeros 32 first_size in
@@ -48,11 +51,13 @@ put_mid-halves xs ys zeros first second first_size zeros_size xs_is ys_is =
     rw (xs_is, ys_is, taken, dropped, none, append-nil) refl
 
 -- what the comparison of the public keys says
-pub keys-differ : (made public key : List ℕ) → made ≡ key → true ≡ not (pointwise eqb made public) → public ≡ key → ⊥
+pub keys-differ : (made public key : List ℕ) → made ≡ key → true ≡ not (pointwise eqb made public)
+    → public ≡ key → ⊥
 keys-differ made public key made_is test same =
     both_ways (pointwise eqb made public) (not-true (pointwise eqb made public) (sym test))
     ((bytes_decides made public).1 (made_is ∙ sym same))
 
-pub keys-same : (made public key : List ℕ) → made ≡ key → false ≡ not (pointwise eqb made public) → public ≡ key
+pub keys-same : (made public key : List ℕ) → made ≡ key → false ≡ not (pointwise eqb made public)
+    → public ≡ key
 keys-same made public key made_is test =
     sym ((bytes_decides made public).0 (not-false (pointwise eqb made public) (sym test))) ∙ made_is

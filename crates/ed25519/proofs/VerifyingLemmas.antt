@@ -10,7 +10,8 @@ use Rattle.ed25519.specs.Signatures.{challenge}
 use Rattle.ed25519.specs.Verification.{accepts, meets}
 
 -- S isn't below L
-pub accepts-refused : (public message signature : List ℕ) (s : ℕ) → s ≡ little_endian (take 32 (drop 32 signature))
+pub accepts-refused : (public message signature : List ℕ) (s : ℕ)
+    → s ≡ little_endian (take 32 (drop 32 signature))
     → nat_lt s order ≡ false → false ≡ accepts public message signature
 unfolding accepts
 accepts-refused public message signature s s_is above =

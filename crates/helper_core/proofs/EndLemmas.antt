@@ -39,7 +39,8 @@ goes_nil route talk start now heard under =
 -- ---- ends
 
 -- whatever follows, this is the end
-ends_now : (route : List ℕ → Route) (talk : Talk) (start now : Seen) (heard : List ℕ) (status : HelperStatus) → IsUnderWay route talk start now heard
+ends_now : (route : List ℕ → Route) (talk : Talk) (start now : Seen) (heard : List ℕ) (status : HelperStatus)
+    → IsUnderWay route talk start now heard
     → ((more : List ℕ) → served route [] (heard ++ more) ≡ ended status) → EndsAs status talk start now
 ends_now route talk start now heard status under is = record {
   bytes = under.bytes;
@@ -52,17 +53,20 @@ ends_now route talk start now heard status under is = record {
   writes = under.writes;
 }
 
-pub ends_bad_length : (route : List ℕ → Route) (talk : Talk) (start now : Seen) (heard : List ℕ) (announced : ℕ) → IsUnderWay route talk start now heard
+pub ends_bad_length : (route : List ℕ → Route) (talk : Talk) (start now : Seen) (heard : List ℕ) (announced : ℕ)
+    → IsUnderWay route talk start now heard
     → front longest_to_child heard ≡ Bad announced → Ends BadFrame talk start now
 unfolding Ends
 ends_bad_length route talk start now heard announced under found =
     ends_now route talk start now heard BadFrame under (λ more. served-bad route heard more announced [] found)
 
-none_served : (given : Route) (body : List ℕ) (rest : Replies → Transcript) → given ≡ NoRequest → then_served given body [] rest ≡ ended BadFrame
+none_served : (given : Route) (body : List ℕ) (rest : Replies → Transcript) → given ≡ NoRequest
+    → then_served given body [] rest ≡ ended BadFrame
 unfolding then_served
 none_served given body rest none = ap (λ (r : Route). then_served r body [] rest) none
 
-pub ends_bad_body : (route : List ℕ → Route) (talk : Talk) (start now : Seen) (heard : List ℕ) (body_len : ℕ) → IsUnderWay route talk start now heard
+pub ends_bad_body : (route : List ℕ → Route) (talk : Talk) (start now : Seen) (heard : List ℕ) (body_len : ℕ)
+    → IsUnderWay route talk start now heard
     → front longest_to_child heard ≡ Whole body_len → route (front_body body_len heard) ≡ NoRequest → Ends BadFrame talk start now
 unfolding Ends
 ends_bad_body route talk start now heard body_len under found none =
@@ -117,7 +121,8 @@ ends_torn route talk start behind now new heard after_heard under found nothing 
     (ends_at_end route talk start behind now new heard after_heard under found nothing end same only)
 
 -- memory ran out, and nothing was done since
-early_kept : (route : List ℕ → Route) (talk : Talk) (start now : Seen) (heard : List ℕ) → IsUnderWay route talk start now heard → EndsEarly talk start now
+early_kept : (route : List ℕ → Route) (talk : Talk) (start now : Seen) (heard : List ℕ)
+    → IsUnderWay route talk start now heard → EndsEarly talk start now
 early_kept route talk start now heard under = record {
   bytes = under.bytes;
   handed = under.handed;
@@ -127,7 +132,8 @@ early_kept route talk start now heard under = record {
       record { later = served route [] (heard ++ more); is = goes_on route talk start now heard under more });
 }
 
-pub ends_early : (route : List ℕ → Route) (talk : Talk) (start now : Seen) (heard : List ℕ) → IsUnderWay route talk start now heard → Ends Memory talk start now
+pub ends_early : (route : List ℕ → Route) (talk : Talk) (start now : Seen) (heard : List ℕ)
+    → IsUnderWay route talk start now heard → Ends Memory talk start now
 unfolding Ends
 ends_early = early_kept
 

@@ -13,7 +13,8 @@ sends_nothing : (route : List ℕ → Route) (bodies : List (List ℕ)) → Send
 sends_nothing route bodies = record { answers = []; each = tt; framed = refl }
 
 -- one answer more
-sends_more : (route : List ℕ → Route) (body : List ℕ) (bodies : List (List ℕ)) (answer : FromChildMessage) (sent : List ℕ) → IsAnswerBy (route body) answer
+sends_more : (route : List ℕ → Route) (body : List ℕ) (bodies : List (List ℕ)) (answer : FromChildMessage) (sent : List ℕ)
+    → IsAnswerBy (route body) answer
     → SendsAnswers route bodies sent → SendsAnswers route (body ∷ bodies) (string (from_child_body answer) ++ sent)
 sends_more route body bodies answer sent is later = record {
   answers = answer ∷ later.answers;

@@ -18,12 +18,14 @@ use Rattle.world_ports.specs.Streams.{OnlyWrites, StreamView, WritesPart}
 
 -- ---- transcripts
 
-pub transcript-usage : (route : List ℕ → Route) (words : List (List ℕ)) → words_of words ≡ None → (replies : Replies) (stream : List ℕ)
+pub transcript-usage : (route : List ℕ → Route) (words : List (List ℕ)) → words_of words ≡ None
+    → (replies : Replies) (stream : List ℕ)
     → transcript_of route words replies stream ≡ ended Usage
 unfolding transcript_of
 transcript-usage route words none replies stream = ap (λ (w : Option ChildWords). transcript_with route w replies stream) none
 
-pub transcript-talk : (route : List ℕ → Route) (words : List (List ℕ)) (read : ChildWords) → words_of words ≡ Some read → (replies : Replies) (stream : List ℕ)
+pub transcript-talk : (route : List ℕ → Route) (words : List (List ℕ)) (read : ChildWords)
+    → words_of words ≡ Some read → (replies : Replies) (stream : List ℕ)
     → transcript_of route words replies stream ≡ greeted route read replies stream
 unfolding transcript_of
 transcript-talk route words read of_words replies stream = ap (λ (w : Option ChildWords). transcript_with route w replies stream) of_words
@@ -35,7 +37,8 @@ abbrev pub Greets : (List ℕ → Route) → Talk → List ℕ → Type 0
 Greets route talk frame = (replies : Replies) (stream : List ℕ) → talk replies stream ≡ after frame [] (served route replies stream)
 
 -- memory ran out
-pub ends_ungreeted : (talk : Talk) (behind : Option (List Exchange)) (start : StreamView) → Ends Memory talk (at behind start) (at behind start)
+pub ends_ungreeted : (talk : Talk) (behind : Option (List Exchange)) (start : StreamView)
+    → Ends Memory talk (at behind start) (at behind start)
 unfolding Ends
 ends_ungreeted talk behind start = record {
   bytes = [];
@@ -46,7 +49,8 @@ ends_ungreeted talk behind start = record {
 }
 
 -- the write failed
-pub ends_half_greeted : (route : List ℕ → Route) (talk : Talk) (behind : Option (List Exchange)) (start new : StreamView) (frame out : List ℕ) → Greets route talk frame → out ≡ frame
+pub ends_half_greeted : (route : List ℕ → Route) (talk : Talk) (behind : Option (List Exchange)) (start new : StreamView) (frame out : List ℕ)
+    → Greets route talk frame → out ≡ frame
     → WritesPart out start new → Rose start.write_faults new.write_faults → OnlyWrites start new → Ends WriteFault talk (at behind start) (at behind new)
 unfolding Ends
 ends_half_greeted route talk behind start new frame out greets is part rose only = record {
@@ -69,7 +73,8 @@ ends_half_greeted route talk behind start new frame out greets is part rose only
 }
 
 -- it is sent
-pub under_way-greeted : (route : List ℕ → Route) (talk : Talk) (behind : Option (List Exchange)) (start new : StreamView) (frame out : List ℕ) → Greets route talk frame → out ≡ frame
+pub under_way-greeted : (route : List ℕ → Route) (talk : Talk) (behind : Option (List Exchange)) (start new : StreamView) (frame out : List ℕ)
+    → Greets route talk frame → out ≡ frame
     → Appends start.written new.written out → new.write_faults ≡ start.write_faults → OnlyWrites start new → IsUnderWay route talk (at behind start) (at behind new) []
 under_way-greeted route talk behind start new frame out greets is wrote same only = record {
   bytes = [];
@@ -88,7 +93,8 @@ under_way-greeted route talk behind start new frame out greets is wrote same onl
 -- ---- statuses
 
 -- a talk says what its status says
-pub answers_by : (status : HelperStatus) (route : List ℕ → Route) (words : List (List ℕ)) (old new : Seen) → Ends status (transcript_of route words) old new → Answers status route words old new
+pub answers_by : (status : HelperStatus) (route : List ℕ → Route) (words : List (List ℕ)) (old new : Seen)
+    → Ends status (transcript_of route words) old new → Answers status route words old new
 unfolding Ends
 answers_by Done route words old new talk = talk
 answers_by BadFrame route words old new talk = talk
@@ -99,6 +105,7 @@ answers_by WriteFault route words old new talk = talk
 answers_by TornEnd route words old new talk = talk
 
 -- a talk ends for no reason that comes before it
-pub no_usage : (status : HelperStatus) (talk : Talk) (old new : Seen) → Ends status talk old new → status ≡ Usage → ⊥
+pub no_usage : (status : HelperStatus) (talk : Talk) (old new : Seen) → Ends status talk old new
+    → status ≡ Usage → ⊥
 unfolding Ends
 no_usage status talk old new ends is = subst (λ (s : HelperStatus). Ends s talk old new) is ends

@@ -14,16 +14,19 @@ use Rattle.wire_text.specs.Wire.{string}
 use Rattle.world_ports.specs.Journal.{Grows}
 
 -- a message is as long as its body
-pub small_message : (body : List ℕ) (message : FromChildMessage) → IsFromChild body message → length body ≤ longest_body → from_child_length message ≤ longest_body
+pub small_message : (body : List ℕ) (message : FromChildMessage) → IsFromChild body message
+    → length body ≤ longest_body → from_child_length message ≤ longest_body
 small_message body message is small = subst (λ (n : ℕ). n ≤ longest_body) (ap length is.printed ∙ length-from_child_body message) small
 
 -- the answer by the message of the reply
-pub counted-signature : (asked : Asked) (ask : ℕ) (reply : Option (List ℕ)) (message : Option FromChildMessage) → asked ≡ Signature ask → reply_message reply ≡ message
+pub counted-signature : (asked : Asked) (ask : ℕ) (reply : Option (List ℕ)) (message : Option FromChildMessage)
+    → asked ≡ Signature ask → reply_message reply ≡ message
     → counted asked reply ≡ signed_under ask message
 unfolding counted
 counted-signature asked ask reply message is read = ap (λ (a : Asked). counted a reply) is ∙ ap (signed_under ask) read
 
-pub counted-verdict : (asked : Asked) (ask : ℕ) (reply : Option (List ℕ)) (message : Option FromChildMessage) → asked ≡ Verdict ask → reply_message reply ≡ message
+pub counted-verdict : (asked : Asked) (ask : ℕ) (reply : Option (List ℕ)) (message : Option FromChildMessage)
+    → asked ≡ Verdict ask → reply_message reply ≡ message
     → counted asked reply ≡ verdict_under ask message
 unfolding counted
 counted-verdict asked ask reply message is read = ap (λ (a : Asked). counted a reply) is ∙ ap (verdict_under ask) read

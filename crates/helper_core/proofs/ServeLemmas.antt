@@ -26,7 +26,8 @@ body-served : (route : List ℕ → Route) (body : List ℕ) (parts : Split) (re
 unfolding served_bodies
 body-served route body parts replies = refl
 
-pub served-front : (route : List ℕ → Route) (heard more : List ℕ) (body_len : ℕ) (replies : Replies) → front longest_to_child heard ≡ Whole body_len
+pub served-front : (route : List ℕ → Route) (heard more : List ℕ) (body_len : ℕ) (replies : Replies)
+    → front longest_to_child heard ≡ Whole body_len
     → served route replies (heard ++ more) ≡ then_served (route (front_body body_len heard)) (front_body body_len heard) replies (λ r. served route r (drop (4 + body_len) heard ++ more))
 unfolding served
 served-front route heard more body_len replies found =
@@ -36,12 +37,14 @@ served-front route heard more body_len replies found =
 -- ---- no whole frame in front
 
 -- nothing is split off
-unsplit-served : (route : List ℕ → Route) (rest : List ℕ) (replies : Replies) → served_split route (unsplit rest) replies ≡ ended (status_at (front longest_to_child rest) rest)
+unsplit-served : (route : List ℕ → Route) (rest : List ℕ) (replies : Replies)
+    → served_split route (unsplit rest) replies ≡ ended (status_at (front longest_to_child rest) rest)
 unfolding served_bodies
 unsplit-served route rest replies = refl
 
 -- a bad length
-pub served-bad : (route : List ℕ → Route) (heard more : List ℕ) (announced : ℕ) (replies : Replies) → front longest_to_child heard ≡ Bad announced
+pub served-bad : (route : List ℕ → Route) (heard more : List ℕ) (announced : ℕ) (replies : Replies)
+    → front longest_to_child heard ≡ Bad announced
     → served route replies (heard ++ more) ≡ ended BadFrame
 unfolding served
 served-bad route heard more announced replies found =
@@ -50,7 +53,8 @@ served-bad route heard more announced replies found =
     ∙ ap (λ (f : Front). ended (status_at f (heard ++ more))) bad
 
 -- unfinished bytes, and nothing behind them
-pub served-more : (route : List ℕ → Route) (heard : List ℕ) (replies : Replies) → front longest_to_child heard ≡ More
+pub served-more : (route : List ℕ → Route) (heard : List ℕ) (replies : Replies)
+    → front longest_to_child heard ≡ More
     → served route replies heard ≡ ended (torn_or_done heard)
 unfolding served
 served-more route heard replies found =

@@ -22,12 +22,14 @@ use Rattle.world_ports.specs.Journal.{Grows, Tells}
 transcript : List ℕ → List Exchange → Option HelperStatus → Transcript
 transcript sent handed end = record { sent = sent; handed = handed; end = end }
 
-same_transcript : (sent sent2 : List ℕ) (handed handed2 : List Exchange) (end : Option HelperStatus) → sent ≡ sent2 → handed ≡ handed2
+same_transcript : (sent sent2 : List ℕ) (handed handed2 : List Exchange) (end : Option HelperStatus)
+    → sent ≡ sent2 → handed ≡ handed2
     → transcript sent handed end ≡ transcript sent2 handed2 end
 same_transcript sent sent2 handed handed2 end is also =
     ap (λ (s : List ℕ). transcript s handed end) is ∙ ap (λ (h : List Exchange). transcript sent2 h end) also
 
-pub after-after : (a b : List ℕ) (h i : List Exchange) (later : Transcript) → after a h (after b i later) ≡ after (a ++ b) (h ++ i) later
+pub after-after : (a b : List ℕ) (h i : List Exchange) (later : Transcript)
+    → after a h (after b i later) ≡ after (a ++ b) (h ++ i) later
 unfolding transcript
 after-after a b h i later =
     same_transcript (a ++ (b ++ later.sent)) ((a ++ b) ++ later.sent) (h ++ (i ++ later.handed)) ((h ++ i) ++ later.handed) later.end
@@ -39,7 +41,8 @@ unfolding transcript
 after-ended sent handed status = same_transcript (sent ++ []) sent (handed ++ []) handed (Some status) (append-nil sent) (append-nil handed)
 
 -- the same bytes in two parts
-pub after-parts : (sent front rest frame : List ℕ) (handed : List Exchange) (later : Transcript) → front ++ rest ≡ frame
+pub after-parts : (sent front rest frame : List ℕ) (handed : List Exchange) (later : Transcript)
+    → front ++ rest ≡ frame
     → after (sent ++ frame) handed later ≡ after (sent ++ front) handed (after rest [] later)
 after-parts sent front rest frame handed later whole =
     ap (λ (f : List ℕ). after (sent ++ f) handed later) (sym whole) ∙ ap (λ (f : List ℕ). after f handed later) (sym (append_assoc sent front rest))
@@ -51,7 +54,8 @@ pub replies_of-append : (a b : List Exchange) → replies_of (a ++ b) ≡ replie
 replies_of-append [] b = refl
 replies_of-append (exchange ∷ a) b = ap (λ (r : Replies). exchange.reply ∷ r) (replies_of-append a b)
 
-pub grows_more : {A : Type 0} (old mid new : Option (List A)) (first later : List A) → Grows old mid first → Grows mid new later → Grows old new (first ++ later)
+pub grows_more : {A : Type 0} (old mid new : Option (List A)) (first later : List A)
+    → Grows old mid first → Grows mid new later → Grows old new (first ++ later)
 grows_more None mid new first later told more = tt
 grows_more (Some before) None new first later told more = absurd told
 grows_more (Some before) (Some between) None first later told more = absurd more
@@ -65,7 +69,8 @@ grows_none (Some made) = sym (append-nil made)
 -- ---- steps
 
 -- a body that is answered
-step-answered : (answer : FromChildMessage) (body : List ℕ) → IsStep (Answered answer) body [] (string (from_child_body answer))
+step-answered : (answer : FromChildMessage) (body : List ℕ)
+    → IsStep (Answered answer) body [] (string (from_child_body answer))
 unfolding then_served
 step-answered answer body later rest = refl
 
@@ -76,7 +81,8 @@ unfolding then_served
 step-handed_on asked body reply later rest = refl
 
 -- nothing was handed on
-pub puts_nothing : (route : Route) (body : List ℕ) (behind now : Option (List Exchange)) → now ≡ behind → PutsNothing route body behind now
+pub puts_nothing : (route : Route) (body : List ℕ) (behind now : Option (List Exchange))
+    → now ≡ behind → PutsNothing route body behind now
 puts_nothing route body behind now same = record {
   handed = [];
   grew = subst (λ (n : Option (List Exchange)). Grows behind n []) (sym same) (grows_none behind);
@@ -103,7 +109,8 @@ maybe_handed_on asked body reply behind now (inr none) = record {
 }
 
 -- what the answerer says
-pub puts-answered : (code : Routed) (route : Route) (body : List ℕ) (behind : Option (List Exchange)) (before out : List ℕ) → IsRouted code route before out
+pub puts-answered : (code : Routed) (route : Route) (body : List ℕ) (behind : Option (List Exchange)) (before out : List ℕ)
+    → IsRouted code route before out
     → code ≡ routed.Answered → PutsAnswer route body behind behind before out
 puts-answered routed.Answered (Answered answer) body behind before out is same = record {
   handed = [];
@@ -117,7 +124,8 @@ puts-answered routed.Answered NoRequest body behind before out is same = absurd 
 puts-answered (routed.HandedOn code) route body behind before out is same = cc same
 puts-answered routed.NoRequest route body behind before out is same = cc same
 
-pub routed-handed_on : (code : Routed) (route : Route) (before out : List ℕ) (asked : Asked) → IsRouted code route before out → code ≡ routed.HandedOn asked
+pub routed-handed_on : (code : Routed) (route : Route) (before out : List ℕ) (asked : Asked)
+    → IsRouted code route before out → code ≡ routed.HandedOn asked
     → (route ≡ HandedOn asked) × (out ≡ before)
 routed-handed_on (routed.HandedOn code) (Answered answer) before out asked is same = absurd is
 routed-handed_on (routed.HandedOn code) (HandedOn given) before out asked is same = (cc (is.0, same), is.1)
@@ -125,7 +133,8 @@ routed-handed_on (routed.HandedOn code) NoRequest before out asked is same = abs
 routed-handed_on routed.NoRequest route before out asked is same = cc same
 routed-handed_on routed.Answered route before out asked is same = cc same
 
-pub puts-handed_on : (route : Route) (asked : Asked) (body : List ℕ) (behind now : Option (List Exchange)) (gave_up given_up : ℕ) (before mid out : List ℕ) → route ≡ HandedOn asked
+pub puts-handed_on : (route : Route) (asked : Asked) (body : List ℕ) (behind now : Option (List Exchange)) (gave_up given_up : ℕ) (before mid out : List ℕ)
+    → route ≡ HandedOn asked
     → mid ≡ before → IsHandedOn asked body behind now gave_up given_up mid out → PutsAnswer route body behind now before out
 puts-handed_on route asked body behind now gave_up given_up before mid out is same on = record {
   handed = record { request = body; reply = on.reply } ∷ [];
@@ -136,7 +145,8 @@ puts-handed_on route asked body behind now gave_up given_up before mid out is sa
       (step-handed_on asked body on.reply);
 }
 
-pub puts-maybe : (route : Route) (asked : Asked) (body : List ℕ) (behind now : Option (List Exchange)) (gave_up given_up : ℕ) → route ≡ HandedOn asked
+pub puts-maybe : (route : Route) (asked : Asked) (body : List ℕ) (behind now : Option (List Exchange)) (gave_up given_up : ℕ)
+    → route ≡ HandedOn asked
     → IsMaybeHandedOn asked body behind now gave_up given_up → PutsNothing route body behind now
 puts-maybe route asked body behind now gave_up given_up is maybe =
     subst (λ (r : Route). PutsNothing r body behind now) (sym is) (maybe_handed_on asked body maybe.reply behind now maybe.told)
@@ -155,12 +165,14 @@ pub no_answer : (result : Result Bool AllocError) (route : Route) (body : List �
 no_answer (Ok answered) route body behind now before out not puts = absurd (not answered refl)
 no_answer (Err error) route body behind now before out not puts = puts
 
-pub no_request : (answered : Bool) (route : Route) (body : List ℕ) (behind now : Option (List Exchange)) (before out : List ℕ) → answered ≡ false
+pub no_request : (answered : Bool) (route : Route) (body : List ℕ) (behind now : Option (List Exchange)) (before out : List ℕ)
+    → answered ≡ false
     → Puts (Ok answered) route body behind now before out → (route ≡ NoRequest) × (now ≡ behind)
 no_request false route body behind now before out is puts = puts
 no_request true route body behind now before out is puts = cc is
 
-pub some_answer : (answered : Bool) (route : Route) (body : List ℕ) (behind now : Option (List Exchange)) (before out : List ℕ) → answered ≡ true
+pub some_answer : (answered : Bool) (route : Route) (body : List ℕ) (behind now : Option (List Exchange)) (before out : List ℕ)
+    → answered ≡ true
     → Puts (Ok answered) route body behind now before out → PutsAnswer route body behind now before out
 some_answer true route body behind now before out is puts = puts
 some_answer false route body behind now before out is puts = cc is

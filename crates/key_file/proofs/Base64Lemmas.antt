@@ -12,7 +12,8 @@ use Rattle.key_file.proofs.DecodedBytes.{decoded_is_bytes}
 use Rattle.key_file.specs.Base64.{alphabet, base64, bytes_of, IsBase64}
 
 -- the characters and the fillers of RFC 4648's encoder
-characters_are : (bytes : List ℕ) → encode_symbols alphabet bytes ++ replicate (padding_len (length bytes)) 61 ≡ base64 bytes
+characters_are : (bytes : List ℕ)
+    → encode_symbols alphabet bytes ++ replicate (padding_len (length bytes)) 61 ≡ base64 bytes
 unfolding encode_symbols base64
 characters_are [] = refl
 characters_are (a ∷ []) = refl
@@ -29,7 +30,8 @@ ok_of (Ok x) bytes e = cc
 ok_of (Err fault) bytes e = absurd cc
 
 -- what is decoded has the text as its base64
-pub decoded_is : (text bytes : List ℕ) → IsBytes text → bytes_of text ≡ Some bytes → IsBase64 text bytes
+pub decoded_is : (text bytes : List ℕ) → IsBytes text → bytes_of text ≡ Some bytes
+    → IsBase64 text bytes
 unfolding bytes_of
 decoded_is text bytes small read =
     let ok = ok_of (decode_of standard text) bytes read in

@@ -21,12 +21,14 @@ ended_is : (rest : List ℕ) (x : Unit {0}) → ended rest ≡ Ok x → rest ≡
 ended_is [] x e = refl
 ended_is (byte ∷ rest) x e = absurd cc
 
-body_joined : (bytes blob part a b c d e f g : List ℕ) → bytes ≡ magic ++ a → a ≡ string none ++ b → b ≡ string none ++ c → c ≡ string [] ++ d →
+body_joined : (bytes blob part a b c d e f g : List ℕ) → bytes ≡ magic ++ a → a ≡ string none ++ b
+    → b ≡ string none ++ c → c ≡ string [] ++ d →
     d ≡ uint32 1 ++ e → e ≡ string blob ++ f → f ≡ string part ++ g → g ≡ [] → bytes ≡ body_with blob part
 body_joined bytes blob part a b c d e f g at_a at_b at_c at_d at_e at_f at_g at_end =
     rw (at_a, at_b, at_c, at_d, at_e, at_f, at_g, at_end, append-nil (string part)) refl
 
-pub body_is_found : (bytes : List ℕ) (file : KeyFile) → IsBytes bytes → body_of bytes ≡ Ok file → IsBody bytes file
+pub body_is_found : (bytes : List ℕ) (file : KeyFile) → IsBytes bytes → body_of bytes ≡ Ok file
+    → IsBody bytes file
 unfolding body_of
 body_is_found bytes file small read =
     let a = bind_ok (after_magic bytes) _ file read in
@@ -77,13 +79,15 @@ body_is_read bytes file is =
 
 -- ---- its text
 
-pub encoded_is_found : (text : List ℕ) (file : KeyFile) → IsBytes text → encoded_file text ≡ Ok file → (bytes : List ℕ) × IsBase64 text bytes × IsBody bytes file
+pub encoded_is_found : (text : List ℕ) (file : KeyFile) → IsBytes text
+    → encoded_file text ≡ Ok file → (bytes : List ℕ) × IsBase64 text bytes × IsBody bytes file
 unfolding encoded_file
 encoded_is_found text file small read =
     let a = bind_ok (ok_or (bytes_of text) Base64) body_of file read in
     let encoded = decoded_is text a.0 small (ok_or_ok (bytes_of text) Base64 a.0 a.1) in
     (a.0, encoded, body_is_found a.0 file encoded.whole a.2)
 
-pub encoded_is_read : (text bytes : List ℕ) (file : KeyFile) → IsBase64 text bytes → IsBody bytes file → encoded_file text ≡ Ok file
+pub encoded_is_read : (text bytes : List ℕ) (file : KeyFile) → IsBase64 text bytes
+    → IsBody bytes file → encoded_file text ≡ Ok file
 unfolding encoded_file
 encoded_is_read text bytes file encoded body = rw (base64_is_decoded text bytes encoded) (body_is_read bytes file body)

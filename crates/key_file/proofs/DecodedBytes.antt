@@ -34,7 +34,8 @@ value_by true fault e = absurd cc
 value_by false fault e = refl
 
 -- a character that is no error has a value of six bits
-value_of : (enc dec s : List ℕ) (i : ℕ) → is_inverse enc dec ≡ true → IsBytes s → symbol_error dec s i ≡ None → get_or dec (get_or s i 0) 0 < 64
+value_of : (enc dec s : List ℕ) (i : ℕ) → is_inverse enc dec ≡ true → IsBytes s
+    → symbol_error dec s i ≡ None → get_or dec (get_or s i 0) 0 < 64
 value_of enc dec s i inverse small e =
     let fine = value_by (eqb (get_or dec (get_or s i 0) 0) 255) (InvalidByte i (get_or s i 0)) e in
     elim (encode-decode_table enc dec inverse (get_or s i 0) (byte_at_each s small i)) [
@@ -42,7 +43,8 @@ value_of enc dec s i inverse small e =
       | inr good ↦ good.0
     ]
 
-group_at_is_bytes : (enc dec s : List ℕ) (i : ℕ) → is_inverse enc dec ≡ true → IsBytes s → group_error dec s i ≡ None → IsBytes (group_bytes dec s i)
+group_at_is_bytes : (enc dec s : List ℕ) (i : ℕ) → is_inverse enc dec ≡ true → IsBytes s
+    → group_error dec s i ≡ None → IsBytes (group_bytes dec s i)
 group_at_is_bytes enc dec s i inverse small e =
     let a = none_of _ _ e in
     let b = none_of _ _ a.1 in
@@ -50,7 +52,8 @@ group_at_is_bytes enc dec s i inverse small e =
     group_is_bytes _ _ _ _ (value_of enc dec s i inverse small a.0) (value_of enc dec s (i + 1) inverse small b.0)
     (value_of enc dec s (i + 2) inverse small c.0) (value_of enc dec s (i + 3) inverse small c.1)
 
-groups_are_bytes : (enc dec s : List ℕ) (count : ℕ) → is_inverse enc dec ≡ true → IsBytes s → groups_error dec s count ≡ None → IsBytes (groups_bytes dec s count)
+groups_are_bytes : (enc dec s : List ℕ) (count : ℕ) → is_inverse enc dec ≡ true → IsBytes s
+    → groups_error dec s count ≡ None → IsBytes (groups_bytes dec s count)
 unfolding groups_error groups_bytes
 groups_are_bytes enc dec s zero inverse small e = no_bytes
 groups_are_bytes enc dec s (suc count) inverse small e =
@@ -71,7 +74,8 @@ result_cases : {T F : Type 0} (r : Result T F) → ((x : T) × (r ≡ Ok x)) ⊎
 result_cases (Ok x) = inl (x, refl)
 result_cases (Err e) = inr (e, refl)
 
-last_is_bytes : (enc dec s : List ℕ) (pad at : ℕ) → is_inverse enc dec ≡ true → IsBytes s → length s ≤ at + 4 → IsBytes (scan_bytes (scan_last dec pad at s))
+last_is_bytes : (enc dec s : List ℕ) (pad at : ℕ) → is_inverse enc dec ≡ true → IsBytes s
+    → length s ≤ at + 4 → IsBytes (scan_bytes (scan_last dec pad at s))
 last_is_bytes enc dec s pad at inverse small short = elim (result_cases (scan_last dec pad at s)) [
   | inl ok ↦
       let rest : List ℕ = drop at s in
@@ -85,7 +89,8 @@ last_is_bytes enc dec s pad at inverse small short = elim (result_cases (scan_la
 
 -- ---- the whole
 
-decoded_are_bytes : (enc dec s : List ℕ) (pad : ℕ) (allow : Bool) (mode : DecodePaddingMode) → is_inverse enc dec ≡ true → IsBytes s →
+decoded_are_bytes : (enc dec s : List ℕ) (pad : ℕ) (allow : Bool) (mode : DecodePaddingMode)
+    → is_inverse enc dec ≡ true → IsBytes s →
     decode_error dec pad allow mode s ≡ None → IsBytes (decoded_bytes dec pad s)
 decoded_are_bytes enc dec s pad allow mode inverse small e =
     let count : ℕ = groups_before_last (length s) in
@@ -94,11 +99,13 @@ decoded_are_bytes enc dec s pad allow mode inverse small e =
     All-append (λ byte. byte < 256) (groups_bytes dec s count) _ (groups_are_bytes enc dec s count inverse small groups.0)
     (last_is_bytes enc dec s pad (4 * count) inverse small (omega arith))
 
-outcome_of : (x : Option DecodeError) (made bytes : List ℕ) → decode_outcome x made ≡ Ok bytes → (x ≡ None) × (made ≡ bytes)
+outcome_of : (x : Option DecodeError) (made bytes : List ℕ) → decode_outcome x made ≡ Ok bytes
+    → (x ≡ None) × (made ≡ bytes)
 outcome_of None made bytes e = (refl, cc)
 outcome_of (Some fault) made bytes e = absurd cc
 
-pub decoded_is_bytes : (text bytes : List ℕ) → IsBytes text → decode_of standard text ≡ Ok bytes → IsBytes bytes
+pub decoded_is_bytes : (text bytes : List ℕ) → IsBytes text → decode_of standard text ≡ Ok bytes
+    → IsBytes bytes
 decoded_is_bytes text bytes small e =
     let o = outcome_of _ _ bytes e in
     subst IsBytes o.1 (decoded_are_bytes standard.encode_table standard.decode_table text standard.padding.value

@@ -29,22 +29,26 @@ pub record IsText (bytes text rest : List ℕ) : Type 0 where
   pub inside : IsBytes text
   pub small : length text < 2 ^ 32
 
-pub text_is : (bytes : List ℕ) (x : List ℕ × List ℕ) → IsBytes bytes → text_at bytes ≡ Ok x → IsText bytes x.0 x.1
+pub text_is : (bytes : List ℕ) (x : List ℕ × List ℕ) → IsBytes bytes → text_at bytes ≡ Ok x
+    → IsText bytes x.0 x.1
 text_is bytes x small read =
     let f = string_is_front bytes x.0 x.1 small (ok_or_ok (string_at bytes) Short x read) in
     record { parts = f.0.parts; left = f.0.left; inside = string_bytes x.0 x.1 (subst IsBytes f.0.parts small); small = f.1 }
 
-pub text_again : (text rest : List ℕ) → length text < 2 ^ 32 → text_at (string text ++ rest) ≡ Ok (text, rest)
+pub text_again : (text rest : List ℕ) → length text < 2 ^ 32
+    → text_at (string text ++ rest) ≡ Ok (text, rest)
 text_again text rest small = rw (string_at-string text rest small) refl
 
 -- ---- numbers
 
-pub number_is : (bytes : List ℕ) (x : ℕ × List ℕ) → IsBytes bytes → u32_at bytes ≡ Ok x → IsFront bytes (uint32 x.0) x.1 × (x.0 < 2 ^ 32)
+pub number_is : (bytes : List ℕ) (x : ℕ × List ℕ) → IsBytes bytes → u32_at bytes ≡ Ok x
+    → IsFront bytes (uint32 x.0) x.1 × (x.0 < 2 ^ 32)
 number_is bytes x small read = uint32_is_front bytes x.0 x.1 small (ok_or_ok (uint32_at bytes) Short x read)
 
 -- ---- the fields
 
-pub magic_is : (bytes rest : List ℕ) → IsBytes bytes → after_magic bytes ≡ Ok rest → IsFront bytes magic rest
+pub magic_is : (bytes rest : List ℕ) → IsBytes bytes → after_magic bytes ≡ Ok rest
+    → IsFront bytes magic rest
 unfolding after_magic
 magic_is bytes rest small read =
     let g = guard_ok (bytes_eq (take (length magic) bytes) magic) Magic (drop (length magic) bytes) rest read in
@@ -58,7 +62,8 @@ pub magic_again : (rest : List ℕ) → after_magic (magic ++ rest) ≡ Ok rest
 unfolding after_magic
 magic_again rest = refl
 
-pub this_text_is : (wanted bytes rest : List ℕ) → IsBytes bytes → after_text wanted bytes ≡ Ok rest → IsText bytes wanted rest
+pub this_text_is : (wanted bytes rest : List ℕ) → IsBytes bytes → after_text wanted bytes ≡ Ok rest
+    → IsText bytes wanted rest
 unfolding after_text
 this_text_is wanted bytes rest small read =
     let a = bind_ok (text_at bytes) (λ text. cond (bytes_eq text.0 wanted) (Ok text.1) (Err Cipher)) rest read in
@@ -66,11 +71,13 @@ this_text_is wanted bytes rest small read =
     let same = (bytes_eq-Decides a.0.0 wanted).0 g.0 in
     subst (λ (text : List ℕ). IsText bytes text rest) same (subst (λ (r : List ℕ). IsText bytes a.0.0 r) g.1 (text_is bytes a.0 small a.1))
 
-pub this_text_again : (text rest : List ℕ) → length text < 2 ^ 32 → after_text text (string text ++ rest) ≡ Ok rest
+pub this_text_again : (text rest : List ℕ) → length text < 2 ^ 32
+    → after_text text (string text ++ rest) ≡ Ok rest
 unfolding after_text
 this_text_again text rest small = rw (string_at-string text rest small, (bytes_eq-Decides text text).1 refl) refl
 
-pub count_is : (bytes rest : List ℕ) → IsBytes bytes → after_count bytes ≡ Ok rest → IsFront bytes (uint32 1) rest
+pub count_is : (bytes rest : List ℕ) → IsBytes bytes → after_count bytes ≡ Ok rest
+    → IsFront bytes (uint32 1) rest
 unfolding after_count
 count_is bytes rest small read =
     let a = bind_ok (u32_at bytes) (λ count. cond (eqb count.0 1) (Ok count.1) (Err Count)) rest read in
@@ -82,7 +89,8 @@ pub count_again : (rest : List ℕ) → after_count (uint32 1 ++ rest) ≡ Ok re
 unfolding after_count
 count_again rest = rw (uint32_at-uint32 1 rest (lit< tt)) refl
 
-pub blocks_are : (bytes : List ℕ) (x : List ℕ × List ℕ) → IsBytes bytes → blocks_at bytes ≡ Ok x → IsText bytes x.0 x.1 × (length x.0 % 8 ≡ 0)
+pub blocks_are : (bytes : List ℕ) (x : List ℕ × List ℕ) → IsBytes bytes → blocks_at bytes ≡ Ok x
+    → IsText bytes x.0 x.1 × (length x.0 % 8 ≡ 0)
 unfolding blocks_at
 blocks_are bytes x small read =
     let a = bind_ok (text_at bytes) (λ part. cond (eqb (length part.0 % 8) 0) (Ok part) (Err Block)) x read in
@@ -90,7 +98,8 @@ blocks_are bytes x small read =
     subst (λ (y : List ℕ × List ℕ). IsText bytes y.0 y.1 × (length y.0 % 8 ≡ 0)) g.1
     (text_is bytes a.0 small a.1, eqb-true (length a.0.0 % 8) 0 g.0)
 
-pub blocks_again : (part rest : List ℕ) → length part < 2 ^ 32 → length part % 8 ≡ 0 → blocks_at (string part ++ rest) ≡ Ok (part, rest)
+pub blocks_again : (part rest : List ℕ) → length part < 2 ^ 32 → length part % 8 ≡ 0
+    → blocks_at (string part ++ rest) ≡ Ok (part, rest)
 unfolding blocks_at
 blocks_again part rest small whole = rw (string_at-string part rest small, eq-eqb (length part % 8) 0 whole) refl
 
@@ -101,7 +110,8 @@ pub record IsChecked (bytes rest : List ℕ) : Type 0 where
   pub parts : bytes ≡ uint32 check ++ (uint32 check ++ rest)
   pub left : IsBytes rest
 
-pub checks_are : (bytes rest : List ℕ) → IsBytes bytes → after_checks bytes ≡ Ok rest → IsChecked bytes rest
+pub checks_are : (bytes rest : List ℕ) → IsBytes bytes → after_checks bytes ≡ Ok rest
+    → IsChecked bytes rest
 unfolding after_checks
 checks_are bytes rest small read =
     let a = bind_ok (u32_at bytes) (λ first. u32_at first.1 >>= λ second. cond (eqb first.0 second.0) (Ok second.1) (Err Check)) rest read in
@@ -117,6 +127,7 @@ checks_are bytes rest small read =
       left = second.0.left;
     })
 
-pub checks_again : (check : ℕ) (rest : List ℕ) → check < 2 ^ 32 → after_checks (uint32 check ++ (uint32 check ++ rest)) ≡ Ok rest
+pub checks_again : (check : ℕ) (rest : List ℕ) → check < 2 ^ 32
+    → after_checks (uint32 check ++ (uint32 check ++ rest)) ≡ Ok rest
 unfolding after_checks
 checks_again check rest fits = rw (uint32_at-uint32 check (uint32 check ++ rest) fits, uint32_at-uint32 check rest fits, eq-eqb check check refl) refl

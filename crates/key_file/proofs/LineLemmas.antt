@@ -24,14 +24,16 @@ record IsKeyOf (type made blob : List ℕ) (read : Result KeyParts KeyFault) : T
   named : key.type_name ≡ type
   same : made ≡ blob
 
-key_of : (type made blob : List ℕ) (read : Result KeyParts KeyFault) → of_type type made read ≡ Ok blob → IsKeyOf type made blob read
+key_of : (type made blob : List ℕ) (read : Result KeyParts KeyFault)
+    → of_type type made read ≡ Ok blob → IsKeyOf type made blob read
 key_of type made blob (Ok key) e =
     let g = guard_ok (bytes_eq key.type_name type) OtherType made blob e in
     record { key = key; is = refl; named = (bytes_eq-Decides key.type_name type).0 g.0; same = g.1 }
 key_of type made blob (Err fault) e = absurd cc
 
 -- what is read is the blob of a key of the type
-pub typed_is_found : (type text blob : List ℕ) → IsBytes text → typed_key type text ≡ Ok blob → IsTyped type text blob
+pub typed_is_found : (type text blob : List ℕ) → IsBytes text → typed_key type text ≡ Ok blob
+    → IsTyped type text blob
 unfolding typed_key
 typed_is_found type text blob small read =
     let a = line_bind_ok (ok_or (bytes_of text) Base64) (λ made. of_type type made (public_key_of made)) blob read in
@@ -47,7 +49,8 @@ typed_is_found type text blob small read =
     }
 
 -- the blob of a key of the type is read
-pub typed_is_read : (type text blob : List ℕ) → IsTyped type text blob → typed_key type text ≡ Ok blob
+pub typed_is_read : (type text blob : List ℕ) → IsTyped type text blob
+    → typed_key type text ≡ Ok blob
 unfolding typed_key
 typed_is_read type text blob is =
     rw (
@@ -66,11 +69,13 @@ not_carried key_fault.Mismatch e = cc
 not_carried key_fault.Trailing e = cc
 not_carried key_fault.Memory e = cc
 
-guard_fault : (b : Bool) (blob : List ℕ) → cond b (Ok blob) (Err OtherType) ≡ Err (Key key_fault.Memory) → ⊥
+guard_fault : (b : Bool) (blob : List ℕ)
+    → cond b (Ok blob) (Err OtherType) ≡ Err (Key key_fault.Memory) → ⊥
 guard_fault true blob e = cc
 guard_fault false blob e = cc
 
-key_fault_of : (type made : List ℕ) (read : Result KeyParts KeyFault) → of_type type made read ≡ Err (Key key_fault.Memory) → ⊥
+key_fault_of : (type made : List ℕ) (read : Result KeyParts KeyFault)
+    → of_type type made read ≡ Err (Key key_fault.Memory) → ⊥
 key_fault_of type made (Ok key) e = guard_fault (bytes_eq key.type_name type) made e
 key_fault_of type made (Err fault) e = not_carried fault cc
 
@@ -78,7 +83,8 @@ key_fault_of type made (Err fault) e = not_carried fault cc
 abbrev line_step : List ℕ → Option (List ℕ) → Result (List ℕ) PubFault
 line_step type decoded = ok_or decoded Base64 >>= λ made. of_type type made (public_key_of made)
 
-fault_by : (type : List ℕ) (decoded : Option (List ℕ)) → (line_step type decoded) ≡ Err (Key key_fault.Memory) → ⊥
+fault_by : (type : List ℕ) (decoded : Option (List ℕ))
+    → (line_step type decoded) ≡ Err (Key key_fault.Memory) → ⊥
 fault_by type (Some made) e = key_fault_of type made (public_key_of made) e
 fault_by type None e = cc
 

@@ -17,15 +17,18 @@ use Rattle.key_file.specs.PlainKeys.{plain_key_at}
 abbrev pub CarriesNone : {A : Type 0} → Result A KeyFileFault → Type 0
 CarriesNone r = r ≡ Err (Key key_fault.Memory) → ⊥
 
-then_none : {A B : Type 0} (r : Result A KeyFileFault) (f : A → Result B KeyFileFault) → CarriesNone r → ((x : A) → CarriesNone (f x)) → CarriesNone (r >>= f)
+then_none : {A B : Type 0} (r : Result A KeyFileFault) (f : A → Result B KeyFileFault)
+    → CarriesNone r → ((x : A) → CarriesNone (f x)) → CarriesNone (r >>= f)
 then_none (Ok x) f first second e = second x e
 then_none (Err fault) f first second e = first cc
 
-or_none : {A : Type 0} (o : Option A) (fault : KeyFileFault) → (fault ≡ Key key_fault.Memory → ⊥) → CarriesNone (ok_or o fault)
+or_none : {A : Type 0} (o : Option A) (fault : KeyFileFault) → (fault ≡ Key key_fault.Memory → ⊥)
+    → CarriesNone (ok_or o fault)
 or_none (Some x) fault other e = cc
 or_none None fault other e = other cc
 
-guard_none : {A : Type 0} (b : Bool) (x : A) (fault : KeyFileFault) → (fault ≡ Key key_fault.Memory → ⊥) → CarriesNone (cond b (Ok x) (Err fault))
+guard_none : {A : Type 0} (b : Bool) (x : A) (fault : KeyFileFault)
+    → (fault ≡ Key key_fault.Memory → ⊥) → CarriesNone (cond b (Ok x) (Err fault))
 guard_none true x fault other e = cc
 guard_none false x fault other e = other cc
 

@@ -23,7 +23,8 @@ parts-mark mark text end found =
     grind (arith, common_steps, position-Some (is_mark mark) text end 0 found, slice_split_first (is_mark mark) text 0)
 
 -- a text without the mark is one part
-pub parts-none : (mark : ℕ) (text : List ℕ) → position (is_mark mark) text ≡ None → parts mark text ≡ text ∷ []
+pub parts-none : (mark : ℕ) (text : List ℕ) → position (is_mark mark) text ≡ None
+    → parts mark text ≡ text ∷ []
 parts-none mark text none =
     let past : length text ≤ position_or_len (is_mark mark) text = grind (arith, nat_tests) in
     slice_split_none (is_mark mark) text (λ k d within. fails_before_first (is_mark mark) text k d (omega arith))
@@ -34,11 +35,13 @@ parts-none mark text none =
 abbrev pub HasNo : ℕ → List ℕ → Type 0
 HasNo mark text = All (λ byte. byte ≢ mark) text
 
-pub has_none : (mark : ℕ) (text : List ℕ) → HasNo mark text → All (λ byte. is_mark mark byte ≡ false) text
+pub has_none : (mark : ℕ) (text : List ℕ) → HasNo mark text
+    → All (λ byte. is_mark mark byte ≡ false) text
 has_none mark text free = λ i d within. ne_eqb (get_or text i d) mark (free i d within)
 
 -- the first part of a text that begins without the mark
-pub first-append : (mark : ℕ) (front rest : List ℕ) → HasNo mark front → first (parts mark (front ++ rest)) ≡ front ++ first (parts mark rest)
+pub first-append : (mark : ℕ) (front rest : List ℕ) → HasNo mark front
+    → first (parts mark (front ++ rest)) ≡ front ++ first (parts mark rest)
 first-append mark [] rest free = refl
 first-append mark (x ∷ front) rest free =
     let differs : is_mark mark x ≡ false = ne_eqb x mark (free 0 0 (omega arith)) in
@@ -50,7 +53,8 @@ first-append mark (x ∷ front) rest free =
     first_onto y (one ∷ more) = refl
 
 -- a text in front of a mark is the first part
-pub parts-at : (mark : ℕ) (front rest : List ℕ) → HasNo mark front → parts mark (front ++ mark ∷ rest) ≡ front ∷ parts mark rest
+pub parts-at : (mark : ℕ) (front rest : List ℕ) → HasNo mark front
+    → parts mark (front ++ mark ∷ rest) ≡ front ∷ parts mark rest
 parts-at mark front rest free = slice_split_at (is_mark mark) front mark rest (has_none mark front free) (eq-eqb mark mark refl)
 
 pub parts-whole : (mark : ℕ) (text : List ℕ) → HasNo mark text → parts mark text ≡ text ∷ []
@@ -88,7 +92,8 @@ front_all P front rest each = subst (All P) (take_at front rest (length front) r
 pub rest_all : (P : ℕ → Type 0) (front rest : List ℕ) → All P (front ++ rest) → All P rest
 rest_all P front rest each = subst (All P) (drop_at front rest (length front) refl) (All-drop P (length front) (front ++ rest) each)
 
-pub words_all : (P : ℕ → Type 0) (front : List ℕ) (mark : ℕ) (middle rest : List ℕ) → All P (front ++ mark ∷ (middle ++ rest)) → All P front × All P middle
+pub words_all : (P : ℕ → Type 0) (front : List ℕ) (mark : ℕ) (middle rest : List ℕ)
+    → All P (front ++ mark ∷ (middle ++ rest)) → All P front × All P middle
 words_all P front mark middle rest each = (
   front_all P front (mark ∷ (middle ++ rest)) each,
   front_all P middle rest (All-tail P mark (middle ++ rest) (rest_all P front (mark ∷ (middle ++ rest)) each)),

@@ -17,7 +17,8 @@ use Rattle.key_blob.proofs.TypeLemmas.{name_is_short}
 use Rattle.key_file.specs.PlainKeys.{is_plain, IsPlainAddition, certificate_ending, has_ending, plain_key_at}
 
 -- the names of certificates' types end so, and no other does
-ending_of : (form : Form) → IsListed form → cond (ends_with nat_eq (type_of form).name certificate_ending) false true ≡ is_plain form
+ending_of : (form : Form) → IsListed form
+    → cond (ends_with nat_eq (type_of form).name certificate_ending) false true ≡ is_plain form
 ending_of (Plain Ed25519) listed = refl
 ending_of (Plain Rsa) listed = refl
 ending_of (Plain Nistp256) listed = refl
@@ -32,7 +33,8 @@ ending_of (Certified Nistp521) listed = refl
 ending_of (Certified StandIn) listed = absurd listed
 
 -- the ending of an addition's type
-addition_ending : (key : AddedKey) (rest : List ℕ) (is : IsAddedKey key) → cond (has_ending (string_at (key.private ++ rest))) false true ≡ is_plain is.form
+addition_ending : (key : AddedKey) (rest : List ℕ) (is : IsAddedKey key)
+    → cond (has_ending (string_at (key.private ++ rest))) false true ≡ is_plain is.form
 addition_ending key rest is =
     let text : List ℕ → List ℕ = λ text. text ++ rest in
     let read = string_at-string (type_of is.form).name _ (name_is_short is.form) in
@@ -44,11 +46,13 @@ record IsUnguarded (test : Bool) (bytes : List ℕ) (x : AddedKey × List ℕ) :
   passed : test ≡ false
   read : added_key_at bytes ≡ Ok x
 
-unguarded : (test : Bool) (bytes : List ℕ) (x : AddedKey × List ℕ) → cond test (Err UnknownType) (added_key_at bytes) ≡ Ok x → IsUnguarded test bytes x
+unguarded : (test : Bool) (bytes : List ℕ) (x : AddedKey × List ℕ)
+    → cond test (Err UnknownType) (added_key_at bytes) ≡ Ok x → IsUnguarded test bytes x
 unguarded true bytes x e = absurd cc
 unguarded false bytes x e = record { passed = refl; read = e }
 
-pub plain_is_found : (bytes : List ℕ) (x : AddedKey × List ℕ) → IsBytes bytes → plain_key_at bytes ≡ Ok x → IsPlainAddition x.0 × (bytes ≡ x.0.private ++ x.1)
+pub plain_is_found : (bytes : List ℕ) (x : AddedKey × List ℕ) → IsBytes bytes
+    → plain_key_at bytes ≡ Ok x → IsPlainAddition x.0 × (bytes ≡ x.0.private ++ x.1)
 unfolding plain_key_at
 plain_is_found bytes x small e =
     let u = unguarded (has_ending (string_at bytes)) bytes x e in
@@ -61,7 +65,8 @@ not_ending : (test : Bool) → cond test false true ≡ true → test ≡ false
 not_ending true e = absurd cc
 not_ending false e = refl
 
-pub plain_is_read : (key : AddedKey) (rest : List ℕ) → IsPlainAddition key → plain_key_at (key.private ++ rest) ≡ Ok (key, rest)
+pub plain_is_read : (key : AddedKey) (rest : List ℕ) → IsPlainAddition key
+    → plain_key_at (key.private ++ rest) ≡ Ok (key, rest)
 unfolding plain_key_at
 plain_is_read key rest is =
     let passed = not_ending (has_ending (string_at (key.private ++ rest))) (addition_ending key rest is.added ∙ is.plain) in

@@ -26,17 +26,20 @@ record IsPadded (made file : KeyFile) (rest : List ℕ) : Type 0 where
   front : rest ≡ take count padding
   same : made ≡ file
 
-padded_is : (made file : KeyFile) (rest : List ℕ) → padded made rest ≡ Ok file → IsPadded made file rest
+padded_is : (made file : KeyFile) (rest : List ℕ) → padded made rest ≡ Ok file
+    → IsPadded made file rest
 padded_is made file rest e =
     let g = guard_ok (bytes_eq (take (length rest) padding) rest) Padding made file e in
     let same = (bytes_eq-Decides (take (length rest) padding) rest).0 g.0 in
     record { count = length rest; few = omega (arith, ap length same, length-take (length rest) padding); front = sym same; same = g.1 }
 
-joined : (bytes check key comment pad a b c : List ℕ) → bytes ≡ check ++ (check ++ a) → a ≡ key ++ b → b ≡ comment ++ c → c ≡ pad →
+joined : (bytes check key comment pad a b c : List ℕ) → bytes ≡ check ++ (check ++ a)
+    → a ≡ key ++ b → b ≡ comment ++ c → c ≡ pad →
     bytes ≡ (check ++ (check ++ (key ++ comment))) ++ pad
 joined bytes check key comment pad a b c at_a at_b at_c at_end = rw (at_a, at_b, at_c, at_end) (simp append_assoc)
 
-pub private_is_found : (bytes : List ℕ) (file : KeyFile) → IsBytes bytes → private_of bytes ≡ Ok file → IsPrivatePart bytes file
+pub private_is_found : (bytes : List ℕ) (file : KeyFile) → IsBytes bytes
+    → private_of bytes ≡ Ok file → IsPrivatePart bytes file
 unfolding private_of
 private_is_found bytes file small read =
     let a = bind_ok (after_checks bytes) _ file read in
@@ -58,12 +61,14 @@ private_is_found bytes file small read =
       text = joined bytes (uint32 checks.check) b.0.0.private (string c.0.0) (take pad.count padding) a.0 b.0.1 c.0.1 checks.parts key.1 comment.parts pad.front;
     })
 
-front_of_front : (count : ℕ) → count ≤ 7 → take (length (take count padding)) padding ≡ take count padding
+front_of_front : (count : ℕ) → count ≤ 7
+    → take (length (take count padding)) padding ≡ take count padding
 front_of_front count few =
     let len : length (take count padding) ≡ count = omega (arith, length-take count padding) in
     ap (λ (n : ℕ). take n padding) len
 
-pub private_is_read : (bytes : List ℕ) (file : KeyFile) → IsPrivatePart bytes file → private_of bytes ≡ Ok file
+pub private_is_read : (bytes : List ℕ) (file : KeyFile) → IsPrivatePart bytes file
+    → private_of bytes ≡ Ok file
 unfolding private_of
 private_is_read bytes file is =
     let pad = take is.padded padding in

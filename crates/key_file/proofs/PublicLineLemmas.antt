@@ -96,10 +96,12 @@ words_of line blob e = elim (cut_cases 32 line) [
       ]
 ]
 
-regrouped : (type encoded rest more : List ℕ) → (type ++ 32 ∷ (encoded ++ rest)) ++ more ≡ type ++ 32 ∷ (encoded ++ (rest ++ more))
+regrouped : (type encoded rest more : List ℕ)
+    → (type ++ 32 ∷ (encoded ++ rest)) ++ more ≡ type ++ 32 ∷ (encoded ++ (rest ++ more))
 regrouped type encoded rest more = append_assoc type (32 ∷ (encoded ++ rest)) more ∙ ap (λ (t : List ℕ). type ++ 32 ∷ t) (append_assoc encoded rest more)
 
-pub line_is_found : (text blob : List ℕ) → IsBytes text → line_key text ≡ Ok blob → IsPublicLine text blob
+pub line_is_found : (text blob : List ℕ) → IsBytes text → line_key text ≡ Ok blob
+    → IsPublicLine text blob
 unfolding line_key
 line_is_found text blob small e =
     let line = first_of 10 text in

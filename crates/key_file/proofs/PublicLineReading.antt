@@ -18,18 +18,21 @@ abbrev line_end : List ℕ → List ℕ
 line_end rest = first (parts 10 rest)
 
 -- it is nothing, or a space and more
-ends_so : (rest : List ℕ) → EndsWord rest → (line_end rest ≡ []) ⊎ ((more : List ℕ) × (line_end rest ≡ 32 ∷ more))
+ends_so : (rest : List ℕ) → EndsWord rest
+    → (line_end rest ≡ []) ⊎ ((more : List ℕ) × (line_end rest ≡ 32 ∷ more))
 ends_so [] end = inl refl
 ends_so (byte ∷ rest) (inl space) = inr (line_end rest, ap (λ (b : ℕ). line_end (b ∷ rest)) space ∙ first-append 10 (32 ∷ []) rest space_goes_on)
 ends_so (byte ∷ rest) (inr feed) = inl (ap (λ (b : ℕ). line_end (b ∷ rest)) feed)
 
-first_line : (type encoded rest : List ℕ) → IsWord type → IsWord encoded → first (parts 10 (type ++ 32 ∷ (encoded ++ rest))) ≡ type ++ 32 ∷ (encoded ++ line_end rest)
+first_line : (type encoded rest : List ℕ) → IsWord type → IsWord encoded
+    → first (parts 10 (type ++ 32 ∷ (encoded ++ rest))) ≡ type ++ 32 ∷ (encoded ++ line_end rest)
 first_line type encoded rest is_type is_encoded =
     first-append 10 type (32 ∷ (encoded ++ rest)) (no_end type is_type)
     ∙ ap (λ (t : List ℕ). type ++ t) (first-append 10 (32 ∷ []) (encoded ++ rest) space_goes_on)
     ∙ ap (λ (t : List ℕ). type ++ 32 ∷ t) (first-append 10 encoded rest (no_end encoded is_encoded))
 
-encoded_first : (encoded end : List ℕ) → HasNo 32 encoded → (end ≡ []) ⊎ ((more : List ℕ) × (end ≡ 32 ∷ more)) →
+encoded_first : (encoded end : List ℕ) → HasNo 32 encoded
+    → (end ≡ []) ⊎ ((more : List ℕ) × (end ≡ 32 ∷ more)) →
     (others : List (List ℕ)) × (parts 32 (encoded ++ end) ≡ encoded ∷ others)
 encoded_first encoded end free (inl none) = ([], ap (λ (t : List ℕ). parts 32 (encoded ++ t)) none ∙ ap (parts 32) (append-nil encoded) ∙ parts-whole 32 encoded free)
 encoded_first encoded end free (inr more) = (parts 32 more.0, ap (λ (t : List ℕ). parts 32 (encoded ++ t)) more.1 ∙ parts-at 32 encoded more.0 free)

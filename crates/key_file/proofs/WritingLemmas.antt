@@ -12,7 +12,8 @@ use Rattle.key_file.proofs.BodyLemmas.{body_is_read}
 abbrev missing : ℕ → ℕ
 missing len = (8 - len % 8) % 8
 
-length-fields : (check : ℕ) (file : KeyFile) → length (private_fields check file) ≡ length file.key.private + length file.comment + 12
+length-fields : (check : ℕ) (file : KeyFile)
+    → length (private_fields check file) ≡ length file.key.private + length file.comment + 12
 length-fields check file =
     let outer = length-append (uint32 check) (uint32 check ++ (file.key.private ++ string file.comment)) in
     let middle = length-append (uint32 check) (file.key.private ++ string file.comment) in
@@ -39,7 +40,8 @@ below_last len count whole small = omega arith
 above_last : (len : ℕ) → len + 7 < 2 ^ 32 → len + missing len < 2 ^ 32
 above_last len small = omega (arith, missing_few len)
 
-pub body_is_written : (bytes : List ℕ) (file : KeyFile) → IsBody bytes file → (check : ℕ) × (check < 2 ^ 32) × IsWritable file × (bytes ≡ body_bytes check file)
+pub body_is_written : (bytes : List ℕ) (file : KeyFile) → IsBody bytes file
+    → (check : ℕ) × (check < 2 ^ 32) × IsWritable file × (bytes ≡ body_bytes check file)
 unfolding body_bytes
 body_is_written bytes file is =
     let fields = private_fields is.part.check file in
@@ -59,7 +61,8 @@ body_is_written bytes file is =
       is.text ∙ ap (body_with file.key.blob) filled,
     )
 
-pub written_is_body : (file : KeyFile) (check : ℕ) → check < 2 ^ 32 → IsWritable file → IsBody (body_bytes check file) file
+pub written_is_body : (file : KeyFile) (check : ℕ) → check < 2 ^ 32 → IsWritable file
+    → IsBody (body_bytes check file) file
 unfolding body_bytes
 written_is_body file check fits is =
     let fields = private_fields check file in
@@ -84,5 +87,6 @@ written_is_body file check fits is =
       text = refl;
     }
 
-pub written_is_read : (file : KeyFile) (check : ℕ) → check < 2 ^ 32 → IsWritable file → body_of (body_bytes check file) ≡ Ok file
+pub written_is_read : (file : KeyFile) (check : ℕ) → check < 2 ^ 32 → IsWritable file
+    → body_of (body_bytes check file) ≡ Ok file
 written_is_read file check fits is = body_is_read (body_bytes check file) file (written_is_body file check fits is)

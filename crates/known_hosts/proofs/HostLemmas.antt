@@ -22,7 +22,8 @@ record IsDigest (salt digest : Option (List ℕ)) (message : List ℕ) : Type 0 
   salt_is : salt ≡ Some key
   digest_is : digest ≡ Some (hmac sha1 key message)
 
-digest_of : (salt digest : Option (List ℕ)) (message : List ℕ) → is_digest salt digest message ≡ true → IsDigest salt digest message
+digest_of : (salt digest : Option (List ℕ)) (message : List ℕ)
+    → is_digest salt digest message ≡ true → IsDigest salt digest message
 digest_of None digest message e = absurd cc
 digest_of (Some salt) None message e = absurd cc
 digest_of (Some salt) (Some digest) message e =
@@ -37,7 +38,8 @@ record IsHash (text host : List ℕ) : Type 0 where
   salt_is : IsBase64 salt_text salt
   digest_is : IsBase64 digest_text (hmac sha1 salt (lowered host))
 
-hash_by : (text host salt_text digest_text : List ℕ) → IsBytes text → text ≡ salt_text ++ 124 ∷ digest_text → is_hash salt_text digest_text (lowered host) ≡ true →
+hash_by : (text host salt_text digest_text : List ℕ) → IsBytes text
+    → text ≡ salt_text ++ 124 ∷ digest_text → is_hash salt_text digest_text (lowered host) ≡ true →
     IsHash text host
 unfolding is_hash
 hash_by text host salt_text digest_text small whole e =
@@ -53,7 +55,8 @@ hash_by text host salt_text digest_text small whole e =
       digest_is = decoded_is digest_text (hmac sha1 digest.key (lowered host)) behind digest.digest_is;
     }
 
-three_parts : (salt digest more : List ℕ) (rest message : List ℕ) → is_hash_in (salt ∷ digest ∷ parts 124 rest) message ≡ true → ⊥
+three_parts : (salt digest more : List ℕ) (rest message : List ℕ)
+    → is_hash_in (salt ∷ digest ∷ parts 124 rest) message ≡ true → ⊥
 three_parts salt digest more rest message e = elim (cut_cases 124 rest) [
   | inl none ↦ absurd (cc (rw (parts-whole 124 rest none) at e))
   | inr cut ↦
@@ -61,7 +64,8 @@ three_parts salt digest more rest message e = elim (cut_cases 124 rest) [
       absurd (cc (rw split at e))
 ]
 
-hash_of : (text host : List ℕ) → IsBytes text → is_hashed text (lowered host) ≡ true → IsHash text host
+hash_of : (text host : List ℕ) → IsBytes text → is_hashed text (lowered host) ≡ true
+    → IsHash text host
 unfolding is_hashed
 hash_of text host small e = elim (cut_cases 124 text) [
   | inl none ↦ absurd (cc (rw (parts-whole 124 text none) at e))
@@ -92,11 +96,13 @@ hash_again text host is =
 
 -- ---- the field
 
-pub takes_in_is : (field host : List ℕ) → IsBytes field → takes_in field host ≡ true → TakesIn field host
+pub takes_in_is : (field host : List ℕ) → IsBytes field → takes_in field host ≡ true
+    → TakesIn field host
 unfolding takes_in
 takes_in_is field host small e = by_test (starts_with nat_eq field hashed_mark) refl e
   where
-    by_test : (test : Bool) → starts_with nat_eq field hashed_mark ≡ test → cond test (is_hashed (drop 3 field) (lowered host)) (is_in_list host field) ≡ true →
+    by_test : (test : Bool) → starts_with nat_eq field hashed_mark ≡ test
+        → cond test (is_hashed (drop 3 field) (lowered host)) (is_in_list host field) ≡ true →
         TakesIn field host
     by_test true begins e =
         let whole = (starts_is Decides-eqb field hashed_mark _ refl).0 begins in
@@ -113,7 +119,8 @@ takes_in_is field host small e = by_test (starts_with nat_eq field hashed_mark) 
     by_test false begins e =
         by_list field host (λ text same. let is = (starts_is Decides-eqb field hashed_mark _ refl).1 text same in cc (begins, is)) ((in_list host field).0 e)
 
-begins_false : (field : List ℕ) (test : Bool) → starts_with nat_eq field hashed_mark ≡ test → ((text : List ℕ) → field ≢ hashed_mark ++ text) → test ≡ false
+begins_false : (field : List ℕ) (test : Bool) → starts_with nat_eq field hashed_mark ≡ test
+    → ((text : List ℕ) → field ≢ hashed_mark ++ text) → test ≡ false
 begins_false field true begins other = absurd (other (drop 3 field) ((starts_is Decides-eqb field hashed_mark _ refl).0 begins))
 begins_false field false begins other = refl
 

@@ -28,7 +28,8 @@ record AreBytes (entry : Entry) : Type 0 where
   hosts : IsBytes entry.hosts
   encoded : IsBytes entry.encoded
 
-three_bytes : (markers : List (List ℕ)) (hosts type encoded : List ℕ) (more : List (List ℕ)) → All IsBytes (markers ++ (hosts ∷ type ∷ encoded ∷ more)) →
+three_bytes : (markers : List (List ℕ)) (hosts type encoded : List ℕ) (more : List (List ℕ))
+    → All IsBytes (markers ++ (hosts ∷ type ∷ encoded ∷ more)) →
     IsBytes hosts × IsBytes encoded
 three_bytes [] hosts type encoded more each = (each 0 [] (omega arith), each 2 [] (omega arith))
 three_bytes (marker ∷ others) hosts type encoded more each = three_bytes others hosts type encoded more (All-tail IsBytes marker (others ++ (hosts ∷ type ∷ encoded ∷ more)) each)
@@ -37,7 +38,8 @@ record IsEntryKey (entry : Entry) (key : KeySpec) : Type 0 where
   typed : typed_key entry.type_name entry.encoded ≡ Ok key.blob
   authority : key.authority ≡ entry.authority
 
-key_by : (entry : Entry) (key : KeySpec) (read : Result (List ℕ) PubFault) → typed_key entry.type_name entry.encoded ≡ read →
+key_by : (entry : Entry) (key : KeySpec) (read : Result (List ℕ) PubFault)
+    → typed_key entry.type_name entry.encoded ≡ read →
     option_map (λ (blob : List ℕ). record { blob = blob; authority = entry.authority }) (result_ok read) ≡ Some key → IsEntryKey entry key
 key_by entry key (Ok blob) is e =
     let made : KeySpec = record { blob = blob; authority = entry.authority } in
@@ -49,11 +51,14 @@ record IsTaken (host : List ℕ) (entry : Entry) (key : KeySpec) : Type 0 where
   taken : takes_in entry.hosts host ≡ true
   key_is : entry_key entry ≡ Some key
 
-taken_by : (host : List ℕ) (entry : Entry) (key : KeySpec) (test : Bool) → takes_in entry.hosts host ≡ test → cond test (entry_key entry) None ≡ Some key → IsTaken host entry key
+taken_by : (host : List ℕ) (entry : Entry) (key : KeySpec) (test : Bool)
+    → takes_in entry.hosts host ≡ test → cond test (entry_key entry) None ≡ Some key
+    → IsTaken host entry key
 taken_by host entry key true is e = record { taken = is; key_is = e }
 taken_by host entry key false is e = absurd cc
 
-line_by : (host line : List ℕ) (key : KeySpec) (found : Option Entry) → IsBytes line → entry_in line ≡ found → key_for host found ≡ Some key → IsLineKey host line key
+line_by : (host line : List ℕ) (key : KeySpec) (found : Option Entry) → IsBytes line
+    → entry_in line ≡ found → key_for host found ≡ Some key → IsLineKey host line key
 line_by host line key None small is e = absurd cc
 line_by host line key (Some entry) small is e =
     let t = taken_by host entry key (takes_in entry.hosts host) refl e in
@@ -68,14 +73,16 @@ line_by host line key (Some entry) small is e =
       authority = k.authority;
     }
 
-pub line_is_found : (host line : List ℕ) (key : KeySpec) → IsBytes line → line_key host line ≡ Some key → IsLineKey host line key
+pub line_is_found : (host line : List ℕ) (key : KeySpec) → IsBytes line
+    → line_key host line ≡ Some key → IsLineKey host line key
 unfolding line_key
 line_is_found host line key small e = line_by host line key (entry_in line) small refl e
 
 key_with : (key : KeySpec) (authority : Bool) → key.authority ≡ authority → Some (record { blob = key.blob; authority = authority }) ≡ Some key
 key_with key authority same = ap (λ (a : Bool). Some (record { blob = key.blob; authority = a })) (sym same)
 
-pub line_is_read : (host line : List ℕ) (key : KeySpec) → IsLineKey host line key → line_key host line ≡ Some key
+pub line_is_read : (host line : List ℕ) (key : KeySpec) → IsLineKey host line key
+    → line_key host line ≡ Some key
 unfolding line_key
 line_is_read host line key is =
     rw (
@@ -84,11 +91,13 @@ line_is_read host line key is =
       typed_is_read is.entry.type_name is.entry.encoded key.blob is.typed,
     ) (key_with key is.entry.authority is.authority)
 
-other_host : (field host : List ℕ) (test : Bool) → IsBytes field → takes_in field host ≡ test → (TakesIn field host → ⊥) → test ≡ false
+other_host : (field host : List ℕ) (test : Bool) → IsBytes field → takes_in field host ≡ test
+    → (TakesIn field host → ⊥) → test ≡ false
 other_host field host true small is other = absurd (other (takes_in_is field host small is))
 other_host field host false small is other = refl
 
-pub others_add_nothing : (host line : List ℕ) (entry : Entry) → IsBytes line → IsEntry line entry → (TakesIn entry.hosts host → ⊥) → line_key host line ≡ None
+pub others_add_nothing : (host line : List ℕ) (entry : Entry) → IsBytes line → IsEntry line entry
+    → (TakesIn entry.hosts host → ⊥) → line_key host line ≡ None
 unfolding line_key
 others_add_nothing host line entry small is other =
     let bytes = three_bytes (markers entry.authority) entry.hosts entry.type_name entry.encoded is.more (subst (All IsBytes) is.fields (field_bytes line small)) in
@@ -98,17 +107,20 @@ revoked_by : (host : List ℕ) (comment : Bool) → key_for host (cond comment N
 revoked_by host true = refl
 revoked_by host false = refl
 
-pub revoked_adds_nothing : (host line : List ℕ) (rest : List (List ℕ)) → fields_of line ≡ codes "@revoked" ∷ rest → line_key host line ≡ None
+pub revoked_adds_nothing : (host line : List ℕ) (rest : List (List ℕ))
+    → fields_of line ≡ codes "@revoked" ∷ rest → line_key host line ≡ None
 unfolding line_key entry_in marked_entry
 revoked_adds_nothing host line rest fields = rw fields (revoked_by host _)
 
 -- ---- a file
 
-onto_keys : (key : Option KeySpec) (keys : List KeySpec) → cons_option key keys ≡ option_to_list key ++ keys
+onto_keys : (key : Option KeySpec) (keys : List KeySpec)
+    → cons_option key keys ≡ option_to_list key ++ keys
 onto_keys (Some key) keys = refl
 onto_keys None keys = refl
 
-pub keys_behind : (host line rest : List ℕ) → IsLine line → host_keys_of (line ++ 10 ∷ rest) host ≡ option_to_list (line_key host (without_return line)) ++ host_keys_of rest host
+pub keys_behind : (host line rest : List ℕ) → IsLine line
+    → host_keys_of (line ++ 10 ∷ rest) host ≡ option_to_list (line_key host (without_return line)) ++ host_keys_of rest host
 unfolding host_keys_of
 keys_behind host line rest is =
     ap (keys_in host) (parts-at 10 line rest is) ∙ onto_keys (line_key host (without_return line)) (keys_in host (parts Line rest))

@@ -6,7 +6,8 @@ use Rattle.pattern_core.proofs.ListLemmas.{MatchesList-tests}
 use Rattle.known_hosts.specs.Hosts.{is_in_list}
 
 -- the test takes in the host exactly where the list does
-pub in_list : (host patterns : List ℕ) → (is_in_list host patterns ≡ true) ↔ MatchesList host patterns
+pub in_list : (host patterns : List ℕ)
+    → (is_in_list host patterns ≡ true) ↔ MatchesList host patterns
 in_list host patterns =
     MatchesList-tests host patterns (some_element (accepts_host (lowered host)) patterns) (some_element (rejects_host (lowered host)) patterns) refl refl
 
@@ -16,5 +17,6 @@ same_test true b P x y = sym (y.1 (x.0 refl))
 same_test false true P x y = x.1 (y.0 refl)
 same_test false false P x y = refl
 
-pub list_tested : (host patterns : List ℕ) (found : Bool) → IsTrue found ↔ MatchesList host patterns → found ≡ is_in_list host patterns
+pub list_tested : (host patterns : List ℕ) (found : Bool)
+    → IsTrue found ↔ MatchesList host patterns → found ≡ is_in_list host patterns
 list_tested host patterns found is = same_test found (is_in_list host patterns) (MatchesList host patterns) is (in_list host patterns)

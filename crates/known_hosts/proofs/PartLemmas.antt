@@ -16,7 +16,8 @@ parts-mark mark text end found =
     grind (arith, common_steps, position-Some (ends mark) text end 0 found, slice_split_first (ends mark) text 0)
 
 -- a text without such a byte is one part
-pub parts-none : (mark : Mark) (text : List ℕ) → position (ends mark) text ≡ None → parts mark text ≡ text ∷ []
+pub parts-none : (mark : Mark) (text : List ℕ) → position (ends mark) text ≡ None
+    → parts mark text ≡ text ∷ []
 parts-none mark text none =
     let past : length text ≤ position_or_len (ends mark) text = grind (arith, nat_tests) in
     slice_split_none (ends mark) text (λ k d within. fails_before_first (ends mark) text k d (omega arith))

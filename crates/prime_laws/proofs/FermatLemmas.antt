@@ -49,7 +49,8 @@ terms : (n count a : ℕ) → ℕ
 terms n zero a = 0
 terms n (suc count) a = terms n count a + choose n count * a ^ count
 
-next-term : (t s u c d w a : ℕ) → t ≡ s + a * u → t + (c + d) * (w * a) ≡ s + d * (w * a) + a * (u + c * w)
+next-term : (t s u c d w a : ℕ) → t ≡ s + a * u
+    → t + (c + d) * (w * a) ≡ s + d * (w * a) + a * (u + c * w)
 next-term t s u c d w a is =
     let opened : s + a * u + (c + d) * (w * a) ≡ s + d * (w * a) + a * (u + c * w) = omega arith in
     ap (λ k. k + (c + d) * (w * a)) is ∙ opened
@@ -57,7 +58,8 @@ next-term t s u c d w a is =
 one-term : (a k : ℕ) → k ≡ 1 → 0 + 1 * k ≡ 0 + 1 * k + a * 0
 one-term a k is = omega arith
 
-terms-of-next : (n count a : ℕ) → terms (suc n) (suc count) a ≡ terms n (suc count) a + a * terms n count a
+terms-of-next : (n count a : ℕ)
+    → terms (suc n) (suc count) a ≡ terms n (suc count) a + a * terms n count a
 unfolding terms choose
 terms-of-next n zero a = one-term a (a ^ 0) (pow-zero a)
 terms-of-next n (suc count) a =

@@ -5,7 +5,8 @@ use Rattle.std.proofs.lemmas.Bool.{cases_lt}
 use Rattle.prime_laws.specs.Primes.{HasInverse, IsPrime}
 
 -- where h x + z is n, and w is the inverse of z, (n - h) w is that of x
-inverse-products : (x k w h z n : ℕ) → h * x + z ≡ n → k + h ≡ n → x * (k * w) + w * n ≡ z * w + x * w * n
+inverse-products : (x k w h z n : ℕ) → h * x + z ≡ n → k + h ≡ n
+    → x * (k * w) + w * n ≡ z * w + x * w * n
 inverse-products x k w h z n is sum_is =
     let first : x * (k * w) + w * (h * x + z) ≡ z * w + x * w * (k + h) = omega arith in
     ap (λ m. x * (k * w) + w * m) (sym is) ∙ first ∙ ap (λ m. z * w + x * w * m) sum_is

@@ -107,12 +107,14 @@ moved-down r x f i j fits less is same =
 abbrev IsOrder : (r x f : ℕ) → Type 0
 IsOrder r x f = (d : ℕ) → x ^ d % r ≡ 1 → f ∣ d
 
-never-below : (r x f i j : ℕ) → IsOrder r x f → x ^ f % r ≡ 1 → i < j → j < f → x ^ i % r ≡ x ^ j % r → ⊥
+never-below : (r x f i j : ℕ) → IsOrder r x f → x ^ f % r ≡ 1 → i < j → j < f
+    → x ^ i % r ≡ x ^ j % r → ⊥
 never-below r x f i j order is less below same =
     let fits : f ≤ j - i = le_of_dvd (omega arith) (order (j - i) (moved-down r x f i j (omega arith) less is same)) in
     omega arith
 
-differ : (r x f i j : ℕ) → IsOrder r x f → x ^ f % r ≡ 1 → i < f → j < f → x ^ i % r ≡ x ^ j % r → i ≡ j
+differ : (r x f i j : ℕ) → IsOrder r x f → x ^ f % r ≡ 1 → i < f → j < f → x ^ i % r ≡ x ^ j % r
+    → i ≡ j
 differ r x f i j order is i_below j_below same =
     elim (cases_order i j) [
       | inl equal ↦ equal

@@ -51,7 +51,8 @@ abbrev pub has-none : (n count : ℕ) → Bool
 has-none n zero = true
 has-none n (suc count) = ltb 0 (n % suc (suc count)) && has-none n count
 
-has-none-says : (n count : ℕ) → has-none n count ≡ true → (r : ℕ) → 1 < r → r < suc (suc count) → 0 < n % r
+has-none-says : (n count : ℕ) → has-none n count ≡ true → (r : ℕ) → 1 < r → r < suc (suc count)
+    → 0 < n % r
 has-none-says n zero computed r more below = absurd (omega arith)
 has-none-says n (suc count) computed r more below =
     let parts = and_parts (ltb 0 (n % suc (suc count))) (has-none n count) computed in
@@ -63,7 +64,8 @@ has-none-says n (suc count) computed r more below =
       ]
     ]
 
-too-great : (count r n : ℕ) → suc (suc count) ≤ r → n < suc (suc count) * suc (suc count) → r * r ≤ n → ⊥
+too-great : (count r n : ℕ) → suc (suc count) ≤ r → n < suc (suc count) * suc (suc count)
+    → r * r ≤ n → ⊥
 too-great count r n fits great small = squares (suc (suc count)) r n fits great small
 
 pub prime-by-trial : (n count : ℕ) → (ltb 1 n && ltb n (suc (suc count) * suc (suc count))) ≡ true

@@ -19,7 +19,8 @@ abbrev pub seen : SpawnerView → StreamView → Seen
 seen spawner peer = record { spawner = spawner; peer = peer }
 
 -- this much of what is sent was sent
-goes_so_far : (whole : Relaying) (words : ChildWords) (heard : List ℕ) (asked : Asking) (sent rest : List ℕ) (answer : RunAnswer) → Asks whole words heard asked
+goes_so_far : (whole : Relaying) (words : ChildWords) (heard : List ℕ) (asked : Asking) (sent rest : List ℕ) (answer : RunAnswer)
+    → Asks whole words heard asked
     → sent ++ rest ≡ hello_frame words ++ verdict_frame words answer → (more : List ℕ) → GoesSoFar asked sent (whole (heard ++ more) answer)
 goes_so_far whole words heard asked sent rest answer asks is more = record {
   run = ap (λ (t : Transcript). t.asked) (asks.goes more answer);
@@ -57,7 +58,8 @@ ends_behind_run whole words heard asked granted old new start now later greeted 
     (inr (after_run whole words heard asked consults.answer old new start now greeted asks consults.run))
 
 -- the frame that tells the agent
-told_frame : (words : ChildWords) (answer : RunAnswer) (granted : Bool) → granted ≡ is_granted answer
+told_frame : (words : ChildWords) (answer : RunAnswer) (granted : Bool)
+    → granted ≡ is_granted answer
     → string (from_child_body (verdict_message words.job granted)) ≡ verdict_frame words answer
 told_frame words answer granted is = ap (λ (g : Bool). string (from_child_body (verdict_message words.job g))) is
 

@@ -28,17 +28,20 @@ either : (a b : Bool) → (a || b) ≡ true → (a ≡ true) ⊎ (b ≡ true)
 either true b is = inl refl
 either false b is = inr is
 
-consent-case : (word : List ℕ) → (nat_eq (length word) 0 ≡ true) ⊎ (str_eq_ignore_ascii_case word (codes "yes") ≡ true)
+consent-case : (word : List ℕ)
+    → (nat_eq (length word) 0 ≡ true) ⊎ (str_eq_ignore_ascii_case word (codes "yes") ≡ true)
     → (word ≡ []) ⊎ (map to_ascii_lowercase word ≡ map to_ascii_lowercase (codes "yes"))
 consent-case word (inl empty) = inl (nil_from_length word (grind (arith, nat_tests)))
 consent-case word (inr same) = inr ((bytes_eq-Decides (map to_ascii_lowercase word) (map to_ascii_lowercase (codes "yes"))).0 same)
 
-consent-word : (word : List ℕ) → is_consent word ≡ true → (word ≡ []) ⊎ (map to_ascii_lowercase word ≡ map to_ascii_lowercase (codes "yes"))
+consent-word : (word : List ℕ) → is_consent word ≡ true
+    → (word ≡ []) ⊎ (map to_ascii_lowercase word ≡ map to_ascii_lowercase (codes "yes"))
 consent-word word is =
     let says : (nat_eq (length word) 0 ≡ true) ⊎ (str_eq_ignore_ascii_case word (codes "yes") ≡ true) = either _ _ is in
     consent-case word says
 
-pub verdict-only : (status : ℤ) (output : List ℕ) → verdict_of status output ≡ true → IsConsent status output
+pub verdict-only : (status : ℤ) (output : List ℕ) → verdict_of status output ≡ true
+    → IsConsent status output
 unfolding verdict_of
 verdict-only status output is =
     let tests = both _ _ is in
@@ -48,27 +51,33 @@ or_true : (a b : Bool) → b ≡ true → (a || b) ≡ true
 or_true true b is = refl
 or_true false b is = is
 
-word-consent : (word : List ℕ) → (word ≡ []) ⊎ (map to_ascii_lowercase word ≡ map to_ascii_lowercase (codes "yes")) → is_consent word ≡ true
+word-consent : (word : List ℕ)
+    → (word ≡ []) ⊎ (map to_ascii_lowercase word ≡ map to_ascii_lowercase (codes "yes"))
+    → is_consent word ≡ true
 word-consent word (inl empty) = rw empty refl
 word-consent word (inr same) =
     let equal : str_eq_ignore_ascii_case word (codes "yes") ≡ true =
     (bytes_eq-Decides (map to_ascii_lowercase word) (map to_ascii_lowercase (codes "yes"))).1 same in
     or_true (nat_eq (length word) 0) (str_eq_ignore_ascii_case word (codes "yes")) equal
 
-pub verdict-found : (status : ℤ) (output : List ℕ) → IsConsent status output → verdict_of status output ≡ true
+pub verdict-found : (status : ℤ) (output : List ℕ) → IsConsent status output
+    → verdict_of status output ≡ true
 verdict-found status output consent = verdict-zero status output consent.zero ∙ word-consent (first_line output) consent.word
 
 -- ---- what the agent is told
 
-told-granted : (job : ℕ) (granted : Bool) → verdict_message job granted ≡ Granted job → granted ≡ true
+told-granted : (job : ℕ) (granted : Bool) → verdict_message job granted ≡ Granted job
+    → granted ≡ true
 told-granted job true is = refl
 told-granted job false is = cc is
 
-pub granted-only : (job : ℕ) (answer : RunAnswer) → verdict_message job (is_granted answer) ≡ Granted job → ConsentsBy answer
+pub granted-only : (job : ℕ) (answer : RunAnswer)
+    → verdict_message job (is_granted answer) ≡ Granted job → ConsentsBy answer
 granted-only job (Ok ran) is = record { ran = ran; ended = refl; says = verdict-only ran.status ran.output (told-granted job (verdict_of ran.status ran.output) is) }
 granted-only job (Err fault) is = cc is
 
-pub granted-found : (job : ℕ) (answer : RunAnswer) → ConsentsBy answer → verdict_message job (is_granted answer) ≡ Granted job
+pub granted-found : (job : ℕ) (answer : RunAnswer) → ConsentsBy answer
+    → verdict_message job (is_granted answer) ≡ Granted job
 granted-found job answer consents =
     ap (λ (a : RunAnswer). verdict_message job (is_granted a)) consents.ended
     ∙ ap (verdict_message job) (verdict-found consents.ran.status consents.ran.output consents.says)
@@ -76,11 +85,13 @@ granted-found job answer consents =
 -- ---- prompts
 
 -- what a choice gave
-chosen : {A : Type 0} (test : Bool) (x y : A) → (if test then Some x else None) ≡ Some y → (test ≡ true) × (x ≡ y)
+chosen : {A : Type 0} (test : Bool) (x y : A) → (if test then Some x else None) ≡ Some y
+    → (test ≡ true) × (x ≡ y)
 chosen true x y is = (refl, cc is)
 chosen false x y is = cc is
 
-shown-only : (job number : ℕ) (asked prompt : List ℕ) → shown_for job number asked ≡ Some prompt → (number ≡ job) × (is_plain asked ≡ true) × (asked ≡ prompt)
+shown-only : (job number : ℕ) (asked prompt : List ℕ) → shown_for job number asked ≡ Some prompt
+    → (number ≡ job) × (is_plain asked ≡ true) × (asked ≡ prompt)
 shown-only job number asked prompt is =
     let shows = chosen (nat_eq number job && is_plain asked) asked prompt is in
     let tests = both (nat_eq number job) (is_plain asked) shows.0 in
@@ -88,7 +99,8 @@ shown-only job number asked prompt is =
     let same : number ≡ job = grind (arith, nat_tests) in
     (same, tests.1, shows.1)
 
-prompt-message : (job : ℕ) (body prompt : List ℕ) (read : Result ToChildMessage ChildFault) → to_child_of body ≡ read → prompt_in job (result_ok read) ≡ Some prompt
+prompt-message : (job : ℕ) (body prompt : List ℕ) (read : Result ToChildMessage ChildFault)
+    → to_child_of body ≡ read → prompt_in job (result_ok read) ≡ Some prompt
     → IsPromptOf job body prompt
 prompt-message job body prompt (Ok (Confirm number asked)) read is =
     let shows = shown-only job number asked prompt is in
@@ -100,11 +112,13 @@ prompt-message job body prompt (Ok (Sign request)) read is = cc is
 prompt-message job body prompt (Ok (Verify request)) read is = cc is
 prompt-message job body prompt (Err fault) read is = cc is
 
-pub prompt-only : (job : ℕ) (body prompt : List ℕ) → prompt_of job body ≡ Some prompt → IsPromptOf job body prompt
+pub prompt-only : (job : ℕ) (body prompt : List ℕ) → prompt_of job body ≡ Some prompt
+    → IsPromptOf job body prompt
 unfolding prompt_of
 prompt-only job body prompt is = prompt-message job body prompt (to_child_of body) refl is
 
-pub prompt-found : (job : ℕ) (body prompt : List ℕ) → IsPromptOf job body prompt → prompt_of job body ≡ Some prompt
+pub prompt-found : (job : ℕ) (body prompt : List ℕ) → IsPromptOf job body prompt
+    → prompt_of job body ≡ Some prompt
 prompt-found job body prompt is =
     let plain = is.plain in
     prompt_of-message job body (Confirm job prompt) is.read ∙ grind (arith, nat_tests, plain)

@@ -11,23 +11,27 @@ use Rattle.rsa_verify.proofs.VerifyingLemmas.{size-bounds}
 use Rattle.rsa_sign.specs.Keys.{has_factor_size, has_key_sizes, signature, signed, signed_by, signed_sized}
 use Rattle.rsa_sign.specs.Signing.{power}
 
-factor-bounds : (factor : List ℕ) → has_factor_size factor ≡ true → (9 ≤ length factor) × (length factor ≤ 512)
+factor-bounds : (factor : List ℕ) → has_factor_size factor ≡ true
+    → (9 ≤ length factor) × (length factor ≤ 512)
 unfolding has_factor_size
 factor-bounds factor is =
     let parts = and_parts (nat_lt 8 (length factor)) (nat_le (length factor) 512) is in
     (omega (arith, ltb-true 8 (length factor) parts.0), leb-true (length factor) 512 parts.1)
 
 -- the size of a factor by the number of its octets
-pub factor-long : (factor : List ℕ) → 8 < length factor → nat_le (length factor) 512 ≡ has_factor_size factor
+pub factor-long : (factor : List ℕ) → 8 < length factor
+    → nat_le (length factor) 512 ≡ has_factor_size factor
 unfolding has_factor_size
 factor-long factor long = rw (lt-ltb 8 (length factor) long) refl
 
-pub factor-short : (factor : List ℕ) → length factor ≤ 8 → nat_lt 8 (length factor) ≡ has_factor_size factor
+pub factor-short : (factor : List ℕ) → length factor ≤ 8
+    → nat_lt 8 (length factor) ≡ has_factor_size factor
 unfolding has_factor_size
 factor-short factor short = rw (le-ltb 8 (length factor) short) refl
 
 -- each of the sizes of a key in turn
-pub sizes-modulus : (modulus d p q iqmp : List ℕ) → has_size modulus ≡ false → false ≡ has_key_sizes modulus d p q iqmp
+pub sizes-modulus : (modulus d p q iqmp : List ℕ) → has_size modulus ≡ false
+    → false ≡ has_key_sizes modulus d p q iqmp
 unfolding has_key_sizes
 sizes-modulus modulus d p q iqmp is = rw is refl
 
@@ -65,7 +69,8 @@ pub record Sizes (modulus d p q iqmp : List ℕ) : Type 0 where
   pub d_fits : length d ≤ length modulus
   pub iqmp_fits : length iqmp ≤ length p
 
-pub sizes-of : (modulus d p q iqmp : List ℕ) → has_key_sizes modulus d p q iqmp ≡ true → Sizes modulus d p q iqmp
+pub sizes-of : (modulus d p q iqmp : List ℕ) → has_key_sizes modulus d p q iqmp ≡ true
+    → Sizes modulus d p q iqmp
 unfolding has_key_sizes
 sizes-of modulus d p q iqmp is =
     let first =
@@ -89,19 +94,22 @@ sizes-of modulus d p q iqmp is =
     }
 
 -- another size, and the right one
-pub sized-none : (modulus : List ℕ) (e : ℕ) (d p q iqmp info : List ℕ) → has_key_sizes modulus d p q iqmp ≡ false
+pub sized-none : (modulus : List ℕ) (e : ℕ) (d p q iqmp info : List ℕ)
+    → has_key_sizes modulus d p q iqmp ≡ false
     → signed_sized modulus e d p q iqmp info ≡ None
 unfolding signed_sized
 sized-none modulus e d p q iqmp info is = rw is refl
 
-pub sized-some : (modulus : List ℕ) (e : ℕ) (d p q iqmp info : List ℕ) → has_key_sizes modulus d p q iqmp ≡ true
+pub sized-some : (modulus : List ℕ) (e : ℕ) (d p q iqmp info : List ℕ)
+    → has_key_sizes modulus d p q iqmp ≡ true
     → signed_sized modulus e d p q iqmp info
     ≡ signed_by modulus e (os2ip d) (os2ip p) (os2ip q) (os2ip iqmp) info
 unfolding signed_sized
 sized-some modulus e d p q iqmp info is = rw is refl
 
 -- zeros in front are dropped
-pub signed-is : (modulus : List ℕ) (e : ℕ) (d p q iqmp info n' d' p' q' iqmp' : List ℕ) → n' ≡ significant modulus
+pub signed-is : (modulus : List ℕ) (e : ℕ) (d p q iqmp info n' d' p' q' iqmp' : List ℕ)
+    → n' ≡ significant modulus
     → d' ≡ significant d → p' ≡ significant p → q' ≡ significant q → iqmp' ≡ significant iqmp
     → signed modulus e d p q iqmp info ≡ signed_sized n' e d' p' q' iqmp' info
 unfolding signed
@@ -131,7 +139,8 @@ signature-is modulus d p q iqmp info message made message_is size is =
     ∙ ap (λ k. i2osp (power p q d iqmp (os2ip k)) (length modulus)) message_is
 
 -- a signature that verifies, and one that doesn't
-pub signed-some : (modulus : List ℕ) (e d p q iqmp : ℕ) (info made : List ℕ) → nat_eq (p % 2) 1 ≡ true
+pub signed-some : (modulus : List ℕ) (e d p q iqmp : ℕ) (info made : List ℕ)
+    → nat_eq (p % 2) 1 ≡ true
     → nat_eq (q % 2) 1 ≡ true → made ≡ signature modulus d p q iqmp info → accepts modulus e info made ≡ true
     → signed_by modulus e d p q iqmp info ≡ Some made
 unfolding signed_by
@@ -140,7 +149,8 @@ signed-some modulus e d p q iqmp info made p_odd q_odd is verifies =
     ap (accepts modulus e info) (sym is) ∙ verifies in
     rw (p_odd, q_odd, v) (ap Some (sym is))
 
-pub signed-none : (modulus : List ℕ) (e d p q iqmp : ℕ) (info made : List ℕ) → nat_eq (p % 2) 1 ≡ true
+pub signed-none : (modulus : List ℕ) (e d p q iqmp : ℕ) (info made : List ℕ)
+    → nat_eq (p % 2) 1 ≡ true
     → nat_eq (q % 2) 1 ≡ true → made ≡ signature modulus d p q iqmp info → accepts modulus e info made ≡ false
     → signed_by modulus e d p q iqmp info ≡ None
 unfolding signed_by
@@ -168,12 +178,14 @@ leads-of words octets long size leads is =
     omega (arith, os2ip-leads octets k r parts leads, is)
 
 -- the first octet of what has no zeros in front
-pub leads-from : (octets all : List ℕ) → octets ≡ significant all → 0 < length octets → 1 ≤ get_or octets 0 0
+pub leads-from : (octets all : List ℕ) → octets ≡ significant all → 0 < length octets
+    → 1 ≤ get_or octets 0 0
 leads-from octets all is some =
     let there : 0 < length (significant all) = rw (← is) some in
     rw is (significant-leads all there)
 
 -- equal numbers
-pub signed_by-same : (modulus : List ℕ) (e : ℕ) (info : List ℕ) (d p q iqmp d' p' q' iqmp' : ℕ) → d' ≡ d → p' ≡ p → q' ≡ q
+pub signed_by-same : (modulus : List ℕ) (e : ℕ) (info : List ℕ) (d p q iqmp d' p' q' iqmp' : ℕ)
+    → d' ≡ d → p' ≡ p → q' ≡ q
     → iqmp' ≡ iqmp → signed_by modulus e d p q iqmp info ≡ signed_by modulus e d' p' q' iqmp' info
 signed_by-same modulus e info d p q iqmp d' p' q' iqmp' d_is p_is q_is iqmp_is = rw (d_is, p_is, q_is, iqmp_is) refl

@@ -11,7 +11,8 @@ use Rattle.sha2.specs.Sha512.{sha384}
 use Rattle.signer_keys.specs.Ecdsa.{p256_signed, p384_signed}
 
 -- without a test that fails there is no signature
-not_both : (first second : Bool) (given : Option (List ℕ)) → (first ≡ false) ⊎ ((second ≡ false) ⊎ (given ≡ None))
+not_both : (first second : Bool) (given : Option (List ℕ))
+    → (first ≡ false) ⊎ ((second ≡ false) ⊎ (given ≡ None))
     → (if first && second then given else None) ≡ None
 not_both false second given why = refl
 not_both true false given why = refl
@@ -23,14 +24,16 @@ other-false : (xs ys : List ℕ) (test : Bool) → test ≡ bytes_eq xs ys → x
 other-false xs ys false is other = refl
 other-false xs ys true is other = absurd (other ((bytes_eq-Decides xs ys).0 (sym is)))
 
-refused : (within : Bool) (point key : List ℕ) (given : Option (List ℕ)) → (within ≡ false) ⊎ ((point ≢ key) ⊎ (given ≡ None))
+refused : (within : Bool) (point key : List ℕ) (given : Option (List ℕ))
+    → (within ≡ false) ⊎ ((point ≢ key) ⊎ (given ≡ None))
     → None ≡ (if within && bytes_eq point key then given else None)
 refused within point key given (inl is) = sym (not_both within (bytes_eq point key) given (inl is))
 refused within point key given (inr (inl other)) =
     sym (not_both within (bytes_eq point key) given (inr (inl (other-false point key (bytes_eq point key) refl other))))
 refused within point key given (inr (inr none)) = sym (not_both within (bytes_eq point key) given (inr (inr none)))
 
-both : (first second : Bool) (given : Option (List ℕ)) → first ≡ true → second ≡ true → (if first && second then given else None) ≡ given
+both : (first second : Bool) (given : Option (List ℕ)) → first ≡ true → second ≡ true
+    → (if first && second then given else None) ≡ given
 both true true given f s = refl
 both true false given f s = cc s
 both false second given f s = cc f
@@ -38,7 +41,8 @@ both false second given f s = cc f
 equal-true : (xs ys : List ℕ) → xs ≡ ys → bytes_eq xs ys ≡ true
 equal-true xs ys is = (bytes_eq-Decides xs ys).1 is
 
-allowed : (within : Bool) (point key bytes : List ℕ) (given : Option (List ℕ)) → within ≡ true → point ≡ key → given ≡ Some bytes
+allowed : (within : Bool) (point key bytes : List ℕ) (given : Option (List ℕ)) → within ≡ true
+    → point ≡ key → given ≡ Some bytes
     → Some bytes ≡ (if within && bytes_eq point key then given else None)
 allowed within point key bytes given is same some =
     sym (both within (bytes_eq point key) given is (equal-true point key same) ∙ some)
@@ -50,7 +54,8 @@ pub p256-refused : (d : ℕ) (point message : List ℕ)
     → None ≡ p256_signed d point message
 p256-refused d point message why = refused (p256_in_range d) point (p256_public_key d) (p256_bytes d (sha256 message)) why
 
-pub p256-given : (d : ℕ) (point message bytes : List ℕ) → p256_in_range d ≡ true → point ≡ p256_public_key d
+pub p256-given : (d : ℕ) (point message bytes : List ℕ) → p256_in_range d ≡ true
+    → point ≡ p256_public_key d
     → p256_bytes d (sha256 message) ≡ Some bytes → Some bytes ≡ p256_signed d point message
 p256-given d point message bytes is same some =
     allowed (p256_in_range d) point (p256_public_key d) bytes (p256_bytes d (sha256 message)) is same some
@@ -62,7 +67,8 @@ pub p384-refused : (d : ℕ) (point message : List ℕ)
     → None ≡ p384_signed d point message
 p384-refused d point message why = refused (p384_in_range d) point (p384_public_key d) (p384_bytes d (sha384 message)) why
 
-pub p384-given : (d : ℕ) (point message bytes : List ℕ) → p384_in_range d ≡ true → point ≡ p384_public_key d
+pub p384-given : (d : ℕ) (point message bytes : List ℕ) → p384_in_range d ≡ true
+    → point ≡ p384_public_key d
     → p384_bytes d (sha384 message) ≡ Some bytes → Some bytes ≡ p384_signed d point message
 p384-given d point message bytes is same some =
     allowed (p384_in_range d) point (p384_public_key d) bytes (p384_bytes d (sha384 message)) is same some

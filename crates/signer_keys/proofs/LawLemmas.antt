@@ -24,12 +24,14 @@ neither None (Some key) answer asked given is = cc is
 neither None None answer asked given is = (refl, refl)
 
 -- a request to verify that is handed on
-elsewhere : (verdict : Verdict) (ask : ℕ) (given : Asked) → verifying_route verdict ask ≡ HandedOn given → verdict ≡ Elsewhere
+elsewhere : (verdict : Verdict) (ask : ℕ) (given : Asked)
+    → verifying_route verdict ask ≡ HandedOn given → verdict ≡ Elsewhere
 elsewhere Right ask given is = cc is
 elsewhere Wrong ask given is = cc is
 elsewhere Elsewhere ask given is = refl
 
-pub for_behind : (read : Result ToChildMessage ChildFault) (given : Asked) → route_to read ≡ HandedOn given → IsForBehind read
+pub for_behind : (read : Result ToChildMessage ChildFault) (given : Asked)
+    → route_to read ≡ HandedOn given → IsForBehind read
 for_behind (Ok (Sign request)) given is =
     neither (type_of request.blob) (type_of request.private) (signed_by request.ask (signature_for request))
     (Signature request.ask) given is

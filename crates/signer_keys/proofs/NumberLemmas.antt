@@ -57,21 +57,24 @@ value-one (word ∷ []) one = value-word word
 value-one (word ∷ (next ∷ more)) one = absurd (omega (arith, one))
 
 -- a number that fits a word
-pub small-word : (bytes words : List ℕ) → length bytes ≤ 8 → length words ≡ 1 → value words ≡ os2ip bytes
+pub small-word : (bytes words : List ℕ) → length bytes ≤ 8 → length words ≡ 1
+    → value words ≡ os2ip bytes
     → small bytes ≡ Ok (slice_index_or words 0 0)
 unfolding small
 small-word bytes words short one is =
     rw (le-leb (length bytes) 8 short, sym (value-one words one), is) refl
 
 -- a string that begins with a zero
-zero-string : (bytes : List ℕ) (len : ℕ) → len ≡ length bytes + 1 → uint32 len ++ (0 ∷ bytes) ≡ string (0 ∷ bytes)
+zero-string : (bytes : List ℕ) (len : ℕ) → len ≡ length bytes + 1
+    → uint32 len ++ (0 ∷ bytes) ≡ string (0 ∷ bytes)
 unfolding string
 zero-string bytes len is =
     let more : len ≡ length (0 ∷ bytes) = omega (arith, is) in
     ap (λ (n : ℕ). uint32 n ++ (0 ∷ bytes)) more
 
 -- its parts, appended one after the other
-pub zero-put : (out one two now bytes : List ℕ) (len : ℕ) → one ≡ out ++ uint32 len → two ≡ one ++ 0 ∷ [] → now ≡ two ++ bytes
+pub zero-put : (out one two now bytes : List ℕ) (len : ℕ) → one ≡ out ++ uint32 len
+    → two ≡ one ++ 0 ∷ [] → now ≡ two ++ bytes
     → len ≡ length bytes + 1 → now ≡ out ++ string (0 ∷ bytes)
 zero-put out one two now bytes len first second third is =
     third ∙ ap (λ (l : List ℕ). l ++ bytes) (second ∙ ap (λ (l : List ℕ). l ++ 0 ∷ []) first)
@@ -84,7 +87,8 @@ on_ok (Ok x) holds then = then holds
 on_ok (Err e) holds then = holds
 
 -- the length of a text to which a string was added
-pub length-put : (before now text : List ℕ) → now ≡ before ++ string text → length now ≡ length before + 4 + length text
+pub length-put : (before now text : List ℕ) → now ≡ before ++ string text
+    → length now ≡ length before + 4 + length text
 length-put before now text is =
     ap length is ∙ length-append before (string text) ∙ ap (λ (n : ℕ). length before + n) (length-string text) ∙ omega arith
 

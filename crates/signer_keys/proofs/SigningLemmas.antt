@@ -7,7 +7,8 @@ use Rattle.rsa_verify.proofs.VerifyingLemmas.{size-bounds}
 use Rattle.rsa_verify.specs.Verification.{accepts, has_size, opens}
 
 -- a signature that is accepted has no more than 1024 bytes
-accepted-short : (modulus : List ℕ) (e : ℕ) (info bytes : List ℕ) → accepts modulus e info bytes ≡ true → length bytes ≤ 1024
+accepted-short : (modulus : List ℕ) (e : ℕ) (info bytes : List ℕ)
+    → accepts modulus e info bytes ≡ true → length bytes ≤ 1024
 unfolding accepts
 accepted-short modulus e info bytes is =
     let first = and_parts (has_size (significant modulus))
@@ -17,7 +18,8 @@ accepted-short modulus e info bytes is =
     omega (arith, bounds.1, eqb-true (length bytes) (length (significant modulus)) second.0)
 
 -- what is given was accepted
-by_accepts : (p q accepted : Bool) (s bytes : List ℕ) → (if p && (q && accepted) then Some s else None) ≡ Some bytes
+by_accepts : (p q accepted : Bool) (s bytes : List ℕ)
+    → (if p && (q && accepted) then Some s else None) ≡ Some bytes
     → (accepted ≡ true) × (s ≡ bytes)
 by_accepts true true true s bytes is = (refl, cc is)
 by_accepts true true false s bytes is = cc is
@@ -32,7 +34,8 @@ signed_by-short modulus e d p q iqmp info bytes is =
     let parts = by_accepts (nat_eq (p % 2) 1) (nat_eq (q % 2) 1) (accepts modulus e info s) s bytes is in
     omega (arith, accepted-short modulus e info s parts.0, ap length parts.1)
 
-if_some : (test : Bool) (given : Option (List ℕ)) (bytes : List ℕ) → (if test then given else None) ≡ Some bytes → given ≡ Some bytes
+if_some : (test : Bool) (given : Option (List ℕ)) (bytes : List ℕ)
+    → (if test then given else None) ≡ Some bytes → given ≡ Some bytes
 if_some true given bytes is = is
 if_some false given bytes is = cc is
 

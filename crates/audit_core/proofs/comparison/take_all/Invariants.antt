@@ -6,5 +6,6 @@ use Rattle.audit_core.proofs.comparison.take_all.Given as goal
 abbrev pub invariant-bytes : goal.invariant-bytes
 invariant-bytes l = record {
   line : l.matching.line ≤ l.matching.at + 1;
-  same : (more : List ℕ) → difference l.matching (drop l.byte-index l.bytes ++ more) l.deeds ≡ difference l.fn.matching (l.bytes ++ more) l.deeds;
+  same : (more : List ℕ)
+      → difference l.matching (drop l.byte-index l.bytes ++ more) l.deeds ≡ difference l.fn.matching (l.bytes ++ more) l.deeds;
 }

@@ -5,11 +5,13 @@ use Rattle.relay_core.proofs.RelayLemmas.{answers_by, no_usage, transcript-refus
 use Rattle.relay_core.proofs.program.relay_main.Goals as goal
 
 -- the last word, as it was read
-last_read : (words : List (List ℕ)) (read : ChildWords) (program : Option (List ℕ)) → Some read ≡ words_of words → read.last ≡ program → program_of words ≡ program
+last_read : (words : List (List ℕ)) (read : ChildWords) (program : Option (List ℕ))
+    → Some read ≡ words_of words → read.last ≡ program → program_of words ≡ program
 last_read words read program is named = ap program_in (sym is) ∙ named
 
 -- a program is not none
-some_program : (words : List (List ℕ)) (read : ChildWords) (program : List ℕ) → Some read ≡ words_of words → read.last ≡ Some program → program_of words ≡ None → ⊥
+some_program : (words : List (List ℕ)) (read : ChildWords) (program : List ℕ)
+    → Some read ≡ words_of words → read.last ≡ Some program → program_of words ≡ None → ⊥
 some_program words read program is named none = cc (last_read words read (Some program) is named, none)
 
 pub returns-in_default-clause-answers : goal.returns-in_default-clause-answers

@@ -8,5 +8,6 @@ abbrev pub invariant-loop-turn : goal.invariant-loop-turn
 invariant-loop-turn l = record {
   size : length l.rows.items ≡ l._turn;
   next : l.point ≡ doubled l._turn base;
-  row : (i : ℕ) (other : Addend) → i < l._turn → get_or l.rows.items i other ≡ addend_of (doubled i base);
+  row : (i : ℕ) (other : Addend) → i < l._turn
+      → get_or l.rows.items i other ≡ addend_of (doubled i base);
 }
