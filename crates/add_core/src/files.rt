@@ -8,9 +8,9 @@ ghost use Rattle.add_core.specs.Steps.{Follows, HasPeerCause, HasSinkCause, IsOw
 
 use crate::exchange::request;
 use crate::fault::{AddFault, Stop};
-use crate::key_text::KeyText;
 use crate::sending::{FileTask, Sending};
 use std::alloc::Global;
+use wiped_bytes::WipedBytes;
 use world_ports::{FileFault, Files, Sink, Source};
 
 /// The most bytes that the file of a key has.
@@ -50,7 +50,7 @@ pub fn read_text<F: Files>(
 }
 
 /// The request for a file of this text, which may hold a private key and is wiped.
-fn made(alloc: Global, task: &mut FileTask, path: &str, text: KeyText) -> Result<Sending, Stop>
+fn made(alloc: Global, task: &mut FileTask, path: &str, text: WipedBytes) -> Result<Sending, Stop>
     requires { IsDoable task.old }
     ensures told { Tells sending_of result (sent_for task.old path.now text) }
     ensures own { IsOwn result }
@@ -82,7 +82,7 @@ fn send_file<F: Files, P: Source + Sink, E: Sink>(
     ensures input { result ≢ Err (Stop.Fault AddFault.InputFault) }
 {
     let text = read_text(alloc, files, path, place, LONGEST_KEY)?;
-    let sending = made(alloc, task, path, KeyText::of(text))?;
+    let sending = made(alloc, task, path, WipedBytes::from_vec(text))?;
     request(alloc, peer, errors, sending.frame.live(), &sending.line)
 }
 

@@ -7,7 +7,6 @@ mod exchange;
 mod fault;
 mod files;
 mod hearing;
-mod key_text;
 mod listing;
 mod locking;
 mod passphrase;

@@ -7,12 +7,10 @@ mod fault;
 mod no_peer;
 mod output;
 mod room;
-mod scratch;
 mod words;
 
 pub use fault::{HearFault, SayFault};
 pub use no_peer::NoPeer;
 pub use output::{flush, say};
 pub use room::Room;
-pub use scratch::Scratch;
 pub use words::{Words, read_words};

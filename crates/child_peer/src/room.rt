@@ -5,18 +5,19 @@ ghost use Rattle.child_peer.specs.Hearing.{Hears};
 ghost use Rattle.world_ports.specs.Streams.{OnlyReads};
 
 use crate::fault::HearFault;
-use crate::scratch::{give_back, zeros};
 use secret_buf::ScrubBuf;
 use std::alloc::{AllocError, Global};
 use std::marker::Model;
+use wiped_bytes::WipedBytes;
 use world_ports::{Pulled, Source};
 
 /// How many bytes a read may bring (ours).
 const SIZE: usize = 4096;
 
 /// Room for reads. It holds nothing between them.
+#[derive(Drop)]
 pub struct Room {
-    bytes: Vec<u8>,
+    bytes: WipedBytes,
 }
 
 impl Model for Room {
@@ -25,14 +26,14 @@ impl Model for Room {
 
     ghost Value = { List ℕ };
 
-    ghost view = { λ room. room.bytes.items };
+    ghost view = { λ room. room.bytes };
 
-    ghost invariant = { λ room. (length room.bytes.items ≡ 4096) × IsWiped room.bytes.items };
+    ghost invariant = { λ room. (length room.bytes ≡ 4096) × IsWiped room.bytes };
 }
 
 impl Room {
     pub fn new(alloc: Global) -> Result<Room, AllocError> {
-        let bytes = zeros(alloc, SIZE)?;
+        let bytes = WipedBytes::zeros(alloc, SIZE)?;
         Ok(Room { bytes })
     }
 
@@ -53,14 +54,5 @@ impl Room {
         }
         self.bytes.as_mut_slice().fill(0);
         Ok(pulled?)
-    }
-}
-
-impl Drop for Room {
-    fn drop(self)
-        requires { self ≡ self }
-    {
-        let Room { bytes } = self;
-        give_back(bytes);
     }
 }

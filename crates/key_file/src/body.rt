@@ -1,9 +1,11 @@
 //! The body of a private key's file.
 
-ghost use Rattle.std.specs.Prelude.{◌≡◌, ◌≢◌, IfOk, MatchResult, Err};
+ghost use Rattle.std.specs.Prelude.{◌≡◌, ◌≢◌, ◌≤◌, length, take, IfOk, MatchOption, MatchResult, Err, Some, None};
+ghost use Rattle.base64.specs.Decode.{decoded_estimate};
 ghost use Rattle.key_blob.specs.declared.fault.KeyFault.TheVariants.{Memory as NoMemory};
 ghost use Rattle.key_file.specs.declared.fault.KeyFileFault.TheVariants.{Key, Memory};
 ghost use Rattle.key_file.specs.declared.private_part.KeyFile.{KeyFile};
+ghost use Rattle.key_file.specs.Base64.{bytes_of};
 ghost use Rattle.key_file.specs.Bodies.{IsBodyText};
 ghost use Rattle.key_file.specs.BodyReading.{IsAnswer, body_of, encoded_file, file_of};
 
@@ -11,9 +13,10 @@ use crate::encoding::unblanked;
 use crate::fault::KeyFileFault;
 use crate::fields::{take_blocks, take_count, take_magic, take_text};
 use crate::private_part::{KeyFile, read_private};
-use crate::scratch::Scratch;
 use base64::decoded_len_estimate;
+use base64::engine::general_purpose::STANDARD;
 use std::alloc::Global;
+use wiped_bytes::WipedBytes;
 use wire_core::Cursor;
 
 /// The key and the comment of a body that was decoded.
@@ -39,14 +42,28 @@ fn file_in(alloc: Global, body: &[u8]) -> Result<KeyFile, KeyFileFault>
     Ok(file)
 }
 
+/// Writes the bytes whose base64 `text` is over the first ones, and gives their number. Where it is
+/// that of none, some of the bytes may be written over too.
+#[tactic(auto, unfolding(crate::specs::Base64::bytes_of))]
+fn decode(text: &[u8], bytes: &mut WipedBytes) -> Option<usize>
+    requires { decoded_estimate (length text.now) ≤ length bytes.old }
+    ensures value { MatchOption result (bytes_of text.now ≡ None)
+        (λ count. bytes_of text.now ≡ Some (take count bytes.new)) }
+    ensures within { MatchOption result (Unit {0}) (λ count. count ≤ length bytes.new) }
+{
+    STANDARD
+        .decode_slice_unchecked(text, bytes.as_mut_slice())
+        .ok()
+}
+
 /// The key and the comment of a body in base64, without blanks.
 #[tactic(auto, unfolding(crate::specs::BodyReading::encoded_file))]
 fn encoded(alloc: Global, text: &[u8]) -> Result<KeyFile, KeyFileFault>
     ensures { IsAnswer result (encoded_file text.now) }
 {
-    let mut scratch = Scratch::zeros(alloc, decoded_len_estimate(text.len()))?;
-    match scratch.decode(text) {
-        Some(count) => file_in(alloc, &scratch.as_slice()[..count]),
+    let mut body = WipedBytes::zeros(alloc, decoded_len_estimate(text.len()))?;
+    match decode(text, &mut body) {
+        Some(count) => file_in(alloc, &body.as_slice()[..count]),
         None => Err(KeyFileFault::Base64),
     }
 }

@@ -11,7 +11,6 @@ mod fields;
 mod laws;
 mod line;
 mod private_part;
-mod scratch;
 
 pub use body::read_body;
 pub use encoding::decoded;

@@ -3,12 +3,13 @@
 ghost use Rattle.std.specs.Prelude.{◌≡◌, ◌<◌, ◌≤◌, IfOk, IfSome, None, length};
 
 use crate::errors::is_memory;
-use crate::room::Room;
+use crate::room::{grown, read_from};
 use std::alloc::Global;
 use std::fs;
 use std::fs::OpenFile;
 use std::io::{Error, ErrorKind, Read, Result as IoResult};
 use std::rt::Files as SystemFiles;
+use wiped_bytes::WipedBytes;
 use world_ports::{FileFault, Files};
 
 /// The files of the system, of which nothing is told. Failed reads are counted.
@@ -70,22 +71,27 @@ fn read_file<R: SystemFiles>(
 {
     let mut file = fs::open(rt, path)?;
     let told = file.metadata()?.len().min(max);
-    let room = Room::zeros(alloc, told.max(LEAST_ROOM).saturating_add(1) as usize)?;
-    read_all(&mut file, room, max)
+    let room = WipedBytes::zeros(alloc, told.max(LEAST_ROOM).saturating_add(1) as usize)?;
+    read_all(alloc, &mut file, room, max)
 }
 
 // The bytes of a reader, or `None` where it has more than `max`. The room grows where there are more than it has.
-pub fn read_all<F: Read>(file: &mut F, room: Room, max: u64) -> IoResult<Option<Vec<u8>>>
-    requires { 0 < length room.bytes.items }
+pub fn read_all<F: Read>(
+    alloc: Global,
+    file: &mut F,
+    room: WipedBytes,
+    max: u64,
+) -> IoResult<Option<Vec<u8>>>
+    requires { 0 < length room }
     ensures { IfOk result (λ read. IfSome read (λ bytes. length bytes.items ≤ max)) }
 {
     let mut room = room;
     let mut len = 0;
     'pieces: for _ in 0..u64::MAX {
         if len == room.len() {
-            room.grow()?;
+            room = grown(alloc, room)?;
         }
-        match room.read_from(len, file) {
+        match read_from(file, &mut room, len) {
             Ok(0) => return Ok(Some(room.into_front(len))),
             Ok(n) => {
                 if n as u64 > max - len as u64 {

@@ -1,10 +1,10 @@
 //! Each adapter once over the real thing.
 use crate::files::read_all;
-use crate::room::Room;
 use crate::{Peer, RealFiles, RealSpawner, connect, connect_child};
 use std::fs;
 use std::os::unix::net::{UnixListener, UnixStream};
 use std::test::Fail;
+use wiped_bytes::WipedBytes;
 use world_ports::{FileFault, Files, Pulled, Reading, Sink, Source, SpawnFault, Spawner, Writing};
 
 #[test]
@@ -34,10 +34,12 @@ fn a_file_is_read_up_to_its_bound(rt: HostRuntime) -> Result<(), Fail> {
 fn the_room_grows_for_a_file_that_tells_of_no_size(rt: HostRuntime) -> Result<(), Fail> {
     let alloc = rt.alloc();
     let mut pipe = b"more bytes".as_slice();
-    let read = read_all(&mut pipe, Room::zeros(alloc, 1)?, 10)?.unwrap_or(Vec::new(alloc));
+    let read = read_all(alloc, &mut pipe, WipedBytes::zeros(alloc, 1)?, 10)?.unwrap_or(Vec::new(
+        alloc,
+    ));
     assert_eq!(rt; read.as_slice(), b"more bytes".as_slice());
     let mut pipe = b"more bytes".as_slice();
-    let read = read_all(&mut pipe, Room::zeros(alloc, 1)?, 9)?;
+    let read = read_all(alloc, &mut pipe, WipedBytes::zeros(alloc, 1)?, 9)?;
     assert!(rt; read.is_none());
     Ok(())
 }

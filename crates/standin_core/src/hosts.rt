@@ -1,14 +1,15 @@
 //! Reads the data file, each line a tag and a secret in hexadecimal (ours), and looks tags up.
 
-ghost use Rattle.std.specs.Prelude.{◌≡◌, ◌≤◌, ◌+◌, ◌++◌, IfOk, OnOk, OnErr, length, take, drop, List, option_map};
+ghost use Rattle.std.specs.Prelude.{◌≡◌, ◌≤◌, ◌+◌, ◌++◌, IfOk, MatchResult, OnOk, OnErr, length, take, drop, List, option_map, true, false};
+ghost use Rattle.hex.specs.Hex.{decode_sized};
 ghost use Rattle.standin_core.specs.Hosts.{Host, ArePairs, secret_for};
 ghost use Rattle.standin_core.specs.Reading.{ReadsLine, ReadsText, ReadsData};
 ghost use Rattle.world_ports.specs.Files.{OnlyReadsFiles};
 
 use crate::fault::DataFault;
-use child_peer::Scratch;
 use secret_buf::ScrubBuf;
 use std::alloc::Global;
+use wiped_bytes::WipedBytes;
 use world_ports::{FileFault, Files};
 
 /// How long the data file may be, in bytes (ours).
@@ -44,7 +45,7 @@ pub fn read_data<F: Files>(
         Err(FileFault::TooLong) => return Err(DataFault::TooLong),
         Err(FileFault::Memory) => return Err(DataFault::Memory),
     };
-    let text = Scratch::from_vec(bytes);
+    let text = WipedBytes::from_vec(bytes);
     read_text(alloc, text.as_slice())
 }
 
@@ -52,8 +53,8 @@ pub fn read_data<F: Files>(
 fn read_text(alloc: Global, text: &[u8]) -> Result<ScrubBuf, DataFault>
     ensures { ReadsText result text.now }
 {
-    let mut tag = Scratch::zeros(alloc, HALF)?;
-    let mut secret = Scratch::zeros(alloc, HALF)?;
+    let mut tag = WipedBytes::zeros(alloc, HALF)?;
+    let mut secret = WipedBytes::zeros(alloc, HALF)?;
     let mut pairs = ScrubBuf::new(alloc);
     let mut rest = text;
     'lines: while !rest.is_empty() {
@@ -71,7 +72,7 @@ fn read_text(alloc: Global, text: &[u8]) -> Result<ScrubBuf, DataFault>
 }
 
 // Reads the line in front.
-fn read_line(line: &[u8], tag: &mut Scratch, secret: &mut Scratch) -> bool
+fn read_line(line: &[u8], tag: &mut WipedBytes, secret: &mut WipedBytes) -> bool
     requires line { 130 ≤ length line.now }
     requires tag { length tag.old ≡ 32 }
     requires secret { length secret.old ≡ 32 }
@@ -82,10 +83,20 @@ fn read_line(line: &[u8], tag: &mut Scratch, secret: &mut Scratch) -> bool
     if line[64] != b' ' || line[129] != b'\n' {
         return false;
     }
-    if !tag.decode(digits_at(line, 0)) {
+    if !decode(digits_at(line, 0), tag) {
         return false;
     }
-    secret.decode(digits_at(line, 65))
+    decode(digits_at(line, 65), secret)
+}
+
+// Writes over all of the bytes those that hexadecimal digits write, where these are as many, and says
+// whether they are.
+fn decode(digits: &[u8], bytes: &mut WipedBytes) -> bool
+    ensures value { MatchResult (decode_sized digits.now (length bytes.old))
+        (λ read. (result ≡ true) × (bytes.new ≡ read)) (λ _. result ≡ false) }
+    ensures len { length bytes.new ≡ length bytes.old }
+{
+    hex::decode_to_slice(digits, bytes.as_mut_slice()).is_ok()
 }
 
 // The digits from this place on.

@@ -16,8 +16,8 @@ returns-in_err-text-clause-told g c = λ held replies files_known peer_known.
 pub returns-in_err-sending-clause-told : goal.returns-in_err-sending-clause-told
 returns-in_err-sending-clause-told g c = λ held replies files_known peer_known.
     let stop = c.in_err-sending.field-0.0 in
-    let text = c.of.result in
-    let read = c.in_ok-text.ensures.told held files_known ∙ ap (λ (l : List ℕ). Ok l) (sym c.of.ensures) in
+    let text = c.from_vec.result in
+    let read = c.in_ok-text.ensures.told held files_known ∙ ap (λ (l : List ℕ). Ok l) (sym c.from_vec.ensures) in
     let p = g.P.Stream.seen c.args.peer.now in
     let e = g.E.Stream.seen c.args.errors.now in
     let then_sent : List ℕ → Step = λ t. stepped (sent_for c.args.task.now c.args.path.now t) (λ made. requested made.0 made.1 replies) in

@@ -3,4 +3,4 @@ use Rattle.std.proofs.Common.{◌<◌, ◌≤◌, length}
 use Rattle.real_edge.proofs.files.read_all.Given as goal
 
 abbrev pub invariant-pieces : goal.invariant-pieces
-invariant-pieces g l = (l.len ≤ l.max) × ((l.len ≤ length l.room.bytes.items) × (0 < length l.room.bytes.items))
+invariant-pieces g l = (l.len ≤ l.max) × ((l.len ≤ length l.room) × (0 < length l.room))
