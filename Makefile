@@ -118,8 +118,8 @@ deb: $(INSTALLED:%=bin/%) version
 picture:
 	scripts/crates-dot --layers > docs/layers.dot
 	scripts/crates-dot > docs/crates.dot
-	dot -Tsvg docs/layers.dot > docs/layers.svg
-	dot -Tsvg docs/crates.dot > docs/crates.svg
+	dot -Tsvg -o docs/layers.svg docs/layers.dot
+	dot -Tsvg -o docs/crates.svg docs/crates.dot
 
 clean:
 	rm -rf bin crates/*/out helper/target
