@@ -18,23 +18,29 @@ BIND = b"session-bind@openssh.com"
 RESTRICT = b"restrict-destination-v00@openssh.com"
 USES = b"uses-v00@example.com"
 
-# A field has so many bytes, is these bytes, or (None) is any string.
-Forms = dict[bytes, list[int | bytes | None]]
+# A field has so many bytes, is these bytes, is a number of at most 2,048 bytes behind its zeros, or
+# (None) is any string.
+NUMBER = "number"
+Fields = list[int | bytes | str | None]
+Forms = dict[bytes, Fields]
 
 # The fields of a public key blob, behind its type.
 PUBLIC: Forms = {ED25519: [32], RSA: [None] * 2, STAND_IN: [32]}
 PUBLIC |= {name: [curve, None] for name, curve in CURVES.items()}
-# The fields of an addition, behind those of the blob or behind a certificate.
-PRIVATE: Forms = {ED25519: [64], RSA: [None] * 4, STAND_IN: [32]}
-PRIVATE |= {name: [None] for name in CURVES}
+# The fields of an addition: those in the place of the blob's, and those behind them or behind a
+# certificate.
+ADDED: Forms = PUBLIC | {RSA: [NUMBER] * 2}
+PRIVATE: Forms = {ED25519: [64], RSA: [NUMBER] * 4, STAND_IN: [32]}
+PRIVATE |= {name: [NUMBER] for name in CURVES}
 BEHIND_CERTIFICATE: Forms = PRIVATE | {ED25519: [32, 64]}
 
 
-def fields(reader: Reader, forms: list[int | bytes | None]) -> list[bytes]:
+def fields(reader: Reader, forms: Fields) -> list[bytes]:
     taken = []
     for form in forms:
         text = reader.string()
         demand(not isinstance(form, int) or len(text) == form, "BadLength")
+        demand(form != NUMBER or len(text.lstrip(b"\0")) <= 2048, "BadLength")
         demand(not isinstance(form, bytes) or text == form, "Mismatch")
         taken.append(text)
     return taken
@@ -111,7 +117,7 @@ def added_key(reader: Reader) -> tuple[bytes, bytes]:
         demand(public_key(blob).key_type == key_type, "Mismatch")
         fields(reader, BEHIND_CERTIFICATE[plain])
     else:
-        own = fields(reader, PUBLIC[plain])
+        own = fields(reader, ADDED[plain])
         if plain == RSA:
             own.reverse()  # an addition has n first, and a blob e
         blob = string(plain) + b"".join(map(string, own))

@@ -5,12 +5,12 @@ from __future__ import annotations
 from dataclasses import dataclass
 from random import Random
 
-from .formats import BEHIND_CERTIFICATE, BIND, CERTIFIED, CURVES, ED25519, PRIVATE, PUBLIC
+from .formats import BEHIND_CERTIFICATE, BIND, CERTIFIED, CURVES, ED25519, Fields, PRIVATE, PUBLIC
 from .formats import RESTRICT, RSA, STAND_IN, USES
 from .wire import string, uint32, uint64
 
 
-def of_forms(forms: list[int | bytes | None], seed: int) -> list[bytes]:
+def of_forms(forms: Fields, seed: int) -> list[bytes]:
     """Texts of these forms, the same for the same seed."""
     random = Random(seed)
     sizes = [form if isinstance(form, int) else random.randrange(1, 40) for form in forms]
@@ -211,6 +211,8 @@ def faulty_addition(random: Random) -> bytes:
         string(STAND_IN) + string(b"\x01" * 33) + string(b"\x02" * 32),
         string(STAND_IN) + string(b"\x01" * 32) + string(b"\x02" * 33),
         string(TYPES[2]) + string(b"nistp384") + string(b"Q") + string(b"d"),
+        string(RSA) + string(b"\x01" * 2049) + string(b"n") * 5,
+        string(RSA) + string(b"n") * 5 + string(b"\x01" * 2049),
         string(ED25519 + CERTIFIED) + string(cert) + string(b"\x01" * 32) + string(b"\x01" * 64),
         string(RSA + CERTIFIED) + string(cert) + string(b"d") * 4,
         string(ED25519 + CERTIFIED) + string(KEYS[3].blob) + string(b"\x01" * 32),

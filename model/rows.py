@@ -329,6 +329,29 @@ row(
     ],
     [to(1, OK), to(1, listing((st(b"ssh-rsa") + st(b"e") + st(b"n"), b"c")))],
 )
+LONG = b"\x01" + b"\xff" * 2047
+row(
+    "a number of an addition has at most 2048 bytes behind its zeros",
+    ["join client"]
+    + [
+        line
+        for place, number in [(0, b"\x00\x00" + LONG), *[(n, LONG + b"\x00") for n in range(6)]]
+        for line in hear(
+            1,
+            b"\x11"
+            + st(b"ssh-rsa")
+            + b"".join(st(number if n == place else b"n") for n in range(6))
+            + st(b"c"),
+        )
+    ]
+    + hear(
+        1, b"\x11" + st(b"ecdsa-sha2-nistp256") + st(b"nistp256") + st(LONG * 2) + st(LONG) + st(b"")
+    )
+    + hear(
+        1, b"\x11" + st(b"ecdsa-sha2-nistp256") + st(b"nistp256") + st(b"Q") + st(LONG * 2) + st(b"")
+    ),
+    [to(1, OK), *[to(1, NO)] * 6, to(1, OK), to(1, NO)],
+)
 row(
     "a curve's name is that of the type",
     ["join client"]

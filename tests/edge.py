@@ -904,7 +904,7 @@ def rsa_blob(size):
 
 
 def with_large_private(number):
-    """An addition with a private field of 262,000 bytes."""
+    """An addition with a private field of 262,000 bytes, which are zeros in front of no number."""
     fields = [number.to_bytes(4, "big"), b"\3", bytes(262000), b"", b"", b""]
     return ADD, string(b"ssh-rsa") + b"".join(map(string, fields)), string(b"")
 
@@ -931,6 +931,19 @@ def what_one_client_adds_takes_a_bounded_part_of_memory(folder):
             assert len(peer.blobs()) == taken
             assert grown <= 32 << 20, grown
             assert peer.ask(*made(0))[0] == SUCCESS, "a key is replaced in a full table"
+
+
+@check
+def a_number_of_an_addition_has_at_most_2048_bytes(folder):
+    """Behind its zeros: n, e, d, iqmp, p and q of RSA each, where one more is refused and leaves nothing."""
+    longest = b"\1" + b"\xff" * 2047
+    with serve(folder, helper="/bin/false") as agent, agent.peer() as peer:
+        for place in range(6):
+            for number, answer in ((b"\0" + longest, SUCCESS), (longest + b"\0", FAILURE)):
+                fields = [number if n == place else b"\3" for n in range(6)]
+                body = string(b"ssh-rsa") + b"".join(map(string, fields)), string(b"")
+                assert peer.ask(ADD, *body)[0] == answer, (place, len(number))
+        assert len(peer.blobs()) == 3, "by n, by e, and one whose others were replaced"
 
 
 @check

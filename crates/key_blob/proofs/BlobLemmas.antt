@@ -86,9 +86,9 @@ all_by is_reversed (Ok all) =
 all_by is_reversed (Err fault) = refl
 
 -- where nothing is there, all is still to be read
-pub completed-all : (type : KeyType) (bytes : List ℕ) → completed type [] type.public bytes ≡ blob_fields_at type bytes
+pub completed-all : (type : KeyType) (bytes : List ℕ) → completed type [] type.added bytes ≡ blob_fields_at type bytes
 unfolding blob_fields_at
-completed-all type bytes = all_by type.is_reversed (fields_at type.public bytes)
+completed-all type bytes = all_by type.is_reversed (fields_at type.added bytes)
 
 -- ---- a reading that goes over the fields by their places, and comes to one total
 

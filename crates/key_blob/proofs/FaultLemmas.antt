@@ -1,5 +1,6 @@
 -- No reading runs out of memory.
 use Rattle.std.proofs.Common.{◌≡◌, ℕ, Bool, true, false, cond, eqb, List, [], ◌∷◌, length, Option, Some, None, Result, Ok, Err}
+use Rattle.std.specs.Prelude.{nat_lt}
 use Rattle.std.specs.Option.{ok_or}
 use Rattle.std.specs.Str.{bytes_eq}
 use Rattle.wire_core.specs.Fields.{uint32_at, uint64_at, string_at}
@@ -9,7 +10,8 @@ use Rattle.key_blob.specs.declared.form.Form.{Form}
 use Rattle.key_blob.specs.declared.form.Form.TheVariants.{Plain, Certified}
 use Rattle.key_blob.specs.Certificates.{names_at, holder_at, times_at, signer_at, certificate_at}
 use Rattle.key_blob.specs.Principals.{are_strings}
-use Rattle.key_blob.specs.KeyTypes.{Field, any, sized, text, key_type, kind_of, form_named}
+use Rattle.key_blob.specs.Digits.{digits_of}
+use Rattle.key_blob.specs.KeyTypes.{Field, any, number, sized, text, key_type, kind_of, form_named}
 use Rattle.wire_core.specs.Readings.{◌>>=◌, ended_or}
 use Rattle.key_blob.specs.Reading.{checked, field_at, fields_at, after_fields, form_at, taken}
 use Rattle.key_blob.specs.PublicKeys.{KeyParts, key_with, after_nonce, certificate_for, public_key_of}
@@ -41,8 +43,13 @@ text_needs_none : {A : Type 0} (b : Bool) (x : A) → NeedsNone (cond b (Ok x) (
 text_needs_none true x e = cc
 text_needs_none false x e = cc
 
+over_needs_none : {A : Type 0} (b : Bool) (x : A) → NeedsNone (cond b (Err BadLength) (Ok x))
+over_needs_none true x e = cc
+over_needs_none false x e = cc
+
 checked_needs_none : (field : Field) (found : List ℕ × List ℕ) → NeedsNone (checked field found)
 checked_needs_none any found e = cc
+checked_needs_none number found e = over_needs_none (nat_lt 16384 (digits_of found.0)) found e
 checked_needs_none (sized len) found e = length_needs_none (eqb (length found.0) len) found e
 checked_needs_none (text bytes) found e = text_needs_none (bytes_eq found.0 bytes) found e
 

@@ -1,9 +1,9 @@
 -- The two directions for fields and names: what is read is what the table says, and what the table says is read.
-use Rattle.std.proofs.Common.{◌≡◌, ℕ, ◌-◌, ◌^◌, ◌<◌, ◌≤◌, Bool, true, false, cond, eqb, List, [], ◌∷◌, ◌++◌, length, take, Option, Some, Result, Ok, refl, sym, ap, subst, ◌∙◌, append_assoc, arith}
-use Rattle.std.specs.Prelude.{find}
+use Rattle.std.proofs.Common.{◌≡◌, ℕ, ◌-◌, ◌^◌, ◌<◌, ◌≤◌, Bool, true, false, cond, eqb, List, [], ◌∷◌, ◌++◌, length, take, Option, Some, Result, Ok, Err, refl, sym, ap, subst, ◌∙◌, append_assoc, arith}
+use Rattle.std.specs.Prelude.{find, nat_lt}
 use Rattle.std.specs.Option.{ok_or}
 use Rattle.std.specs.Str.{bytes_eq}
-use Rattle.std.proofs.lemmas.Bool.Decides.{Decides-eqb}
+use Rattle.std.proofs.lemmas.Bool.Decides.{Decides-eqb, nat_tests}
 use Rattle.std.proofs.lemmas.List.{length-append, take_at}
 use Rattle.std.proofs.lemmas.Slice.Eq.{bytes_eq-Decides}
 use Rattle.wire_text.specs.Wire.{IsBytes, string}
@@ -14,7 +14,8 @@ use Rattle.key_blob.specs.declared.fault.KeyFault.TheVariants.{Short, UnknownTyp
 use Rattle.key_blob.specs.declared.form.Form.{Form}
 use Rattle.key_blob.specs.declared.form.Form.TheVariants.{Plain, Certified}
 use Rattle.key_blob.specs.declared.kind.KeyKind.TheVariants.{Ed25519, Rsa, Nistp256, Nistp384, Nistp521, StandIn}
-use Rattle.key_blob.specs.KeyTypes.{Field, any, sized, text, IsListed, type_of, forms, form_named}
+use Rattle.key_blob.specs.Digits.{digits_of}
+use Rattle.key_blob.specs.KeyTypes.{Field, any, number, sized, text, IsListed, type_of, forms, form_named}
 use Rattle.wire_core.specs.Readings.{◌>>=◌}
 use Rattle.key_blob.specs.Reading.{IsContent, AreContents, strings, checked, field_at, fields_at, after_fields, form_at, taken}
 use Rattle.wire_core.proofs.ReadingLemmas.{bind_ok, guard_ok, ok_or_ok}
@@ -36,8 +37,15 @@ IsFront-append bytes s t middle rest first second = record {
 
 -- ---- a field
 
+within : (b : Bool) (found x : List ℕ × List ℕ) → cond b (Err BadLength) (Ok found) ≡ Ok x → (b ≡ false) × (found ≡ x)
+within true found x e = absurd cc
+within false found x e = (refl, done_is found x e)
+
 checked_is : (field : Field) (found x : List ℕ × List ℕ) → checked field found ≡ Ok x → (found ≡ x) × IsContent field found.0
 checked_is any found x e = (done_is found x e, tt)
+checked_is number found x e =
+    let g = within (nat_lt 16384 (digits_of found.0)) found x e in
+    (g.1, grind (arith, nat_tests))
 checked_is (sized len) found x e =
     let g = guard_ok (eqb (length found.0) len) BadLength found x e in
     (g.1, (Decides-eqb (length found.0) len).0 g.0)
@@ -47,6 +55,9 @@ checked_is (text bytes) found x e =
 
 checked_again : (field : Field) (found : List ℕ × List ℕ) → IsContent field found.0 → checked field found ≡ Ok found
 checked_again any found fits = refl
+checked_again number found fits =
+    let test : nat_lt 16384 (digits_of found.0) ≡ false = grind (arith, nat_tests) in
+    rw test refl
 checked_again (sized len) found fits = rw ((Decides-eqb (length found.0) len).1 fits) refl
 checked_again (text bytes) found fits = rw ((bytes_eq-Decides found.0 bytes).1 fits) refl
 

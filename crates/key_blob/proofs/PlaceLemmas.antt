@@ -30,34 +30,34 @@ abbrev as_blob : KeyKind → Result (List (List ℕ) × List ℕ) KeyFault → R
 as_blob kind fields = as_fields kind fields >>= λ public. Ok (string (key_type kind).name ++ public.0, public.1)
 
 -- fields that were passed over are those of a blob
-passed_is_read : (kind : KeyKind) (bytes rest : List ℕ) → after_fields (key_type kind).public bytes ≡ Ok rest
+passed_is_read : (kind : KeyKind) (bytes rest : List ℕ) → after_fields (key_type kind).added bytes ≡ Ok rest
     → (blob : List ℕ) × (blob_at (Plain kind) bytes ≡ Ok (blob, rest))
 unfolding blob_at blob_fields_at after_fields
 passed_is_read kind bytes rest passed =
-    let read = bind_ok (fields_at (key_type kind).public bytes) (λ read. Ok read.1) rest passed in
+    let read = bind_ok (fields_at (key_type kind).added bytes) (λ read. Ok read.1) rest passed in
     let left : read.0.1 ≡ rest = ok_is read.0.1 rest read.2 in
     let blob = string (key_type kind).name ++ blob_fields (key_type kind) read.0.0 in
     let answer : List ℕ → Result (List ℕ × List ℕ) KeyFault = λ rest. Ok (blob, rest) in
     (blob, ap (as_blob kind) read.1 ∙ ap answer left)
 
 -- their fault is the blob's
-fault_is_read : (kind : KeyKind) (bytes : List ℕ) (fault : KeyFault) → after_fields (key_type kind).public bytes ≡ Err fault
+fault_is_read : (kind : KeyKind) (bytes : List ℕ) (fault : KeyFault) → after_fields (key_type kind).added bytes ≡ Err fault
     → blob_at (Plain kind) bytes ≡ Err fault
 unfolding blob_at blob_fields_at after_fields
 fault_is_read kind bytes fault failed =
-    ap (as_blob kind) (bind_err (fields_at (key_type kind).public bytes) (λ read. read.1) fault failed)
+    ap (as_blob kind) (bind_err (fields_at (key_type kind).added bytes) (λ read. read.1) fault failed)
 
 -- the same, of a line of the table
 pub passed_as_read : {A : Type 0} (form : Form) (kind : KeyKind) (type : KeyType) (bytes rest : List ℕ) (result : Result A KeyFault)
     → form ≡ Plain kind → type ≡ type_of form
-    → MatchResult result (λ _. after_fields type.public bytes ≡ Ok rest) (λ fault. after_fields type.public bytes ≡ Err fault)
+    → MatchResult result (λ _. after_fields type.added bytes ≡ Ok rest) (λ fault. after_fields type.added bytes ≡ Err fault)
     → MatchResult result (λ _. (blob : List ℕ) × (blob_at form bytes ≡ Ok (blob, rest))) (λ fault. blob_at form bytes ≡ Err fault)
 passed_as_read form kind type bytes rest (Ok x) plain is passed =
     subst (λ (f : Form). (blob : List ℕ) × (blob_at f bytes ≡ Ok (blob, rest))) (sym plain)
-    (passed_is_read kind bytes rest (subst (λ (t : KeyType). after_fields t.public bytes ≡ Ok rest) (is ∙ ap type_of plain) passed))
+    (passed_is_read kind bytes rest (subst (λ (t : KeyType). after_fields t.added bytes ≡ Ok rest) (is ∙ ap type_of plain) passed))
 passed_as_read form kind type bytes rest (Err fault) plain is failed =
     subst (λ (f : Form). blob_at f bytes ≡ Err fault) (sym plain)
-    (fault_is_read kind bytes fault (subst (λ (t : KeyType). after_fields t.public bytes ≡ Err fault) (is ∙ ap type_of plain) failed))
+    (fault_is_read kind bytes fault (subst (λ (t : KeyType). after_fields t.added bytes ≡ Err fault) (is ∙ ap type_of plain) failed))
 
 -- a certificate that was taken is the blob
 pub certificate_is_blob : (form : Form) (kind : KeyKind) (type : KeyType) (bytes blob rest : List ℕ) → form ≡ Certified kind → type ≡ type_of form

@@ -1,5 +1,5 @@
 -- The number of binary digits, found byte by byte, is that of the number.
-use Rattle.std.proofs.Common.{◌≡◌, ◌≢◌, ◌==◌, ℕ, suc, ◌+◌, ◌-◌, ◌*◌, ◌^◌, ◌<◌, ◌≤◌, Bool, true, false, cond, List, [], ◌∷◌, ◌++◌, length, Option, None, refl, inl, inr, sym, ap, subst, ◌∙◌, arith, lit<}
+use Rattle.std.proofs.Common.{◌≡◌, ◌↔◌, ◌≢◌, ◌==◌, ℕ, zero, suc, ◌+◌, ◌-◌, ◌*◌, ◌^◌, ◌<◌, ◌≤◌, Bool, true, false, cond, List, [], ◌∷◌, ◌++◌, length, replicate, Option, None, refl, inl, inr, sym, ap, subst, ◌∙◌, arith, lit<}
 use Rattle.std.specs.Prelude.{unwrap_or}
 use Rattle.std.specs.Int.{w8, leading_zeros}
 use Rattle.std.proofs.lemmas.Bool.{cases_lt}
@@ -12,7 +12,8 @@ use Rattle.wire_text.specs.Wire.{IsBytes, string}
 use Rattle.wire_core.proofs.Theorems.{string_at-string}
 use Rattle.key_blob.specs.KeyTypes.{key_type}
 use Rattle.key_blob.specs.PublicKeys.{KeyParts}
-use Rattle.key_blob.specs.KeySizes.{bits_of, digits_of, number_of, HasDigits}
+use Rattle.key_blob.specs.Digits.{digits_of, number_of, HasDigits}
+use Rattle.key_blob.specs.KeySizes.{bits_of}
 
 -- what the bytes behind a byte are worth together
 abbrev worth : List ℕ → ℕ
@@ -63,6 +64,25 @@ pub digits_of-HasDigits : (bytes : List ℕ) → IsBytes bytes → HasDigits (nu
 digits_of-HasDigits [] small = record { below = lit< tt; least = λ h. absurd (omega arith) }
 digits_of-HasDigits (byte ∷ bytes) small =
     by_first byte bytes (byte == 0) refl small (digits_of-HasDigits bytes (All-drop (λ b. b < 256) 1 (byte ∷ bytes) small))
+
+-- a number has so many digits at most exactly where it is below that power of 2
+pub digits_are_within : (bytes : List ℕ) (most : ℕ) → IsBytes bytes → (digits_of bytes ≤ most) ↔ (number_of bytes < 2 ^ most)
+digits_are_within bytes most small =
+    let is = digits_of-HasDigits bytes small in (
+      λ within. omega (arith, is.below, pow_mono within),
+      λ below.
+          elim (cases_lt most (digits_of bytes)) [
+            | inr within ↦ within
+            | inl more ↦
+                let least : most ≤ digits_of bytes - 1 = omega arith in
+                absurd (omega (arith, below, is.least (omega arith), pow_mono least))
+          ],
+    )
+
+-- zeros have none
+pub digits_of-zeros : (count : ℕ) → digits_of (replicate count 0) ≡ 0
+digits_of-zeros zero = refl
+digits_of-zeros (suc count) = digits_of-zeros count
 
 -- of two numbers of digits the one is not less than the other
 no_fewer : (number a b : ℕ) → HasDigits number a → HasDigits number b → b ≤ a

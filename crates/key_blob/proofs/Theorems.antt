@@ -42,8 +42,8 @@ unfolding blob_at blob_fields_at
 plain_is_front kind bytes x small read =
     let type = key_type kind in
     let a = bind_ok (blob_fields_at type bytes) (λ public. Ok (named kind public)) x read in
-    let b = bind_ok (fields_at type.public bytes) (λ read. Ok (blob_fields type read.0, read.1)) a.0 a.1 in
-    let f = fields_are_front type.public bytes b.0 small b.1 in
+    let b = bind_ok (fields_at type.added bytes) (λ read. Ok (blob_fields type read.0, read.1)) a.0 a.1 in
+    let f = fields_are_front type.added bytes b.0 small b.1 in
     let same : named kind (blob_fields type b.0.0, b.0.1) ≡ x =
     ap (named kind) (ok_is (blob_fields type b.0.0, b.0.1) a.0 b.2) ∙ ok_is (named kind a.0) x a.2 in
     subst (λ (y : List ℕ × List ℕ). IsBlobFront (Plain kind) bytes y.0 y.1) same (record {
@@ -89,7 +89,7 @@ unfolding blob_at blob_fields_at certificate_blob_at
 blob_again (Plain kind) text blob rest is =
     let answer : List ℕ → Result (List ℕ × List ℕ) KeyFault = λ found. Ok (found, rest) in
     ap (λ (front : List ℕ). blob_at (Plain kind) (front ++ rest)) is.fields
-    ∙ rw (fields_again (key_type kind).public is.public rest is.fit) (ap answer (sym is.named))
+    ∙ rw (fields_again (key_type kind).added is.public rest is.fit) (ap answer (sym is.named))
 blob_again (Certified kind) text blob rest is =
     ap (λ (front : List ℕ). blob_at (Certified kind) (front ++ rest)) is.whole
     ∙ rw (
@@ -264,7 +264,7 @@ blob_is_no_longer key is =
     )
 
 -- the public contents of an addition, in the order of a blob, are those of a blob
-in_order : (kind : KeyKind) (contents : List (List ℕ)) → AreContents (key_type kind).public contents →
+in_order : (kind : KeyKind) (contents : List (List ℕ)) → AreContents (key_type kind).added contents →
     AreContents (key_type kind).public (blob_order (key_type kind) contents)
 in_order Ed25519 contents fit = fit
 in_order Rsa [] fit = absurd fit

@@ -23,7 +23,7 @@ blob_fields type public = strings (blob_order type public)
 -- the text is the public fields of a plain type's addition, which has this blob
 pub record IsPlainText (kind : KeyKind) (text blob : List ℕ) : Type 0 where
   pub public : List (List ℕ)
-  pub fit : AreContents (key_type kind).public public
+  pub fit : AreContents (key_type kind).added public
   pub fields : text ≡ strings public
   pub named : blob ≡ string (key_type kind).name ++ blob_fields (key_type kind) public
 
@@ -63,7 +63,7 @@ IsAddition bytes = (key : AddedKey) × IsAddedKey key × (key.private ≡ bytes)
 -- the public fields of a blob, from those of an addition, and the bytes that follow these
 unfoldable pub blob_fields_at : KeyType → List ℕ → Result (List ℕ × List ℕ) KeyFault
 blob_fields_at type bytes =
-    fields_at type.public bytes >>= λ read. Ok (blob_fields type read.0, read.1)
+    fields_at type.added bytes >>= λ read. Ok (blob_fields type read.0, read.1)
 
 -- a certificate of this type, whose own fault comes first, and the bytes that follow
 unfoldable pub certificate_blob_at : KeyType → List ℕ → Result (List ℕ × List ℕ) KeyFault

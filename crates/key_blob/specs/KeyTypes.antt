@@ -10,9 +10,10 @@ use Rattle.key_blob.specs.declared.form.Form.TheVariants.{Plain, Certified}
 use Rattle.key_blob.specs.declared.kind.KeyKind.{KeyKind}
 use Rattle.key_blob.specs.declared.kind.KeyKind.TheVariants.{Ed25519, Rsa, Nistp256, Nistp384, Nistp521, StandIn}
 
--- what a field may hold: any bytes (an mpint is not read further), so many bytes, or one text alone
+-- what a field may hold: any bytes, a number of at most 2048 bytes, so many bytes, or one text alone
 pub data Field : Type 0 where
   any : Field
+  number : Field
   sized : ℕ → Field
   text : List ℕ → Field
 
@@ -20,8 +21,9 @@ pub data Field : Type 0 where
 pub record KeyType : Type 0 where
   -- the name of the type, which begins its blobs and additions
   pub name : List ℕ
-  -- the public fields
+  -- the public fields of a blob, and those of an addition
   pub public : List Field
+  pub added : List Field
   -- whether an addition has the public fields in the opposite order of a blob
   pub is_reversed : Bool
   -- the public fields that an addition has behind a certificate
@@ -40,6 +42,7 @@ abbrev pub sized_type : List ℕ → ℕ → List ℕ → KeyType
 sized_type name private_len word = record {
   name = name;
   public = sized 32 ∷ [];
+  added = sized 32 ∷ [];
   is_reversed = false;
   again = [];
   private = sized private_len ∷ [];
@@ -53,9 +56,10 @@ abbrev pub ecdsa_type : List ℕ → List ℕ → ℕ → KeyType
 ecdsa_type name curve bits = record {
   name = name;
   public = text curve ∷ any ∷ [];
+  added = text curve ∷ any ∷ [];
   is_reversed = false;
   again = [];
-  private = any ∷ [];
+  private = number ∷ [];
   other_algorithms = [];
   word = codes "ECDSA";
   bits = Some bits;
@@ -66,9 +70,10 @@ abbrev pub rsa_type : KeyType
 rsa_type = record {
   name = codes "ssh-rsa";
   public = any ∷ any ∷ [];
+  added = number ∷ number ∷ [];
   is_reversed = true;
   again = [];
-  private = any ∷ any ∷ any ∷ any ∷ [];
+  private = number ∷ number ∷ number ∷ number ∷ [];
   other_algorithms = codes "rsa-sha2-256" ∷ codes "rsa-sha2-512" ∷ [];
   word = codes "RSA";
   bits = None;

@@ -1,5 +1,6 @@
 pub mod KeyTypes
 pub mod Rows
+pub mod Digits
 pub mod Reading
 pub mod Principals
 pub mod Certificates

@@ -1,6 +1,6 @@
 -- Fields, as the table has them, and what reading them from left to right gives: their contents and
 -- the bytes that follow, or the first fault.
-use Rattle.std.specs.Prelude.{◌≡◌, ℕ, ◌^◌, ◌<◌, ◌-◌, List, [], ◌∷◌, length, take, Result, Ok, Err, ◌==◌, if◌then◌else◌}
+use Rattle.std.specs.Prelude.{◌≡◌, ℕ, ◌^◌, ◌<◌, ◌≤◌, ◌-◌, nat_lt, List, [], ◌∷◌, length, take, Result, Ok, Err, ◌==◌, if◌then◌else◌}
 use Rattle.std.specs.List.{flat_map}
 use Rattle.std.specs.Option.{ok_or}
 use Rattle.std.specs.Str.{bytes_eq}
@@ -10,13 +10,15 @@ use Rattle.wire_core.specs.Readings.{◌>>=◌}
 use Rattle.key_blob.specs.declared.fault.KeyFault.{KeyFault}
 use Rattle.key_blob.specs.declared.fault.KeyFault.TheVariants.{Short, UnknownType, BadLength, Mismatch}
 use Rattle.key_blob.specs.declared.form.Form.{Form}
-use Rattle.key_blob.specs.KeyTypes.{Field, any, sized, text, form_named}
+use Rattle.key_blob.specs.Digits.{digits_of}
+use Rattle.key_blob.specs.KeyTypes.{Field, any, number, sized, text, form_named}
 
 -- ---- what fields are
 
 -- a content that the field may hold
 abbrev pub IsContent : Field → List ℕ → Type 0
 IsContent any content = Unit {0}
+IsContent number content = digits_of content ≤ 16384
 IsContent (sized len) content = length content ≡ len
 IsContent (text bytes) content = content ≡ bytes
 
@@ -37,6 +39,7 @@ strings contents = flat_map string contents
 -- a content that was read, where the field may hold it
 abbrev pub checked : Field → List ℕ × List ℕ → Result (List ℕ × List ℕ) KeyFault
 checked any found = Ok found
+checked number found = if nat_lt 16384 (digits_of found.0) then Err BadLength else Ok found
 checked (sized len) found = if length found.0 == len then Ok found else Err BadLength
 checked (text bytes) found = if bytes_eq found.0 bytes then Ok found else Err Mismatch
 

@@ -54,7 +54,7 @@ fn take_public(
         (λ fault. (fault ≡ Memory) ⊎ (blob_fields_at (line_of key_type.now) from.old ≡ Err fault)) }
 {
     let mut strings = Vec::new(alloc);
-    for field in key_type.public {
+    for field in key_type.added {
         let content = take_field(from, field)?;
         join(&mut strings, content, key_type.is_reversed)?;
     }
@@ -159,7 +159,7 @@ fn skip_public(from: &mut Cursor<'_>, form: Form) -> Result<(), KeyFault>
 {
     let key_type = row(form);
     match form {
-        Form::Plain(_) => skip_fields(from, key_type.public),
+        Form::Plain(_) => skip_fields(from, key_type.added),
         Form::Certified(_) => {
             take_certified(from, &key_type)?;
             Ok(())

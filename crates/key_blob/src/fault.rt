@@ -13,7 +13,8 @@ pub enum KeyFault {
     Short = 1,
     /// The type is none of the table in docs/PROTOCOL.md, "Keys".
     UnknownType = 2,
-    /// A field whose length the table gives has another length.
+    /// A field whose length the table gives has another length, or a number of an addition has more than 16384
+    /// binary digits.
     BadLength = 3,
     /// The name of the curve is not the one that the type names, or the type of the certificate in
     /// an addition is not the one that stands before it.

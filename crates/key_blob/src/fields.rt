@@ -7,6 +7,7 @@ ghost use Rattle.key_blob.specs.Reading.{field_at, after_fields, form_at, taken}
 use crate::fault::KeyFault;
 use crate::form::Form;
 use crate::key_type::{Field, form_of_name};
+use crate::size::digits;
 use wire_core::Cursor;
 
 /// Takes the name of a type. A refused call may have moved the cursor.
@@ -18,6 +19,9 @@ pub fn take_form(from: &mut Cursor<'_>) -> Result<Form, KeyFault>
     form_of_name(from.take_string()?).ok_or(KeyFault::UnknownType)
 }
 
+/// The most binary digits of a number in an addition.
+const MOST_DIGITS: u64 = 16384;
+
 /// Takes a field. A refused call may have moved the cursor.
 #[tactic(auto, unfolding(crate::specs::Reading::field_at))]
 pub fn take_field<'a>(from: &mut Cursor<'a>, field: &Field) -> Result<&'a [u8], KeyFault>
@@ -28,6 +32,7 @@ pub fn take_field<'a>(from: &mut Cursor<'a>, field: &Field) -> Result<&'a [u8], 
 {
     let content = from.take_string()?;
     match field {
+        Field::Number if digits(content) > MOST_DIGITS => Err(KeyFault::BadLength),
         Field::Sized(len) if content.len() != *len => Err(KeyFault::BadLength),
         Field::Text(bytes) if content != *bytes => Err(KeyFault::Mismatch),
         _ => Ok(content),

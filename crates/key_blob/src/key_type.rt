@@ -11,6 +11,7 @@ use crate::kind::KeyKind;
 #[derive(Clone, Copy)]
 pub enum Field {
     Any,
+    Number,
     Sized(usize),
     Text(&'static [u8]),
 }
@@ -19,8 +20,10 @@ pub enum Field {
 #[derive(Clone, Copy)]
 pub struct KeyType {
     pub name: &'static [u8],
-    /// The public fields. Of a reversed type they are alike, so that their order does not show here.
+    /// The public fields of a blob. Of a reversed type they are alike, so that their order does not show here.
     pub public: &'static [Field],
+    /// The public fields of an addition.
+    pub added: &'static [Field],
     /// Whether an addition has the public fields in the opposite order of a blob.
     pub is_reversed: bool,
     /// The public fields that an addition has behind a certificate.
@@ -64,9 +67,10 @@ pub fn plain_row(kind: KeyKind) -> KeyType
         KeyKind::Rsa => KeyType {
             name: b"ssh-rsa",
             public: &[Field::Any, Field::Any],
+            added: &[Field::Number, Field::Number],
             is_reversed: true,
             again: &[],
-            private: &[Field::Any, Field::Any, Field::Any, Field::Any],
+            private: &[Field::Number, Field::Number, Field::Number, Field::Number],
             other_algorithms: &[b"rsa-sha2-256", b"rsa-sha2-512"],
             word: "RSA",
             bits: None,
@@ -101,6 +105,7 @@ fn sized(name: &'static [u8], private: &'static [Field], word: &'static str) -> 
     KeyType {
         name,
         public: &[Field::Sized(32)],
+        added: &[Field::Sized(32)],
         is_reversed: false,
         again: &[],
         private,
@@ -112,14 +117,15 @@ fn sized(name: &'static [u8], private: &'static [Field], word: &'static str) -> 
 
 fn ecdsa(name: &'static [u8], public: &'static [Field], bits: u64) -> KeyType
     ensures { line_of result ≡
-        record (ecdsa_type name.now [] bits) { public = fields_of public.now } }
+        record (ecdsa_type name.now [] bits) { public = fields_of public.now; added = fields_of public.now } }
 {
     KeyType {
         name,
         public,
+        added: public,
         is_reversed: false,
         again: &[],
-        private: &[Field::Any],
+        private: &[Field::Number],
         other_algorithms: &[],
         word: "ECDSA",
         bits: Some(bits),

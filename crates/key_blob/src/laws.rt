@@ -1,12 +1,14 @@
 //! Laws of keys, beside the readers.
 
-ghost use Rattle.std.specs.Prelude.{◌≡◌, ℕ, ◌^◌, ◌<◌, ◌≤◌, List, ◌++◌, length, None};
+ghost use Rattle.std.specs.Prelude.{◌≡◌, ◌↔◌, ℕ, ◌^◌, ◌<◌, ◌≤◌, List, ◌++◌, length, None};
 ghost use Rattle.wire_text.specs.Wire.{IsBytes, string};
 ghost use Rattle.key_blob.specs.declared.added.AddedKey.{AddedKey};
 ghost use Rattle.key_blob.specs.AddedKeys.{IsAddedKey};
-ghost use Rattle.key_blob.specs.KeySizes.{HasDigits, bits_of, number_of};
-ghost use Rattle.key_blob.specs.KeyTypes.{key_type};
+ghost use Rattle.key_blob.specs.Digits.{HasDigits, number_of};
+ghost use Rattle.key_blob.specs.KeySizes.{bits_of};
+ghost use Rattle.key_blob.specs.KeyTypes.{key_type, number};
 ghost use Rattle.key_blob.specs.PublicKeys.{IsPublicKey, KeyParts};
+ghost use Rattle.key_blob.specs.Reading.{IsContent};
 
 /// A blob is that of one key.
 pub fn a_blob_is_one_key()
@@ -25,6 +27,12 @@ pub fn an_addition_has_a_public_key()
         → (parts : KeyParts) × IsPublicKey key.blob parts }
     ensures no_longer { (key : AddedKey) → IsAddedKey key
         → length key.blob ≤ length key.private }
+{}
+
+/// An addition may have a number exactly where it is below 2 to the 16384, with zeros in front or not.
+pub fn a_number_of_an_addition_has_at_most_16384_digits()
+    ensures { (content : List ℕ) → IsBytes content
+        → IsContent number content ↔ (number_of content < 2 ^ 16384) }
 {}
 
 /// The size of a key whose type doesn't tell it, an RSA key with the exponent `e` and the modulus

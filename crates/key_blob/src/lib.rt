@@ -24,9 +24,9 @@ pub use fault::KeyFault;
 pub use fingerprints::fingerprint;
 pub use kind::KeyKind;
 pub use laws::{
-    a_blob_is_one_key, a_size_is_the_digits_of_the_modulus, an_addition_has_a_public_key,
-    no_addition_begins_another,
+    a_blob_is_one_key, a_number_of_an_addition_has_at_most_16384_digits,
+    a_size_is_the_digits_of_the_modulus, an_addition_has_a_public_key, no_addition_begins_another,
 };
 pub use public_key::{Certificate, PublicKey, algorithm_fits, read_public, type_word};
-pub use rows::private_fields_stand_behind_the_public;
+pub use rows::{a_number_of_2048_bytes_is_taken, private_fields_stand_behind_the_public};
 pub use size::bits;

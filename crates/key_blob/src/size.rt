@@ -2,7 +2,8 @@
 
 ghost use Rattle.std.specs.Prelude.{◌≡◌, ◌^◌, ◌<◌, length};
 ghost use Rattle.key_blob.specs.PublicKeys.{parts_of};
-ghost use Rattle.key_blob.specs.KeySizes.{digits_of, modulus_of, bits_of};
+ghost use Rattle.key_blob.specs.Digits.{digits_of};
+ghost use Rattle.key_blob.specs.KeySizes.{modulus_of, bits_of};
 
 use crate::key_type::plain_row;
 use crate::public_key::PublicKey;
@@ -34,7 +35,7 @@ fn modulus(fields: &[u8]) -> &[u8]
 }
 
 /// How many binary digits the number has whose bytes these are.
-fn digits(bytes: &[u8]) -> u64
+pub fn digits(bytes: &[u8]) -> u64
     requires { length bytes.now < 2 ^ 32 }
     ensures { result ≡ digits_of bytes.now }
 {

@@ -6,13 +6,14 @@ use Rattle.wire_text.proofs.WireLemmas.{length-string}
 use Rattle.wire_core.specs.Fields.{string_at, string_len}
 use Rattle.wire_core.proofs.Theorems.{string_at-string}
 use Rattle.key_blob.specs.AddedKeys.{IsAddedKey, IsAddition, private_from}
-use Rattle.key_blob.specs.KeyTypes.{Field, any, sized, text, key_type, certified_type, type_of}
+use Rattle.key_blob.specs.KeyTypes.{Field, any, number, sized, text, key_type, certified_type, type_of}
 use Rattle.key_blob.specs.Reading.{AreContents, strings}
 use Rattle.key_blob.specs.declared.added.AddedKey.{AddedKey}
 use Rattle.key_blob.specs.declared.form.Form.{Form}
 use Rattle.key_blob.specs.declared.form.Form.TheVariants.{Plain, Certified}
 use Rattle.key_blob.specs.declared.kind.KeyKind.{KeyKind}
 use Rattle.key_blob.specs.declared.kind.KeyKind.TheVariants.{Ed25519, Rsa, Nistp256, Nistp384, Nistp521, StandIn}
+use Rattle.key_blob.proofs.SizeLemmas.{digits_of-zeros}
 use Rattle.key_blob.proofs.Theorems.{private_fields_are_last, private_from_is_within}
 use Rattle.redact_core.specs.Redaction.{blank, blank_by, blank_up_to, without_secrets}
 use Rattle.redact_core.specs.Blanks.{EachStays, StaysAddition}
@@ -24,9 +25,10 @@ zeros content = replicate (length content) 0
 -- ---- contents
 
 -- fields that hold no fixed text
-abbrev AreFree : List Field → Type 0
+abbrev pub AreFree : List Field → Type 0
 AreFree [] = Unit {0}
 AreFree (any ∷ fields) = AreFree fields
+AreFree (number ∷ fields) = AreFree fields
 AreFree (sized len ∷ fields) = AreFree fields
 AreFree (text bytes ∷ fields) = ⊥
 
@@ -47,11 +49,11 @@ free_by_certificate Nistp521 = tt
 free_by_certificate StandIn = tt
 
 -- no private field of the table does
-private_is_free : (form : Form) → AreFree (type_of form).private
+pub private_is_free : (form : Form) → AreFree (type_of form).private
 private_is_free (Plain kind) = free_by_kind kind
 private_is_free (Certified kind) = free_by_certificate kind
 
-zeros_fit : (fields : List Field) (contents : List (List ℕ)) → AreFree fields → AreContents fields contents
+pub zeros_fit : (fields : List Field) (contents : List (List ℕ)) → AreFree fields → AreContents fields contents
     → AreContents fields (map zeros contents)
 zeros_fit [] [] free fit = tt
 zeros_fit [] (content ∷ contents) free fit = absurd fit
@@ -60,6 +62,11 @@ zeros_fit (any ∷ fields) (content ∷ contents) free fit = (
   subst (λ n. n < 2 ^ 32)
       (sym (length-replicate (length content) 0)) fit.0,
   tt,
+  zeros_fit fields contents free fit.2,
+)
+zeros_fit (number ∷ fields) (content ∷ contents) free fit = (
+  subst (λ n. n < 2 ^ 32) (sym (length-replicate (length content) 0)) fit.0,
+  omega (arith, digits_of-zeros (length content)),
   zeros_fit fields contents free fit.2,
 )
 zeros_fit (sized len ∷ fields) (content ∷ contents) free fit = (

@@ -23,13 +23,12 @@ use Rattle.agent_msg.proofs.FoundLemmas.{request_is_found}
 use Rattle.agent_msg.proofs.ReadLemmas.{request_is_read}
 use Rattle.redact_core.specs.Blanks.{blanked}
 use Rattle.redact_core.specs.Redaction.{holds_secrets, unread, without_secrets}
-use Rattle.redact_core.proofs.BlankLemmas.{blanked_text, zeros}
+use Rattle.redact_core.proofs.BlankLemmas.{blanked_text, private_is_free, zeros, zeros_fit}
 use Rattle.agent_model.specs.Binds.{agent_request_of, and_host_key, bind_with, with_host_key}
 use Rattle.agent_secrecy.specs.Alike.{AreAlikeBodies}
 use Rattle.agent_secrecy.specs.Hiding.{hide_read}
 use Rattle.agent_secrecy.specs.Secrets.{AreAlikeKeys, AreOfEqualLengths, hidden}
 use Rattle.agent_secrecy.proofs.BodyLemmas.{bodies_read}
-use Rattle.agent_secrecy.proofs.ExactLemmas.{fit_by_length, private_is_free}
 use Rattle.agent_secrecy.proofs.KeyLemmas.{parts_of}
 use Rattle.replay_laws.specs.Redacting.{renamed, renamed_as, renamed_read, renamed_request}
 
@@ -44,7 +43,7 @@ pub blanked_alike : (key : AddedKey) → IsAddedKey key → AreAlikeKeys key (bl
 blanked_alike key is = record {
   is = is;
   private = map zeros is.private;
-  private_fit = fit_by_length (type_of is.form).private is.private (map zeros is.private) (private_is_free is.form) (equal_zeros is.private) is.private_fit;
+  private_fit = zeros_fit (type_of is.form).private is.private (private_is_free is.form) is.private_fit;
   lengths = equal_zeros is.private;
   blob = refl;
   text =

@@ -1,5 +1,5 @@
 use Rattle.std.proofs.Common.{◌≡◌, drop}
-use Rattle.key_blob.specs.KeySizes.{digits_of}
+use Rattle.key_blob.specs.Digits.{digits_of}
 use Rattle.key_blob.proofs.size.digits.Given as goal
 
 -- the bytes so far are zero
