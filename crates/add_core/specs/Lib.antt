@@ -1,3 +1,4 @@
+pub mod Codes
 pub mod Exchanges
 pub mod FileCauses
 pub mod Hearing

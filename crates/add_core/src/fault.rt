@@ -1,6 +1,7 @@
 //! Why `ssh-add` stops, and how it ends.
 
 ghost use Rattle.std.specs.Prelude.{◌≡◌};
+ghost use Rattle.add_core.specs.Codes.{code_of};
 ghost use Rattle.add_core.specs.declared.fault.AddFault.TheVariants.{OutputFault};
 ghost use Rattle.add_core.specs.declared.fault.PeerStop.TheVariants.{Failed as PeerFailed, Memory as PeerMemory};
 ghost use Rattle.add_core.specs.declared.fault.Stop.TheVariants.{Fault as Faulty, Memory as NoMemory};
@@ -56,6 +57,20 @@ pub enum AddStatus {
     NoAgent,
     /// Memory ran out.
     Memory,
+}
+
+impl AddStatus {
+    /// The exit status, as ssh-add(1) has it where it says one.
+    pub fn code(self) -> u8
+        ensures { result ≡ code_of self }
+    {
+        match self {
+            AddStatus::Done => 0,
+            AddStatus::Failed(_) => 1,
+            AddStatus::NoAgent => 2,
+            AddStatus::Memory => 5,
+        }
+    }
 }
 
 /// Why the connection gave no reply.

@@ -36,16 +36,6 @@ fn run<F: Files>(rt: &HostRuntime, files: &mut F) -> IoResult<AddStatus> {
     ))
 }
 
-// The exit status, as ssh-add(1) has it where it says one.
-fn code(status: AddStatus) -> u8 {
-    match status {
-        AddStatus::Done => 0,
-        AddStatus::Failed(_) => 1,
-        AddStatus::NoAgent => 2,
-        AddStatus::Memory => 5,
-    }
-}
-
 fn main(rt: HostRuntime) -> ExitCode {
     let mut files = Named::new(RealFiles::new(&rt));
     let status = match run(&rt, &mut files) {
@@ -58,5 +48,5 @@ fn main(rt: HostRuntime) -> ExitCode {
     if let Some(trouble) = Trouble::of(status, files.take_last(), reason) {
         let _ = eprintln!(rt; "ssh-add: {trouble}");
     }
-    ExitCode::from(code(status))
+    ExitCode::from(status.code())
 }
