@@ -760,7 +760,7 @@ def filled(agent, count):
 
 @check
 def a_list_beside_120_that_list_without_a_pause_is_short(folder):
-    """With a thousand keys held: whoever else sends has sixteen answers before it."""
+    """With a thousand keys held: whoever else sends has an answer or two before it."""
     helper = rig.script(folder / "helper", "exec sleep 60")
     with serve(folder, helper=helper) as agent, agent.peer(seconds=60) as before:
         filled(agent, 1000)
@@ -773,7 +773,7 @@ def a_list_beside_120_that_list_without_a_pause_is_short(folder):
             waited = sorted(listed(before) for _ in range(11))
             assert all(process.poll() is None for process in floods), "the flood was over before"
             print(f"a list beside 120 that list: {waited[5]:.3f} s, at most {waited[-1]:.3f} s")
-            assert waited[5] < 0.5, f"{waited}"
+            assert waited[5] < 0.15, f"{waited}"
         finally:
             for process in floods:
                 process.kill()

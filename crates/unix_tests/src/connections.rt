@@ -7,6 +7,8 @@ use std::io::Read;
 use std::os::unix::net::UnixStream;
 use std::process::Abort;
 use std::test::*;
+use std::thread;
+use std::time::Duration;
 use unix_world::UnixWorld;
 use world_ports::{Accepted, Door, Got, Polled, Ready, Spot, World, WorldFault, Wrote};
 
@@ -185,6 +187,41 @@ fn a_seventeenth_write_waits_for_a_poll(rt: HostRuntime) -> Result<(), Fail> {
     holds(&rt, has_room(&ready, 1), "it is told of");
     write_times(&rt, &mut world, 16);
     writes(&rt, &mut world, 1, b"w", Wrote::NotNow, "and again");
+    drop(client);
+    world.remove_file();
+    Ok(())
+}
+
+// Looks at the clocks so many times. From the third look on every other asks how long the round has lasted.
+fn look_times<W: World>(rt: &impl Abort, world: &mut W, count: u64) {
+    for _ in 0..count {
+        holds(rt, world.now().is_ok(), "what the clocks show");
+    }
+}
+
+#[test]
+fn a_second_write_of_a_long_round_waits_for_a_poll(rt: HostRuntime) -> Result<(), Fail> {
+    let alloc = rt.alloc();
+    let mut world = UnixWorld::new(&rt, alloc, no_programs(alloc))?;
+    let listens = world.bind(Door::Clients, "long.socket").is_ok();
+    holds(&rt, listens, "a listener");
+    let client = UnixStream::connect(&rt, "long.socket").expect(&rt, "a client");
+    let answer = world.accept(Door::Clients);
+    accepted(&rt, answer, Accepted::Port(1), "the client");
+    let mut ready = Vec::new(alloc);
+    holds(
+        &rt,
+        world.poll(Some(0), &mut ready).is_ok(),
+        "a round begins",
+    );
+    look_times(&rt, &mut world, 1);
+    thread::sleep(&rt, Duration::from_millis(40));
+    look_times(&rt, &mut world, 4);
+    write_times(&rt, &mut world, 1);
+    writes(&rt, &mut world, 1, b"w", Wrote::NotNow, "one more");
+    holds(&rt, world.poll(None, &mut ready).is_ok(), "doesn't wait");
+    holds(&rt, has_room(&ready, 1), "it is told of");
+    write_times(&rt, &mut world, 16);
     drop(client);
     world.remove_file();
     Ok(())

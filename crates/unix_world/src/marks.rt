@@ -1,8 +1,9 @@
 //! Whether a port is to be read, written or told of again, since epoll tells of a change once.
 
-ghost use Rattle.std.specs.Prelude.{◌≡◌};
+ghost use Rattle.std.specs.Prelude.{◌≡◌, ◌≢◌, ◌≤◌, ◌<◌, ◌+◌, IsTrue};
+ghost use Rattle.std.specs.Bool.{OnTrue};
 
-// So many writes of a port are tried in a round.
+// So many writes of a port are tried in a round that isn't long.
 const MOST_WRITES: u32 = 16;
 
 /// Whether a read is to ask the system, whether one more write is to be tried, and whether the next poll has to tell of
@@ -20,6 +21,16 @@ pub struct Marks {
     // The round of the last write, and how many were tried in it.
     wrote_in: u64,
     writes: u32,
+}
+
+// How many writes of a port are tried in a round.
+#[inline(always)]
+fn most_writes(is_long: bool) -> u32
+    ensures bound { result ≤ MOST_WRITES }
+    ensures some { 0 < result }
+    ensures long { IsTrue is_long → result ≡ 1 }
+{
+    if is_long { 1 } else { MOST_WRITES }
 }
 
 impl Marks {
@@ -60,14 +71,20 @@ impl Marks {
         true
     }
 
-    /// Whether one more write is to be tried in this round, which counts as tried then. Where it isn't, the next poll has
-    /// to tell of the port.
-    pub fn may_write(&mut self, round: u64) -> bool {
+    /// Whether one more write is to be tried in this round, which counts as tried then: the first, and 15 more unless the
+    /// round is long. Where it isn't, the next poll has to tell of the port.
+    pub fn may_write(&mut self, round: u64, is_long: bool) -> bool
+        ensures first { self.old.wrote_in ≢ round → IsTrue result }
+        ensures round { self.new.wrote_in ≡ round }
+        ensures counted { self.old.wrote_in ≡ round → OnTrue result (self.new.writes ≡ self.old.writes + 1) }
+        ensures bound { OnTrue result (self.new.writes ≤ MOST_WRITES) }
+        ensures long { IsTrue is_long → OnTrue result (self.new.writes ≡ 1) }
+    {
         if self.wrote_in != round {
             self.wrote_in = round;
             self.writes = 0;
         }
-        if self.writes >= MOST_WRITES {
+        if self.writes >= most_writes(is_long) {
             return false;
         }
         self.writes += 1;

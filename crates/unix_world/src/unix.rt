@@ -28,8 +28,8 @@ use world_ports::{
     Accepted, Door, Got, Job, Moment, Polled, READ_ROOM, Ready, World, WorldFault, Wrote,
 };
 
-// epoll keeps what doesn't fit for the next wait.
-const EVENTS: usize = 64;
+// More than there are connections and listeners at once. epoll keeps what doesn't fit for the next wait.
+const EVENTS: usize = 256;
 
 // The clocks are read again after so many looks at them,
 const MOST_LOOKS: u32 = 64;
@@ -37,14 +37,17 @@ const MOST_LOOKS: u32 = 64;
 // or so many milliseconds, whichever is first.
 const MOST_MILLIS: u64 = 10;
 
+// A round is long once it has lasted so many milliseconds: each port is written once in it then.
+const LONG_MILLIS: u64 = 10;
+
 // The listener's token. Those of connections are keys of the slab, and below it.
 const CLIENTS: Token = Token(usize::MAX);
 
 /// Unix sockets over epoll, child processes, the system's clocks.
 ///
 /// A connection is registered for reading; for writing only once a write found no room. Between two polls each port is
-/// read once and written 16 times, and the listener gives a bounded number of connections; where that may leave something
-/// waiting, the next poll tells of it and doesn't wait. The clocks are read at the first look behind a poll, and again
+/// read once and written 16 times, and once where these last for more than 10 milliseconds; the listener gives a bounded
+/// number of connections. Where that may leave something waiting, the next poll tells of it and doesn't wait. The clocks are read at the first look behind a poll, and again
 /// after 64 looks or 10 milliseconds, which is looked at with every other one.
 ///
 /// A child process's standard input is its connection, the other end of which is there to be accepted from its start on;
@@ -81,6 +84,9 @@ pub struct UnixWorld<'a, R: Processes> {
     dated_in: u64,
     looks: u32,
     dated_at: Option<u64>,
+    // The kernel's tick at the first look of that round, and the last round that was found to be long.
+    began_at: Option<u64>,
+    long_in: u64,
     faults: u64,
 }
 
@@ -114,6 +120,8 @@ impl<'a, R: Files + Net + Processes + Env + AllocGlobal> UnixWorld<'a, R> {
             dated_in: 0,
             looks: 0,
             dated_at: None,
+            began_at: None,
+            long_in: 0,
             faults: 0,
         })
     }
@@ -138,6 +146,15 @@ impl<R: Files<File = File> + Processes + Clock> UnixWorld<'_, R> {
 /// Memory ran out within this program: the system's own want of it has a number, and is its refusal.
 pub fn is_memory(error: &Error) -> bool {
     error.kind() == ErrorKind::OutOfMemory && error.raw_os_error().is_none()
+}
+
+// Whether so many milliseconds are over since a tick. Where the system has no such clock they are.
+#[inline(always)]
+fn is_over(then: Option<u64>, now: Option<u64>, millis: u64) -> bool {
+    match (then, now) {
+        (Some(then), Some(now)) => now.saturating_sub(then) >= millis,
+        _ => true,
+    }
 }
 
 // A path in a folder, where it doesn't begin at the root.
@@ -171,9 +188,13 @@ impl<R: Files<File = File> + Net + Processes + RandomSource + Clock + Eprint> Un
         ensures ports { self.new.last_port ≡ self.old.last_port }
         ensures moment { self.old.moment.mono ≤ self.new.moment.mono }
     {
-        self.dated_in = self.round;
+        let tick = last_tick();
+        if self.dated_in != self.round {
+            self.dated_in = self.round;
+            self.began_at = tick;
+        }
         self.looks = 0;
-        self.dated_at = last_tick();
+        self.dated_at = tick;
         if let Some(mono) = seconds(self.rt) {
             self.moment.mono = self.moment.mono.max(mono);
         }
@@ -183,7 +204,8 @@ impl<R: Files<File = File> + Net + Processes + RandomSource + Clock + Eprint> Un
     }
 
     // Whether the clocks are to be read for this look: it is the first of a round, or the last reading is old. At the
-    // second look, and then at every other, the time since isn't asked for.
+    // second look, and then at every other, the time since isn't asked for. Where it is, it tells whether the round is
+    // long.
     #[inline(always)]
     fn is_undated(&mut self) -> bool
         ensures faults { self.new.faults ≡ self.old.faults }
@@ -200,10 +222,11 @@ impl<R: Files<File = File> + Net + Processes + RandomSource + Clock + Eprint> Un
         if self.looks < 3 || self.looks % 2 == 0 {
             return false;
         }
-        match (self.dated_at, last_tick()) {
-            (Some(then), Some(now)) => now.saturating_sub(then) >= MOST_MILLIS,
-            _ => true,
+        let now = last_tick();
+        if is_over(self.began_at, now, LONG_MILLIS) {
+            self.long_in = self.round;
         }
+        is_over(self.dated_at, now, MOST_MILLIS)
     }
 
     fn listen(&mut self, path: &str) -> io::Result<()>
@@ -272,7 +295,11 @@ impl<R: Files<File = File> + Net + Processes + RandomSource + Clock + Eprint> Un
         let Some(found) = self.ports.get_mut(key) else {
             return Err(Error::from(ErrorKind::NotFound));
         };
-        if !found.port.marks.may_write(self.round) {
+        if !found
+            .port
+            .marks
+            .may_write(self.round, self.long_in == self.round)
+        {
             self.owed_writes.push(port)?;
             return Ok(Wrote::NotNow);
         }
