@@ -1,12 +1,12 @@
 -- What may come next in a journal, and what that leaves.
-use Rattle.std.proofs.Common.{◌≡◌, Bool, true, false, List, [], ◌∷◌, ◌++◌, Option, Some, None, refl, ap, ◌&&◌, ◌==◌}
+use Rattle.std.proofs.Common.{◌≡◌, Bool, true, false, List, [], ◌∷◌, ◌++◌, length, Option, Some, None, refl, ap, ◌&&◌, ◌==◌}
 use Rattle.std.specs.Prelude.{option_and_then}
 use Rattle.std.specs.Str.{bytes_eq}
 use Rattle.world_ports.specs.declared.entry.Entry.{Entry}
 use Rattle.world_ports.specs.declared.entry.Entry.TheVariants as entry
 use Rattle.agent_model.specs.State.{State, owed_of}
 use Rattle.loop_model.specs.Dues.{is_free}
-use Rattle.loop_model.specs.LegalJournal.{LoopState, after_entries, after_entry, after_if, after_if_legal, comes_next}
+use Rattle.loop_model.specs.LegalJournal.{LoopState, after_entries, after_entry, after_if, after_if_legal, comes_next, is_read, is_taken}
 use Rattle.world_ports.specs.Worlds.{read_room}
 use Rattle.loop_model.specs.Queues.{is_next}
 use Rattle.loop_model.specs.declared.thing.Thing.{Thing}
@@ -58,11 +58,12 @@ in_turn reading (entry.Accept door answer) may =
     (and_both (is_free reading.due) (is_next reading.state reading.line.queue (Accept door)) may).1
 in_turn reading (entry.Read port room bytes answer) may =
     let next = is_next reading.state reading.line.queue (Read port) in
-    (and_both next (room == read_room) (and_both (is_free reading.due) (next && (room == read_room)) may).1).0
+    let whole = (room == read_room) && is_read room bytes answer in
+    (and_both next whole (and_both (is_free reading.due) (next && whole) may).1).0
 in_turn reading (entry.Write port offered answer) may =
     let next = is_next reading.state reading.line.queue (Write port) in
-    let same = bytes_eq offered (owed_of port reading.state) in
-    (and_both next same (and_both (is_free reading.due) (next && same) may).1).0
+    let owed = bytes_eq offered (owed_of port reading.state) && is_taken (length offered) answer in
+    (and_both next owed (and_both (is_free reading.due) (next && owed) may).1).0
 in_turn reading (entry.Close port answer) may = refl
 in_turn reading (entry.Start job answer) may = refl
 in_turn reading (entry.Now answer) may = refl

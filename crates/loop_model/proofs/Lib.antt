@@ -4,6 +4,7 @@ pub mod FilterLemmas
 pub mod AsideLemmas
 pub mod JournalLemmas
 pub mod FrontLemmas
+pub mod FittingLemmas
 pub mod ClosedLemmas
 pub mod SparedLemmas
 pub mod MomentLemmas

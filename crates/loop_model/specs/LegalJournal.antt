@@ -1,7 +1,12 @@
 -- Which journals of a world are legal for the abstract agent, each thing being served in its turn (ours): a fold over
 -- their entries. Read from the end.
-use Rattle.std.specs.Prelude.{ℕ, Bool, true, false, List, [], ◌∷◌, Option, Some, None, Result, Ok, Err, ◌==◌, ◌&&◌, option_and_then}
+use Rattle.std.specs.Prelude.{ℕ, Bool, true, false, List, [], ◌∷◌, length, Option, Some, None, Result, Ok, Err, ◌==◌, ◌&&◌, nat_le, nat_lt, option_and_then}
 use Rattle.std.specs.Str.{bytes_eq}
+use Rattle.world_ports.specs.declared.answers.Got.{Got}
+use Rattle.world_ports.specs.declared.answers.Got.TheVariants as got
+use Rattle.world_ports.specs.declared.answers.WorldFault.{WorldFault}
+use Rattle.world_ports.specs.declared.answers.Wrote.{Wrote}
+use Rattle.world_ports.specs.declared.answers.Wrote.TheVariants as wrote
 use Rattle.world_ports.specs.declared.events.Job.{Job}
 use Rattle.world_ports.specs.declared.events.JobKind.{JobKind}
 use Rattle.world_ports.specs.declared.events.JobKind.TheVariants as kinds
@@ -43,6 +48,19 @@ abbrev pub is_first_job : Job → List Job → Bool
 is_first_job job [] = false
 is_first_job job (first ∷ later) = (job.number == first.number) && same_kind job.kind first.kind
 
+-- what was read is as many bytes as the answer says, one at least, and no more than the room
+abbrev pub is_read : ℕ → List ℕ → Result Got WorldFault → Bool
+is_read room bytes (Ok (got.Bytes n)) = (length bytes == n) && (nat_lt 0 n && nat_le n room)
+is_read room bytes (Ok got.End) = true
+is_read room bytes (Ok got.NotNow) = true
+is_read room bytes (Err fault) = true
+
+-- what was taken is one byte at least, and no more than was offered
+abbrev pub is_taken : ℕ → Result Wrote WorldFault → Bool
+is_taken offered (Ok (wrote.Took n)) = nat_lt 0 n && nat_le n offered
+is_taken offered (Ok wrote.NotNow) = true
+is_taken offered (Err fault) = true
+
 -- the first thing of the queue that can be served, the first job that waits, or what has to come
 abbrev pub comes_next : LoopState → Entry → Bool
 comes_next reading (entry.Bind door path answer) = false
@@ -51,10 +69,12 @@ comes_next reading (entry.Poll wait items answer) =
 comes_next reading (entry.Accept door answer) =
     is_free reading.due && is_next reading.state reading.line.queue (Accept door)
 comes_next reading (entry.Read port room bytes answer) =
-    is_free reading.due && (is_next reading.state reading.line.queue (Read port) && (room == read_room))
+    is_free reading.due
+    && (is_next reading.state reading.line.queue (Read port) && ((room == read_room) && is_read room bytes answer))
 comes_next reading (entry.Write port offered answer) =
     is_free reading.due
-    && (is_next reading.state reading.line.queue (Write port) && bytes_eq offered (owed_of port reading.state))
+    && (is_next reading.state reading.line.queue (Write port)
+    && (bytes_eq offered (owed_of port reading.state) && is_taken (length offered) answer))
 comes_next reading (entry.Close port answer) = is_closing port reading.due
 comes_next reading (entry.Start job answer) = is_free reading.due && is_first_job job (starts reading.state)
 comes_next reading (entry.Now answer) = reads_clock reading.due (is_idle reading.state reading.line)

@@ -6,6 +6,7 @@ pub mod Lines
 pub mod Dues
 pub mod Calls
 pub mod LegalJournal
+pub mod Fitting
 pub mod Rows
 pub mod Fronts
 pub mod Elsewhere

@@ -8,11 +8,13 @@ ghost use Rattle.world_ports.specs.declared.entry.Entry.{Entry};
 ghost use Rattle.world_ports.specs.declared.entry.Entry.TheVariants as entry;
 ghost use Rattle.world_ports.specs.declared.events.Moment.{Moment};
 ghost use Rattle.agent_model.specs.Events.{Happening};
+ghost use Rattle.agent_model.specs.Runs.{AllFit, AreInRange};
 ghost use Rattle.agent_model.specs.Sound.{IsRising};
 ghost use Rattle.agent_model.specs.State.{Settings, State, find_port, first_state, is_some_bytes, owed_of, wants};
 ghost use Rattle.agent_model.specs.Step.{step};
 ghost use Rattle.loop_model.specs.Dues.{Free};
 ghost use Rattle.loop_model.specs.Elsewhere.{ends_waits, is_clients, is_due, is_of, may_end, stands, tells_others};
+ghost use Rattle.loop_model.specs.Fitting.{AreOfOneRead, AreTyped, journal_events};
 ghost use Rattle.loop_model.specs.Fronts.{HasFront, RestsAfter};
 ghost use Rattle.loop_model.specs.LegalJournal.{LoopState, after_entries, in_state};
 ghost use Rattle.loop_model.specs.Lines.{Line};
@@ -74,4 +76,18 @@ pub fn an_event_leaves_an_orderly_agent()
     ensures first { (settings : Settings) → IsOrderly (first_state settings) }
     ensures later { (state : State) (moment : Moment) (event : Happening) → IsOrderly state
         → IsOrderly (step state moment event).state }
+{}
+
+/// In a legal journal each event may come in the state that it finds, and a piece of bytes is no more than one read has
+/// room for. Where the entries have the numbers of their types, so have the events.
+pub fn the_events_of_a_journal_fit()
+    ensures fit { (state : State) (line : Line) (to : LoopState) (entries : List Entry)
+        → after_entries (in_state state line Free) entries ≡ Some to
+        → AllFit state (journal_events (in_state state line Free) entries) }
+    ensures read { (state : State) (line : Line) (to : LoopState) (entries : List Entry)
+        → after_entries (in_state state line Free) entries ≡ Some to
+        → AreOfOneRead (journal_events (in_state state line Free) entries) }
+    ensures range { (state : State) (line : Line) (to : LoopState) (entries : List Entry) → AreTyped entries
+        → after_entries (in_state state line Free) entries ≡ Some to
+        → AreInRange (journal_events (in_state state line Free) entries) }
 {}

@@ -36,6 +36,8 @@ pub fn only_what_is_ready_is_tried()
     ensures read { is_legal (joins (read_none 1 ∷ [])) ≡ true }
     ensures read_twice { is_legal (joins (read_none 1 ∷ read_none 1 ∷ [])) ≡ false }
     ensures unread { is_legal (joins (now_at 2 ∷ [])) ≡ false }
+    ensures no_byte { is_legal (joins (read_of 1 0 [] ∷ [])) ≡ false }
+    ensures fewer_bytes { is_legal (joins (read_of 1 2 (0 ∷ []) ∷ [])) ≡ false }
 {}
 
 /// A write offers what is owed, and nothing else.
@@ -47,6 +49,10 @@ pub fn what_is_owed_is_written()
         ∷ write_of 1 (0 ∷ 0 ∷ 0 ∷ 1 ∷ 5 ∷ []) 5 ∷ [])) ≡ false }
     ensures front { is_legal (joins (read_of 1 5 (0 ∷ 0 ∷ 0 ∷ 1 ∷ 19 ∷ []) ∷ now_at 2 ∷ accept_none
         ∷ write_of 1 (0 ∷ 0 ∷ 0 ∷ 1 ∷ []) 4 ∷ [])) ≡ false }
+    ensures none { is_legal (joins (read_of 1 5 (0 ∷ 0 ∷ 0 ∷ 1 ∷ 19 ∷ []) ∷ now_at 2 ∷ accept_none
+        ∷ write_of 1 (0 ∷ 0 ∷ 0 ∷ 1 ∷ 6 ∷ []) 0 ∷ [])) ≡ false }
+    ensures more { is_legal (joins (read_of 1 5 (0 ∷ 0 ∷ 0 ∷ 1 ∷ 19 ∷ []) ∷ now_at 2 ∷ accept_none
+        ∷ write_of 1 (0 ∷ 0 ∷ 0 ∷ 1 ∷ 6 ∷ []) 6 ∷ [])) ≡ false }
     ensures forgotten { is_legal (joins (read_of 1 5 (0 ∷ 0 ∷ 0 ∷ 1 ∷ 19 ∷ []) ∷ now_at 2 ∷ accept_none
         ∷ read_none 1 ∷ [])) ≡ false }
     ensures closed { is_legal (joins (read_of 1 4 (0 ∷ 0 ∷ 0 ∷ 0 ∷ []) ∷ now_at 2 ∷ close_of 1 ∷ [])) ≡ true }
