@@ -1,5 +1,5 @@
 -- What each call leaves of how the journal reads, by its answer.
-use Rattle.std.proofs.Common.{◌≡◌, ◌∙◌, ℕ, suc, ◌+◌, ◌-◌, ◌^◌, ◌<◌, Bool, true, false, List, [], ◌∷◌, length, drop, get_or, Option, Some, None, Result, Ok, Err, refl, sym, ap, ◌==◌, add-one, arith}
+use Rattle.std.proofs.Common.{◌≡◌, ◌∙◌, ℕ, suc, ◌+◌, ◌-◌, ◌^◌, ◌<◌, Bool, true, false, List, [], ◌∷◌, length, drop, get_or, Option, Some, None, Result, Ok, Err, refl, sym, ap, ◌==◌, ◌&&◌, nat_le, nat_lt, add-one, arith}
 use Rattle.std.proofs.Math.Seq.{drop-cons}
 use Rattle.std.specs.Prelude.{IsSome, is_some}
 use Rattle.std.specs.declared.alloc.AllocError.{AllocError}
@@ -9,10 +9,12 @@ use Rattle.std.proofs.lemmas.Bool.Decides.{Decides-eqb, Decides-ltb, nat_tests}
 use Rattle.world_ports.specs.Journal.{Grows, Tells}
 use Rattle.world_ports.specs.declared.answers.Accepted.{Accepted}
 use Rattle.world_ports.specs.declared.answers.Got.{Got}
+use Rattle.world_ports.specs.declared.answers.Got.TheVariants as got
 use Rattle.world_ports.specs.declared.answers.Polled.{Polled}
 use Rattle.world_ports.specs.declared.answers.Ready.{Ready}
 use Rattle.world_ports.specs.declared.answers.WorldFault.{WorldFault}
 use Rattle.world_ports.specs.declared.answers.Wrote.{Wrote}
+use Rattle.world_ports.specs.declared.answers.Wrote.TheVariants as wrote
 use Rattle.world_ports.specs.declared.entry.Entry.{Entry}
 use Rattle.world_ports.specs.declared.entry.Entry.TheVariants as entry
 use Rattle.world_ports.specs.declared.events.Door.{Door}
@@ -23,8 +25,8 @@ use Rattle.agent_model.specs.State.{State, find_port, owed_of, starts}
 use Rattle.agent_model.specs.Step.{step}
 use Rattle.loop_model.specs.Calls.{served_of}
 use Rattle.loop_model.specs.Dues.{Closing, Free, NowFor, Polling, due_look, due_of, port_of, same_wait, wait_of}
-use Rattle.loop_model.specs.LegalJournal.{LoopState, after_entry, after_if_legal, in_state, is_first_job}
-use Rattle.world_ports.specs.Worlds.{read_room}
+use Rattle.loop_model.specs.LegalJournal.{LoopState, after_entry, after_if_legal, in_state, is_first_job, is_read, is_taken}
+use Rattle.world_ports.specs.Worlds.{IsPiece, read_room}
 use Rattle.loop_model.specs.Lines.{Line, after_event, in_hand, is_idle}
 use Rattle.loop_model.specs.Queues.{first_servable, is_next, is_thing}
 use Rattle.loop_model.specs.declared.thing.Thing.{Thing}
@@ -138,22 +140,41 @@ accept-any state line door answer found =
     after_if_legal-is (in_state state line Free) (entry.Accept door answer) (next_is state line.queue (Accept door) found)
 
 pub read-any : (state : State) (line : Line) (port room : ℕ) (bytes : List ℕ) (answer : Result Got WorldFault)
-    → first_servable state line.queue ≡ Some (Read port) → room ≡ read_room
+    → first_servable state line.queue ≡ Some (Read port) → room ≡ read_room → is_read room bytes answer ≡ true
     → after_if_legal (in_state state line Free) (entry.Read port room bytes answer)
     ≡ Some (after_entry (in_state state line Free) (entry.Read port room bytes answer))
-read-any state line port room bytes answer found is =
+read-any state line port room bytes answer found is read =
     after_if_legal-is (in_state state line Free) (entry.Read port room bytes answer)
-    (both_and (is_next state line.queue (Read port)) (room == read_room)
-    (next_is state line.queue (Read port) found) ((Decides-eqb room read_room).1 is))
+    (both_and (is_next state line.queue (Read port)) ((room == read_room) && is_read room bytes answer)
+    (next_is state line.queue (Read port) found)
+    (both_and (room == read_room) (is_read room bytes answer) ((Decides-eqb room read_room).1 is) read))
+
+-- what the world says of a read's bytes
+pub read-within : (room n : ℕ) (bytes : List ℕ) → length bytes ≡ n → IsPiece n room
+    → is_read room bytes (Ok (got.Bytes n)) ≡ true
+read-within room n bytes same within =
+    let some = within.0 in
+    let few = within.1 in
+    both_and (length bytes == n) (nat_lt 0 n && nat_le n room) ((Decides-eqb (length bytes) n).1 same)
+    (both_and (nat_lt 0 n) (nat_le n room) (grind (arith, nat_tests)) (grind (arith, nat_tests)))
 
 pub write-any : (state : State) (line : Line) (port : ℕ) (offered : List ℕ) (answer : Result Wrote WorldFault)
     → first_servable state line.queue ≡ Some (Write port) → offered ≡ owed_of port state
+    → is_taken (length offered) answer ≡ true
     → after_if_legal (in_state state line Free) (entry.Write port offered answer)
     ≡ Some (after_entry (in_state state line Free) (entry.Write port offered answer))
-write-any state line port offered answer found is =
+write-any state line port offered answer found is taken =
     after_if_legal-is (in_state state line Free) (entry.Write port offered answer)
-    (both_and (is_next state line.queue (Write port)) (bytes_eq offered (owed_of port state))
-    (next_is state line.queue (Write port) found) ((bytes_decides offered (owed_of port state)).1 is))
+    (both_and (is_next state line.queue (Write port)) (bytes_eq offered (owed_of port state) && is_taken (length offered) answer)
+    (next_is state line.queue (Write port) found)
+    (both_and (bytes_eq offered (owed_of port state)) (is_taken (length offered) answer) ((bytes_decides offered (owed_of port state)).1 is) taken))
+
+-- what the world says of how much a write took
+pub taken-within : (offered n : ℕ) → IsPiece n offered → is_taken offered (Ok (wrote.Took n)) ≡ true
+taken-within offered n within =
+    let some = within.0 in
+    let few = within.1 in
+    both_and (nat_lt 0 n) (nat_le n offered) (grind (arith, nat_tests)) (grind (arith, nat_tests))
 
 pub start-any : (state : State) (line : Line) (job : Job) (answer : Result (List ℕ) WorldFault)
     → is_first_job job (starts state) ≡ true
