@@ -75,10 +75,8 @@ pub drills_lawfully_by : (words : List (List ℕ)) (asked : Drilling) → drill_
     → DrillsLawfully asked
 drills_lawfully_by words asked is =
     let drill = drilled asked.rounds asked.seed in
-    record {
-      fit = drill-fits asked.rounds asked.seed (few_rounds words asked is);
-      lawful = lawful_run no_settings drill.events (agent_of drill) refl;
-    }
+    lawful_run no_settings drill.events (agent_of drill) (drill-fits asked.rounds asked.seed (few_rounds words asked is))
+    refl
 
 -- a word isn't both
 not_replay : (word : List ℕ) → bytes_eq word (codes "drill") ≡ true → bytes_eq word (codes "replay") ≡ false

@@ -10,7 +10,7 @@ use Rattle.replay_run.proofs.RoundLemmas.{some_of}
 use Rattle.replay_run.proofs.BroughtLemmas.{run-schedule}
 use Rattle.replay_run.proofs.FitLemmas.{schedule-fits}
 use Rattle.agent_top.specs.Program.{status_of, ReplaysExactly, IsComplete, IsFinished, HasNoFault, Completes, RunsLawfully}
-use Rattle.agent_top.specs.LawfulRun.{IsFitRun}
+use Rattle.agent_top.specs.LawfulRun.{IsLawfulRun}
 use Rattle.agent_top.proofs.LawfulRunLemmas.{lawful_run}
 
 -- each end says what its status says
@@ -67,13 +67,12 @@ completes_by life end old new ends = record {
 
 -- the run of any schedule is lawful
 abbrev RunsByLaw : Option ℕ → List ℕ → Type 0
-RunsByLaw life text = IsFitRun (settings_of life text) (events_of life text) (run_of life text).agent
+RunsByLaw life text = IsLawfulRun (settings_of life text) (events_of life text) (run_of life text).agent
 
 schedule-runs : (life : Option ℕ) (text : List ℕ) → RunsByLaw life text
-schedule-runs life text = record {
-  fit = schedule-fits life text;
-  lawful = lawful_run (settings_of life text) (events_of life text) (run_of life text).agent (run-schedule life text);
-}
+schedule-runs life text =
+    lawful_run (settings_of life text) (events_of life text) (run_of life text).agent (schedule-fits life text)
+    (run-schedule life text)
 
 pub lawful_by : (life : Option ℕ) (old new : Seen) → RunsLawfully life old new
 lawful_by life old new = λ bytes read. record {

@@ -21,7 +21,7 @@ use Rattle.agent_top.specs.ServeFair.{IsFair, ServesFairly}
 -- ---- one part after another
 
 -- what comes of two steps comes of the second after the first
-then_some : {A B : Type 0} (f : A → Option B) (found : Option A) (to : B)
+pub then_some : {A B : Type 0} (f : A → Option B) (found : Option A) (to : B)
     → option_and_then f found ≡ Some to
     → (mid : A) × (found ≡ Some mid) × (f mid ≡ Some to)
 then_some f None to is = cc
@@ -48,7 +48,7 @@ turns_by true from next to is = mapped (after_if_legal from next) to is
 turns_by false from next to is = cc
 
 -- a call of a loop that runs is one that comes in turn
-turns : (setting : Setting) (from : LoopState) (next : Entry) (to : Stage)
+pub turns : (setting : Setting) (from : LoopState) (next : Entry) (to : Stage)
     → gone_on setting (Running from) next ≡ Some to
     → (after : LoopState) × (after_if_legal from next ≡ Some after) × (Running after ≡ to)
 turns setting from next to is = turns_by (may_come setting.until_idle from next) from next to is

@@ -1,5 +1,5 @@
 -- The calls of a loop lead to the state of the events that they bring, and the law of history holds of these.
-use Rattle.std.proofs.Common.{◌≡◌, ◌∙◌, ℕ, List, [], ◌∷◌, ◌++◌, ap, refl, sym, Option, Some, None, IfSome, Bool, true, false, Result, Ok, Err, ◌&&◌, option_and_then, option_map}
+use Rattle.std.proofs.Common.{◌≡◌, ◌∙◌, ℕ, List, [], ◌∷◌, ◌++◌, ap, refl, subst, sym, Option, Some, None, IfSome, Bool, true, false, Result, Ok, Err, ◌&&◌, option_and_then, option_map}
 use Rattle.std.specs.Str.{bytes_eq}
 use Rattle.world_ports.specs.declared.answers.WorldFault.{WorldFault}
 use Rattle.world_ports.specs.declared.entry.Entry.{Entry}
@@ -7,14 +7,17 @@ use Rattle.world_ports.specs.declared.entry.Entry.TheVariants as entry
 use Rattle.world_ports.specs.declared.events.Door.{Door}
 use Rattle.world_ports.specs.declared.events.Door.TheVariants.{Clients, Children}
 use Rattle.agent_model.specs.Events.{Timed}
-use Rattle.agent_model.specs.Runs.{run}
+use Rattle.agent_model.specs.Runs.{AllFit, run}
 use Rattle.agent_model.specs.State.{State, first_state}
 use Rattle.loop_model.specs.LegalJournal.{LoopState, after_if, comes_next, events_brought}
+use Rattle.loop_model.specs.Lines.{empty_line}
 use Rattle.loop_model.specs.Things.{same_door}
+use Rattle.loop_model.proofs.FittingLemmas.{IsAwaited, entry-fits, first_awaited, fit-append}
 use Rattle.ready_loop.specs.Serving.{Setting, Stage, Unbound, HalfBound, Running, Refused, after_bind, begun, bound, children_path, gone_on, may_come, ran, running_if, stage_if}
 use Rattle.agent_top.specs.Words.{served_with}
 use Rattle.agent_top.specs.ServeLaw.{ServesLawfully, agent_at, call_events, calls_events, later_events}
 use Rattle.agent_top.proofs.LawfulRunLemmas.{lawful_run}
+use Rattle.agent_top.proofs.ServeFairLemmas.{then_some, turns}
 use Rattle.replay_run.proofs.DrillLemmas.{run-append}
 
 -- ---- which stage leads where
@@ -89,9 +92,64 @@ calls-run setting stage to (next ∷ later) legal =
     runs-on setting stage to (gone_on setting stage next) (call_events stage next) later (stage-leads setting stage next) legal
     (λ after rest. calls-run setting after to later rest)
 
+-- ---- all events fit
+
+-- the event whose moment has to come next, once the loop runs, may come
+abbrev IsFit : Stage → Type 0
+IsFit Unbound = Unit {0}
+IsFit HalfBound = Unit {0}
+IsFit (Running reading) = IsAwaited reading
+IsFit Refused = Unit {0}
+
+fit_if : (test : Bool) (answer : Result Unit WorldFault) (stage to : Stage) → IsFit stage
+    → stage_if test (after_bind answer stage) ≡ Some to → IsFit to
+fit_if true (Ok unit) stage to fit is = let same : stage ≡ to = cc in subst IsFit same fit
+fit_if true (Err fault) stage to fit is = let same : Refused ≡ to = cc in subst IsFit same tt
+fit_if false answer stage to fit is = absurd (cc)
+
+fit_bound : (door : Door) (path : List ℕ) (stage to : Stage) (next : Entry) → IsFit stage
+    → bound door path stage next ≡ Some to → IsFit to
+fit_bound door path stage to (entry.Bind other at answer) fit is =
+    fit_if (same_door door other && bytes_eq at path) answer stage to fit is
+fit_bound door path stage to (entry.Poll wait items answer) fit is = absurd (cc)
+fit_bound door path stage to (entry.Accept other answer) fit is = absurd (cc)
+fit_bound door path stage to (entry.Read port room bytes answer) fit is = absurd (cc)
+fit_bound door path stage to (entry.Write port offered answer) fit is = absurd (cc)
+fit_bound door path stage to (entry.Close port answer) fit is = absurd (cc)
+fit_bound door path stage to (entry.Start job answer) fit is = absurd (cc)
+fit_bound door path stage to (entry.Now answer) fit is = absurd (cc)
+
+-- what a call brings may come, and so may what it leaves due
+fit_on : (setting : Setting) (stage to : Stage) (next : Entry) → IsFit stage
+    → gone_on setting stage next ≡ Some to
+    → AllFit (agent_at setting stage) (call_events stage next) × IsFit to
+fit_on setting Unbound to next fit is = (tt, fit_bound Clients setting.path HalfBound to next tt is)
+fit_on setting HalfBound to next fit is =
+    (tt, fit_bound Children (children_path setting.path) (begun setting) to next (first_awaited setting.state empty_line) is)
+fit_on setting (Running reading) to next fit is =
+    let one = turns setting reading next to is in
+    let both = entry-fits reading one.0 next fit one.1 in
+    (both.0, subst IsFit one.2 both.1)
+fit_on setting Refused to next fit is = absurd (cc)
+
+calls-fit : (setting : Setting) (stage to : Stage) (calls : List Entry) → IsFit stage
+    → ran setting stage calls ≡ Some to → AllFit (agent_at setting stage) (calls_events setting stage calls)
+calls-fit setting stage to [] fit legal = tt
+calls-fit setting stage to (next ∷ later) fit legal =
+    let step = then_some (λ (after : Stage). ran setting after later) (gone_on setting stage next) to legal in
+    let both = fit_on setting stage step.0 next fit step.1 in
+    let leads : agent_at setting step.0 ≡ run (agent_at setting stage) (call_events stage next) =
+    subst (LeadsTo setting (run (agent_at setting stage) (call_events stage next))) step.1 (stage-leads setting stage next) in
+    let rest = subst (λ (state : State). AllFit state (calls_events setting step.0 later)) leads
+    (calls-fit setting step.0 to later both.1 step.2) in
+    subst (λ (found : Option Stage). AllFit (agent_at setting stage) (call_events stage next ++ later_events (λ after. calls_events setting after later) found))
+    (sym step.1)
+    (fit-append (agent_at setting stage) (call_events stage next) (calls_events setting step.0 later) both.0 rest)
+
 pub serves_lawfully : (life : Option ℕ) (setting : Setting) (old new : Option (List Entry))
     → setting.state ≡ first_state (served_with life) → ServesLawfully life setting old new
 serves_lawfully life setting old new first = λ calls to told legal.
     let events = calls_events setting Unbound calls in
     lawful_run (served_with life) events (agent_at setting to)
+    (subst (λ (state : State). AllFit state events) first (calls-fit setting Unbound to calls tt legal))
     (calls-run setting Unbound to calls legal ∙ ap (λ (state : State). run state events) first)

@@ -4,7 +4,8 @@ use Rattle.world_ports.specs.Causes.{Rose}
 use Rattle.world_ports.specs.Streams.{StreamView, WritesPart}
 use Rattle.agent_top.specs.declared.status.Status.{Status}
 use Rattle.agent_top.specs.declared.status.Status.TheVariants as status
-use Rattle.agent_top.specs.LawfulRun.{IsFitRun}
+use Rattle.agent_top.specs.LawfulRun.{IsLawfulRun}
+use Rattle.agent_top.specs.Program.{IsFinished}
 use Rattle.agent_top.specs.Words.{Drilling}
 use Rattle.agent_model.specs.State.{no_settings}
 use Rattle.replay_run.specs.Drill.{agent_of, drilled, summary}
@@ -30,17 +31,11 @@ DrillsExactly asked status.ReadFault old new = ⊥
 -- a write failed, and a front of the summary is written
 DrillsExactly asked status.WriteFault old new = DrillEndsAtWriteFault asked.rounds asked.seed old new
 
--- the drill was run to its end, unless memory ran out
-abbrev pub IsDrilled : Status → Type 0
-IsDrilled status.Done = Unit {0}
-IsDrilled status.Memory = Unit {0}
-IsDrilled other = ⊥
-
--- where no write failed, it was
+-- where no write failed, the drill was run to its end, unless memory ran out
 abbrev pub DrillCompletes : Status → StreamView → StreamView → Type 0
-DrillCompletes result old new = ¬ (Rose old.write_faults new.write_faults) → IsDrilled result
+DrillCompletes result old new = ¬ (Rose old.write_faults new.write_faults) → IsFinished result
 
 -- the drill that is summed up is the run of the events which its lines and their settlings bring
 abbrev pub DrillsLawfully : Drilling → Type 0
 DrillsLawfully asked =
-    let drill = drilled asked.rounds asked.seed in IsFitRun no_settings drill.events (agent_of drill)
+    let drill = drilled asked.rounds asked.seed in IsLawfulRun no_settings drill.events (agent_of drill)

@@ -10,7 +10,7 @@
 --   agent_model, specs/Dispatch.antt: the table of requests
 use Rattle.std.specs.Prelude.{◌≡◌, ℕ, List, Option, None, IfSome}
 use Rattle.world_ports.specs.Causes.{Rose}
-use Rattle.agent_top.specs.LawfulRun.{IsFitRun}
+use Rattle.agent_top.specs.LawfulRun.{IsLawfulRun}
 use Rattle.agent_top.specs.declared.status.Status.{Status}
 use Rattle.agent_top.specs.declared.status.Status.TheVariants as status
 use Rattle.replay_run.specs.declared.run_end.RunEnd.{RunEnd}
@@ -57,7 +57,7 @@ IsComplete status.Memory = Unit {0}
 IsComplete status.ReadFault = ⊥
 IsComplete status.WriteFault = ⊥
 
--- the input was run to its end, unless memory ran out
+-- it was run to its end, unless memory ran out
 abbrev pub IsFinished : Status → Type 0
 IsFinished status.Done = Unit {0}
 IsFinished status.Memory = Unit {0}
@@ -79,7 +79,7 @@ pub record Completes (life : Option ℕ) (result : Status) (old new : Seen) : Ty
 -- input, where that is told
 abbrev pub RunsLawfully : Option ℕ → Seen → Seen → Type 0
 RunsLawfully life old new = (bytes : List ℕ) → HasRead old new bytes → HoldsOfInput new.input.left bytes
-    (λ text. IsFitRun (settings_of life text) (events_of life text) (run_of life text).agent)
+    (λ text. IsLawfulRun (settings_of life text) (events_of life text) (run_of life text).agent)
 
 -- the exit status
 abbrev pub code_of : Status → ℕ
