@@ -22,4 +22,6 @@ mod SpokenLemmas
 mod ReplayLemmas
 mod HeardLemmas
 mod RunLemmas
+mod SecretLemmas
+mod AlikeRowLemmas
 mod RowLemmas

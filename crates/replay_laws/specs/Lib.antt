@@ -4,4 +4,6 @@ pub mod Redacting
 pub mod Replaying
 pub mod Telling
 pub mod Naming
+pub mod AlikeJournals
+pub mod AlikeRows
 pub mod Rows
