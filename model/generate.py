@@ -179,6 +179,22 @@ class Schedule(ChildMoves):
             host_key = string(b"ssh-rsa") + string(b"\x03") + string(b"\x01" * (size - 20))
             self.bind(port, host_key, b"large %d" % place, forwarding=1)
 
+    def many_keys(self) -> None:
+        """1,000 keys whose lifetimes end together, but for one that may be added again before."""
+        port, life = self.client(fresh=1), self.random.choice([2, 10, 60])
+        keys = [pool.plain_key(pool.STAND_IN, seed) for seed in range(1000, 2000)]
+        rest = string(b"k") + b"\x01" + uint32(life)
+        for key in keys:
+            self.send(port, b"\x19" + key.added + rest, cut=0)
+        end = min(self.agent.mono + life, 2**64 - 1)
+        for second in (end - 1, end):
+            held = len(self.agent.identities)
+            self.say(f"at {second} {self.run.moment[1]}")
+            self.reached["1,000 lifetimes end"] += held - len(self.agent.identities) >= 999
+            self.send(port, b"\x0b", cut=0)
+            if self.chance(0.5):
+                self.send(port, b"\x19" + self.pick(keys).added + rest, cut=0)
+
     def many_confirmations(self) -> None:
         key, port = self.pick(self.keys), self.client(fresh=1)
         sign = b"\x0d" + string(key.blob) + string(b"") + uint32(0)
@@ -254,6 +270,7 @@ LONG_MOVES: dict[str, int] = {
     "many_bindings": 4,
     "large_host_keys": 5,
     "many_confirmations": 6,
+    "many_keys": 2,
 }
 
 # What the schedules are to reach, in the words of the model and of `reached`.
@@ -262,7 +279,7 @@ GOALS = [
     for part in (
         # requests, causes, limits and lines
         """request 11; request 17; request 18; request 19; request 22; request 23; request 25
-            add: replaced; lifetime ends; list: locked; client: bad length
+            add: replaced; lifetime ends; 1,000 lifetimes end; list: locked; client: bad length
             frame in pieces; text garbled
             cause: malformed Short; cause: malformed UnknownType; cause: malformed BadLength
             cause: malformed Mismatch; cause: malformed Trailing; cause: locked

@@ -25,7 +25,9 @@ Chain = list[Binding]
 
 def room(private: bytes, rules: Rules | None) -> int:
     """What a key takes beside its blob and its comment: 64 bytes more for each hop and its keys."""
-    hops = [hop for rule in rules or [] for hop in rule]
+    if not rules:
+        return len(private)
+    hops = [hop for rule in rules for hop in rule]
     names = sum(64 + len(hop.user) + len(hop.host) for hop in hops)
     return len(private) + names + sum(64 + len(blob) for hop in hops for blob, _ in hop.keys)
 
