@@ -84,18 +84,28 @@ fn ask_frame(alloc: Global, ask: u8, message: &[u8]) -> Result<Vec<u8>, AllocErr
     )
 }
 
-// How the agent that serves ends over these turns, and the world then.
+/// How the agent that serves ends over these turns, and the world then; the world's calls with these numbers fail.
+pub fn serve_failing<R: Abort + Wait>(
+    rt: &R,
+    alloc: Global,
+    turns: Vec<Vec<Cue>>,
+    failing: Vec<u64>,
+) -> (Status, ScriptWorld) {
+    let words = texts(rt, alloc, "serve -a agent.sock --helper helper");
+    let mut world = ScriptWorld::new(alloc, turns, failing);
+    let mut input = SliceSource::new(b"", 1, Vec::new(alloc));
+    let mut output = VecSink::new(alloc, 1, Vec::new(alloc)).expect(rt, "a sink");
+    let status = agent_main(rt, alloc, &words, &mut world, &mut input, &mut output);
+    (status, world)
+}
+
+/// The same where no call fails.
 pub fn serve<R: Abort + Wait>(
     rt: &R,
     alloc: Global,
     turns: Vec<Vec<Cue>>,
 ) -> (Status, ScriptWorld) {
-    let words = texts(rt, alloc, "serve -a agent.sock --helper helper");
-    let mut world = ScriptWorld::new(alloc, turns, Vec::new(alloc));
-    let mut input = SliceSource::new(b"", 1, Vec::new(alloc));
-    let mut output = VecSink::new(alloc, 1, Vec::new(alloc)).expect(rt, "a sink");
-    let status = agent_main(rt, alloc, &words, &mut world, &mut input, &mut output);
-    (status, world)
+    serve_failing(rt, alloc, turns, Vec::new(alloc))
 }
 
 // What a port took, in order.

@@ -1,31 +1,96 @@
-//! The program over worlds that fail.
+//! The program over worlds whose calls fail, one alone: each kind that may.
 
-use crate::play::{calls, texts};
-use agent_top::{Status, agent_main};
-use std::alloc::Global;
+use crate::play::calls;
+use crate::serving::{SUCCESS, adds, asks, ends, send, serve_failing, takes};
+use agent_top::Status;
+use std::alloc::{AllocError, Global};
 use std::process::Abort;
 use std::sync::Wait;
 use std::test::*;
-use world_ports::{ScriptWorld, SliceSource, VecSink};
-
-// How the agent that serves ends where this call on the world fails.
-fn serve_failing<R: Abort + Wait>(rt: &R, alloc: Global, call: u64) -> Status {
-    let words = texts(rt, alloc, "serve -a agent.sock --helper helper");
-    let failing = calls(rt, alloc, call);
-    let mut world = ScriptWorld::new(alloc, Vec::new(alloc), failing);
-    let mut input = SliceSource::new(b"", 1, Vec::new(alloc));
-    let mut output = VecSink::new(alloc, 1, Vec::new(alloc)).expect(rt, "a sink");
-    agent_main(rt, alloc, &words, &mut world, &mut input, &mut output)
-}
+use world_ports::{Cue, Door, Entry};
 
 // Both listeners are bound, the clock is read, and then comes the first wait.
 #[test]
 fn a_world_that_fails_gives_its_status(rt: HostRuntime) {
+    let alloc = rt.alloc();
     for (call, status) in [
         (1, Status::BindFault),
         (2, Status::BindFault),
         (3, Status::PollFault),
     ] {
-        assert_eq!(rt; serve_failing(&rt, rt.alloc(), call), status, "call {call}");
+        let failing = calls(&rt, alloc, call);
+        let (ended, _world) = serve_failing(&rt, alloc, Vec::new(alloc), failing);
+        assert_eq!(rt; ended, status, "call {call}");
     }
+}
+
+// A client connects and lists, and at the second wait another one connects. The first wait is call 3. Then the client is
+// accepted (4) and read (5), nobody else waits (6), the client is written to (7), and it has sent no more (8); call 9 is
+// the second wait.
+fn lists(alloc: Global) -> Result<Vec<Vec<Cue>>, AllocError> {
+    let asks = vec![in alloc;
+        Cue::Connect(Door::Clients),
+        send(alloc, 1, &[b"\0\0\0\x01\x0b"])?,
+    ]?;
+    let later = vec![in alloc; Cue::Connect(Door::Clients)]?;
+    Ok(vec![in alloc; asks, later]?)
+}
+
+// A client adds a key, by the same calls, and at the second wait asks for a signature with it. That is read (10), and then
+// the helper is started (11).
+fn signs(alloc: Global) -> Result<Vec<Vec<Cue>>, AllocError> {
+    let adds = vec![in alloc; Cue::Connect(Door::Clients), adds(alloc, 1)?]?;
+    let asks = vec![in alloc; asks(alloc, 1, b"abc")?]?;
+    Ok(vec![in alloc; adds, asks]?)
+}
+
+// Where this call fails alone it ends with the status, the client of port 1 takes the bytes, and is closed or not.
+fn fails<R: Abort + Wait>(
+    rt: &R,
+    alloc: Global,
+    turns: Vec<Vec<Cue>>,
+    call: u64,
+    wanted: (Status, &[u8], bool),
+) {
+    let failing = calls(rt, alloc, call);
+    let (status, world) = serve_failing(rt, alloc, turns, failing);
+    ends(rt, status, wanted.0);
+    takes(rt, alloc, &world, 1, wanted.1);
+    let closed = world
+        .journal()
+        .iter()
+        .any(|entry| matches!(entry, Entry::Close { port: 1, .. }));
+    assert_eq!(rt;
+        closed,
+        wanted.2,
+        "whether the client is closed, at call {call}"
+    );
+}
+
+// An empty list: its length, number 12, and no key.
+const EMPTY: &[u8] = b"\0\0\0\x05\x0c\0\0\0\0";
+
+// A client whose accept fails is accepted behind the next wait that tells of one; one whose read or write fails is closed;
+// a helper that can't be started is a failure to its client; and a wait that fails is the end.
+#[test]
+fn each_call_fails_alone(rt: HostRuntime) -> Result<(), Fail> {
+    let alloc = rt.alloc();
+    for (call, wanted) in [
+        (4, (Status::Done, EMPTY, false)),
+        (5, (Status::Done, b"".as_slice(), true)),
+        (7, (Status::Done, b"".as_slice(), true)),
+        (9, (Status::PollFault, EMPTY, false)),
+    ] {
+        fails(&rt, alloc, lists(alloc)?, call, wanted);
+    }
+    let mut refused = Vec::from_slice(alloc, SUCCESS)?;
+    refused.extend_from_slice(b"\0\0\0\x01\x05")?;
+    fails(
+        &rt,
+        alloc,
+        signs(alloc)?,
+        11,
+        (Status::Done, &refused, false),
+    );
+    Ok(())
 }
