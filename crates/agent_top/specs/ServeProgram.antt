@@ -23,13 +23,13 @@ status_of_serving ends.BindFault = status.BindFault
 status_of_serving ends.PollFault = status.PollFault
 status_of_serving ends.Memory = status.Memory
 
--- the status of a recorded loop that came to its end, by whether a write of the record failed
+-- the status of a recorded loop that came to its end, by whether its record broke
 abbrev pub done_by : Bool → Status
 done_by true = status.WriteFault
 done_by false = status.Done
 
 -- the status of a recorded loop with this end, by whether memory ran out for the record and
--- whether a write of it failed
+-- whether that broke
 abbrev pub status_of_recorded : Bool → Bool → ServeEnd → Status
 status_of_recorded true failed end = status.Memory
 status_of_recorded false failed ends.Over = done_by failed

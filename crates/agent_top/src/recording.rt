@@ -1,7 +1,7 @@
 //! The command `serve` with a record of its calls.
 
-ghost use Rattle.std.specs.Prelude.{◌≡◌, ◌≤◌, true};
-ghost use Rattle.agent_top.specs.RecordProgram.{RecordsExactly};
+ghost use Rattle.std.specs.Prelude.{◌≡◌, ◌⊎◌, ◌≤◌, true};
+ghost use Rattle.agent_top.specs.RecordProgram.{AddedHaveNoRoom, RecordsExactly};
 ghost use Rattle.agent_top.specs.ServeProgram.{ServesExactly, status_of_recorded};
 ghost use Rattle.loop_model.specs.Orderly.{IsOrderly};
 ghost use Rattle.world_ports.specs.Causes.{Rose};
@@ -16,14 +16,14 @@ use std::sync::Wait;
 use world_ports::{Sink, World};
 
 // The status of a recorded loop that ended so. Where memory ran out for the record, it may lack what the loop did.
-fn status_of_recorded(short: bool, failed: bool, end: ServeEnd) -> Status
-    ensures { result ≡ status_of_recorded short failed end }
+fn status_of_recorded(short: bool, broken: bool, end: ServeEnd) -> Status
+    ensures { result ≡ status_of_recorded short broken end }
 {
     if short {
         return Status::Memory;
     }
     match status_of_serving(end) {
-        Status::Done if failed => Status::WriteFault,
+        Status::Done if broken => Status::WriteFault,
         status => status,
     }
 }
@@ -50,7 +50,8 @@ pub fn serve_recorded<R: Wait, A: Core, W: World, O: Sink>(
     ensures bind { result ≡ Status.BindFault → Rose (W.faults world.old) (W.faults world.new) }
     ensures poll { result ≡ Status.PollFault → Rose (W.faults world.old) (W.faults world.new) }
     ensures write { result ≡ Status.WriteFault
-        → Rose (O.seen output.old).write_faults (O.seen output.new).write_faults }
+        → Rose (O.seen output.old).write_faults (O.seen output.new).write_faults
+        ⊎ AddedHaveNoRoom (W.journal world.old) (W.journal world.new) }
     ensures done { result ≡ Status.Done
         → (O.seen output.new).write_faults ≡ (O.seen output.old).write_faults }
     ensures led { W.leads world.old world.new }

@@ -2,7 +2,7 @@
 
 ghost use Rattle.std.specs.Prelude.{◌≡◌, ◌⊎◌, true, false};
 ghost use Rattle.ready_loop.specs.Serving.{Setting};
-ghost use Rattle.agent_top.specs.RecordProgram.{RecordsExactly};
+ghost use Rattle.agent_top.specs.RecordProgram.{AddedHaveNoRoom, RecordsExactly};
 ghost use Rattle.agent_top.specs.ServeFair.{ServesFairly};
 ghost use Rattle.agent_top.specs.ServeLaw.{ServesLawfully};
 ghost use Rattle.agent_top.specs.ServeProgram.{ServesExactly, status_of_serving};
@@ -66,7 +66,8 @@ pub fn serve_by<R: Wait, W: World, O: Sink>(
     ensures bind { result ≡ Status.BindFault → Rose (W.faults world.old) (W.faults world.new) }
     ensures poll { result ≡ Status.PollFault → Rose (W.faults world.old) (W.faults world.new) }
     ensures write { result ≡ Status.WriteFault
-        → Rose (O.seen output.old).write_faults (O.seen output.new).write_faults }
+        → Rose (O.seen output.old).write_faults (O.seen output.new).write_faults
+        ⊎ AddedHaveNoRoom (W.journal world.old) (W.journal world.new) }
     ensures done { result ≡ Status.Done
         → (O.seen output.new).write_faults ≡ (O.seen output.old).write_faults }
     ensures led { W.leads world.old world.new }

@@ -3,7 +3,7 @@
 ghost use Rattle.std.specs.Prelude.{◌≡◌, ◌⊎◌, ℕ, None, Option, true, false};
 ghost use Rattle.agent_top.specs.DrillProgram.{DrillCompletes, DrillsExactly, DrillsLawfully};
 ghost use Rattle.agent_top.specs.Program.{ReplaysExactly, Completes, RunsLawfully};
-ghost use Rattle.agent_top.specs.RecordProgram.{RecordsExactly};
+ghost use Rattle.agent_top.specs.RecordProgram.{AddedHaveNoRoom, RecordsExactly};
 ghost use Rattle.agent_top.specs.ServeFair.{ServesFairly};
 ghost use Rattle.agent_top.specs.ServeLaw.{ServesLawfully};
 ghost use Rattle.agent_top.specs.ServeProgram.{ServesExactly};
@@ -70,7 +70,8 @@ pub fn agent_main<R: Wait, W: World, I: Source, O: Sink>(
     ensures records { (setting : Setting) → IsServe words.now setting → is_recorded (texts_of words.now) ≡ true
         → RecordsExactly result (W.journal world.old) (W.journal world.new) (O.seen output.old) (O.seen output.new) }
     ensures write { (setting : Setting) → IsServe words.now setting → result ≡ Status.WriteFault
-        → Rose (O.seen output.old).write_faults (O.seen output.new).write_faults }
+        → Rose (O.seen output.old).write_faults (O.seen output.new).write_faults
+        ⊎ AddedHaveNoRoom (W.journal world.old) (W.journal world.new) }
     ensures done { (setting : Setting) → IsServe words.now setting → result ≡ Status.Done
         → (O.seen output.new).write_faults ≡ (O.seen output.old).write_faults }
     ensures serve_alone { replay_life (texts_of words.now) ≡ None

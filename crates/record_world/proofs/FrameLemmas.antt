@@ -1,11 +1,14 @@
 -- Whole frames of a client, one after another.
-use Rattle.std.proofs.Common.{◌≡◌, ℕ, ◌+◌, ◌≤◌, ◌<◌, Bool, true, false, List, [], ◌∷◌, ◌++◌, length, take, refl, sym, ap, subst, ◌∙◌, arith, append_assoc, append-nil}
+use Rattle.std.specs.Prelude.{IsErrAnd}
+use Rattle.std.proofs.Common.{Result, Ok, Err, ◌≡◌, ℕ, ◌+◌, ◌≤◌, ◌<◌, Bool, true, false, List, [], ◌∷◌, ◌++◌, length, take, refl, sym, ap, subst, ◌∙◌, arith, append_assoc, append-nil}
 use Rattle.wire_text.proofs.FrontLemmas.{front_says}
 use Rattle.wire_text.proofs.SplitLemmas.{length-after_front, split-bad, split-more, split-whole}
 use Rattle.wire_text.specs.Bounds.{longest_body}
 use Rattle.wire_text.specs.Frames.{Bad, Front, More, Split, Whole, after_front, front, front_body, split, then_split, unsplit}
 use Rattle.wire_text.specs.Wire.{string}
-use Rattle.redact_core.specs.Redaction.{Redacted, redacted, redacted_all}
+use Rattle.redact_core.specs.declared.fault.RedactFault.{RedactFault}
+use Rattle.redact_core.specs.Redaction.{Redacted, is_over, redacted, redacted_all}
+use Rattle.redact_core.proofs.GrowLemmas.{all_more, over_more}
 use Rattle.record_world.specs.Frames.{ends_badly, rest_bytes}
 use Rattle.record_world.specs.Recording.{Port, Taken, rest_taken, taken}
 use Rattle.world_ports.specs.declared.Door.TheVariants.{Clients}
@@ -23,15 +26,16 @@ pub record Goes (bytes left : List ℕ) (early late : List (List ℕ)) (start le
   pub rest : (split longest_body left).rest ≡ (split longest_body bytes).rest
   pub passphrases : (redacted_all (split longest_body left).bodies late).passphrases ≡ (redacted_all (split longest_body bytes).bodies early).passphrases
   pub text : leaving ++ (redacted_all (split longest_body left).bodies late).body ≡ start ++ (redacted_all (split longest_body bytes).bodies early).body
+  pub fits : is_over early ≡ false → is_over late ≡ false
 
 pub goes_first : (bytes : List ℕ) (early : List (List ℕ)) (start : List ℕ) → Goes bytes bytes early early start start
-goes_first bytes early start = record { rest = refl; passphrases = refl; text = refl }
+goes_first bytes early start = record { rest = refl; passphrases = refl; text = refl; fits = λ fine. fine }
 
 goes-next : (bytes left later : List ℕ) (early late last : List (List ℕ)) (start leaving more : List ℕ) (body_len : ℕ)
     → front longest_body left ≡ Whole body_len → later ≡ after_front body_len left → last ≡ (redacted (front_body body_len left) late).passphrases
-    → more ≡ leaving ++ string (redacted (front_body body_len left) late).body
+    → more ≡ leaving ++ string (redacted (front_body body_len left) late).body → (is_over late ≡ false → is_over last ≡ false)
     → Goes bytes left early late start leaving → Goes bytes later early last start more
-goes-next bytes left later early late last start leaving more body_len whole is_later is_last is_more goes =
+goes-next bytes left later early late last start leaving more body_len whole is_later is_last is_more fits goes =
     let cut : split longest_body left ≡ then_split (front_body body_len left ∷ []) (split longest_body (after_front body_len left)) = split-whole longest_body left body_len whole in
     let behind = split longest_body (after_front body_len left) in
     let first = redacted (front_body body_len left) late in
@@ -45,6 +49,7 @@ goes-next bytes left later early late last start leaving more body_len whole is_
           ∙ ap (λ (l : List ℕ). leaving ++ (string first.body ++ (redacted_all (split longest_body l).bodies last).body)) is_later
           ∙ ap (λ (p : List (List ℕ)). leaving ++ (string first.body ++ (redacted_all behind.bodies p).body)) is_last
           ∙ sym (ap (λ (s : Split). leaving ++ (redacted_all s.bodies late).body) cut) ∙ goes.text;
+      fits = λ fine. fits (goes.fits fine);
     }
 
 -- nothing more is to take
@@ -127,10 +132,30 @@ module _ (bytes left shown : List ℕ) (early late : List (List ℕ)) (start lea
 -- a whole frame was taken
 pub frame_next : (bytes left shown later : List ℕ) (early late last : List (List ℕ)) (start leaving more : List ℕ) (body_len : ℕ)
     → shown ≡ left → Whole body_len ≡ front longest_body shown → later ≡ after_front body_len left → last ≡ (redacted (front_body body_len left) late).passphrases
-    → more ≡ leaving ++ string (redacted (front_body body_len left) late).body
+    → more ≡ leaving ++ string (redacted (front_body body_len left) late).body → (is_over late ≡ false → is_over last ≡ false)
     → Goes bytes left early late start leaving → Goes bytes later early last start more
-frame_next bytes left shown later early late last start leaving more body_len same whole is_later is_last is_more goes =
-    goes-next bytes left later early late last start leaving more body_len (subst (λ (l : List ℕ). front longest_body l ≡ Whole body_len) same (sym whole)) is_later is_last is_more goes
+frame_next bytes left shown later early late last start leaving more body_len same whole is_later is_last is_more fits goes =
+    goes-next bytes left later early late last start leaving more body_len (subst (λ (l : List ℕ). front longest_body l ≡ Whole body_len) same (sym whole)) is_later is_last is_more fits goes
+
+-- the fault of a call is that which is answered
+pub same_fault : {T : Type 0} (result : Result T RedactFault) (fault why : RedactFault)
+    → IsErrAnd result (λ own. own ≡ fault) → result ≡ Err why → fault ≡ why
+same_fault (Ok value) fault why from is = absurd from
+same_fault (Err own) fault why from is = let own_is : own ≡ why = cc in sym from ∙ own_is
+
+-- where the next frame's passphrase has no room, those of all frames have none
+pub frame_full : (bytes left shown : List ℕ) (early late : List (List ℕ)) (start leaving : List ℕ) (body_len : ℕ)
+    → shown ≡ left → Whole body_len ≡ front longest_body shown → Goes bytes left early late start leaving
+    → is_over (redacted (front_body body_len left) late).passphrases ≡ true
+    → is_over (redacted_all (split longest_body bytes).bodies early).passphrases ≡ true
+frame_full bytes left shown early late start leaving body_len same whole goes over =
+    let at : front longest_body left ≡ Whole body_len = subst (λ (l : List ℕ). front longest_body l ≡ Whole body_len) same (sym whole) in
+    let behind = split longest_body (after_front body_len left) in
+    let first = redacted (front_body body_len left) late in
+    let cut : split longest_body left ≡ then_split (front_body body_len left ∷ []) behind = split-whole longest_body left body_len at in
+    sym (ap is_over (sym (ap (λ (s : Split). (redacted_all s.bodies late).passphrases) cut) ∙ goes.passphrases))
+    ∙ over_more first.passphrases (redacted_all behind.bodies first.passphrases).passphrases
+    (all_more behind.bodies first.passphrases) over
 
 pub frame_there : (left shown : List ℕ) (body_len : ℕ) → shown ≡ left → Whole body_len ≡ front longest_body shown → front longest_body left ≡ Whole body_len
 frame_there left shown body_len same whole = subst (λ (l : List ℕ). front longest_body l ≡ Whole body_len) same (sym whole)
@@ -148,6 +173,12 @@ rest-good : (at : Front) (port : Port) (frames : Redacted) (rest : List ℕ) →
 rest-good (Bad announced) port frames rest is = absurd cc
 rest-good (Whole body_len) port frames rest is = ap (λ (l : List ℕ). let t : Taken = record { port = record port { unrecorded = rest }; passphrases = frames.passphrases; bytes = l } in t) (sym (append-nil frames.body))
 rest-good More port frames rest is = ap (λ (l : List ℕ). let t : Taken = record { port = record port { unrecorded = rest }; passphrases = frames.passphrases; bytes = l } in t) (sym (append-nil frames.body))
+
+rest-passphrases : (at : Front) (port : Port) (frames : Redacted) (rest : List ℕ)
+    → (rest_taken at port frames rest).passphrases ≡ frames.passphrases
+rest-passphrases (Bad announced) port frames rest = refl
+rest-passphrases (Whole body_len) port frames rest = refl
+rest-passphrases More port frames rest = refl
 
 -- what a client's piece leaves, by how it ends
 abbrev client : ℕ → List ℕ → Bool → Bool → Port
@@ -172,3 +203,9 @@ module _ (number : ℕ) (unrecorded piece : List ℕ) (is_held : Bool) (early : 
         bytes = (redacted_all heard_cut.bodies early).body ++ rest_bytes (front longest_body heard_cut.rest) heard_cut.rest;
       }
   client_good is = rest-good (front longest_body heard_cut.rest) (client number unrecorded is_held false) (redacted_all heard_cut.bodies early) heard_cut.rest is
+
+  -- in either case these are the passphrases
+  pub client_full : is_over (redacted_all heard_cut.bodies early).passphrases ≡ true
+      → is_over (taken (client number unrecorded is_held false) piece early).passphrases ≡ true
+  client_full over =
+      ap is_over (rest-passphrases (front longest_body heard_cut.rest) (client number unrecorded is_held false) (redacted_all heard_cut.bodies early) heard_cut.rest) ∙ over

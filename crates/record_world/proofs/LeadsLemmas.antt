@@ -8,9 +8,9 @@ use Rattle.world_ports.specs.declared.Door.{Door}
 use Rattle.world_ports.specs.declared.answers.WorldFault.{WorldFault}
 use Rattle.world_ports.specs.declared.entry.Entry.{Entry}
 use Rattle.world_ports.specs.declared.entry.Entry.TheVariants as entry
-use Rattle.record_world.specs.Recording.{Recording, after, bind_text, record_from, text_of}
+use Rattle.record_world.specs.Recording.{Recording, after, bind_text, is_full, record_from, recording_after, text_of}
 use Rattle.record_world.specs.Leads.{BreaksFor, IsOrder, IsWritten, Leads, Puts, Stays, Taped, Writes, WritesOf, taped}
-use Rattle.record_world.specs.Orders.{cause-same, grows-none, only-none, stays-same, writes-none, writes-twice}
+use Rattle.record_world.specs.Orders.{cause-none, grows-none, only-none, stays-same, writes-none, writes-twice}
 
 pub is_order : IsOrder
 is_order = record { stays = writes-none; goes_on = writes-twice }
@@ -41,7 +41,7 @@ writes-stopped entries sink broken short more kept left is = record {
   only = only-none sink;
   broken = stays-same broken;
   short = stays-or short more;
-  cause = cause-same broken sink.write_faults;
+  cause = cause-none broken short sink.write_faults (is_full (recording_after kept entries));
   lines = stopped-lines (broken || short) (broken || (short || more)) kept left entries is;
 }
 
@@ -67,49 +67,67 @@ of_one one kept text is = is ∙ sym (append-nil (text_of one kept))
 
 -- a call without lines
 pub silent : (is_short : Bool) (one : Entry) (sink : StreamView) (broken short : Bool) (kept : Recording) → not (broken || (short || is_short)) ≡ true → text_of one kept ≡ []
+    → (is_full kept ≡ false → is_full (after one kept) ≡ false)
     → WritesOf is_short one (taped sink broken short kept) (taped sink broken (short || is_short) (after one kept))
-silent is_short one sink true short kept goes none = absurd cc
-silent is_short one sink false true kept goes none = absurd cc
-silent true one sink false false kept goes none = absurd cc
-silent false one sink false false kept goes none = record {
+silent is_short one sink true short kept goes none fits = absurd cc
+silent is_short one sink false true kept goes none fits = absurd cc
+silent true one sink false false kept goes none fits = absurd cc
+silent false one sink false false kept goes none fits = record {
   text = [];
   written = Appends-nil sink.written;
   only = only-none sink;
   broken = tt;
   short = tt;
   cause = refl;
-  lines = record { lines = of_one one kept [] (sym none); left = refl };
+  lines = record { lines = of_one one kept [] (sym none); left = refl; fits = fits };
 }
 
 -- its text is put
 put_one : (failed : Bool) (one : Entry) (sink later : StreamView) (kept : Recording) (text : List ℕ) → Puts text sink later failed → text ≡ text_of one kept
+    → (is_full kept ≡ false → is_full (after one kept) ≡ false)
     → Writes (one ∷ []) (taped sink false false kept) (taped later failed false (after one kept))
-put_one false one sink later kept text puts is = record {
+put_one false one sink later kept text puts is fits = record {
   text = text;
   written = puts.written;
   only = puts.only;
   broken = tt;
   short = tt;
   cause = puts.cause;
-  lines = record { lines = of_one one kept text is; left = refl };
+  lines = record { lines = of_one one kept text is; left = refl; fits = fits };
 }
-put_one true one sink later kept text puts is = record {
+put_one true one sink later kept text puts is fits = record {
   text = puts.written.1.front;
   written = puts.written.1.written;
   only = puts.only;
   broken = tt;
   short = tt;
-  cause = puts.cause;
+  cause = inl puts.cause;
   lines = record { more = puts.written.0; is = puts.written.1.whole ∙ of_one one kept text is };
 }
 
 pub written_by : (is_short : Bool) (one : Entry) (sink later : StreamView) (broken short failed : Bool) (kept : Recording) (text : List ℕ) → not (broken || (short || is_short)) ≡ true
-    → Puts text sink later failed → text ≡ text_of one kept
+    → Puts text sink later failed → text ≡ text_of one kept → (is_full kept ≡ false → is_full (after one kept) ≡ false)
     → WritesOf is_short one (taped sink broken short kept) (taped later failed (short || is_short) (after one kept))
-written_by is_short one sink later true short failed kept text goes puts is = absurd cc
-written_by is_short one sink later false true failed kept text goes puts is = absurd cc
-written_by true one sink later false false failed kept text goes puts is = absurd cc
-written_by false one sink later false false failed kept text goes puts is = put_one failed one sink later kept text puts is
+written_by is_short one sink later true short failed kept text goes puts is fits = absurd cc
+written_by is_short one sink later false true failed kept text goes puts is fits = absurd cc
+written_by true one sink later false false failed kept text goes puts is fits = absurd cc
+written_by false one sink later false false failed kept text goes puts is fits = put_one failed one sink later kept text puts is fits
+
+-- a read that brought more passphrases than there is room for
+pub overflows : (one : Entry) (sink : StreamView) (broken short : Bool) (kept left : Recording)
+    → not (broken || (short || false)) ≡ true → is_full (after one kept) ≡ true
+    → Writes (one ∷ []) (taped sink broken short kept) (taped sink true (short || false) left)
+overflows one sink true short kept left goes full = absurd cc
+overflows one sink false true kept left goes full = absurd cc
+overflows one sink false false kept left goes full = record {
+  text = [];
+  written = Appends-nil sink.written;
+  only = only-none sink;
+  broken = tt;
+  short = tt;
+  cause = inr full;
+  lines = record { more = record_from kept (one ∷ []); is = refl };
+}
 
 -- ---- no call on the inner world, since memory was wanted for it
 
@@ -171,7 +189,7 @@ bind_wrote is_short door path answer sink later broken short failed said first s
     subst (λ (b : Bool). WritesOf is_short (entry.Bind door path answer) (taped sink broken short kept) (taped later failed b left)) (sym is_shortened)
     (subst (λ (r : Recording). WritesOf is_short (entry.Bind door path answer) (taped sink broken short kept) (taped later failed (short || is_short) r)) (sym is_left)
     (written_by is_short (entry.Bind door path answer) sink later broken short failed kept (codes "schedule 2\n" ++ []) (sym says ∙ goes) puts
-    (sym (ap bind_text (not_true kept.is_bound (sym is_first ∙ is_one))))))
+    (sym (ap bind_text (not_true kept.is_bound (sym is_first ∙ is_one)))) (λ fine. fine)))
 
 -- ---- no memory was wanted before
 

@@ -8,8 +8,8 @@ use Rattle.wire_text.specs.Bounds.{longest_body}
 use Rattle.wire_text.specs.Frames.{Bad, Front, More, Whole, front, split}
 use Rattle.world_ports.specs.declared.Door.{Door}
 use Rattle.world_ports.specs.declared.Door.TheVariants.{Clients, Children}
-use Rattle.redact_core.specs.Redaction.{Redacted, redacted_all}
-use Rattle.record_world.specs.Recording.{Port, Recording, client_taken, find_port, hear_lines, heard, held, lines, number_of, rest_taken, taken, taken_by, with_due}
+use Rattle.redact_core.specs.Redaction.{Redacted, is_over, redacted_all}
+use Rattle.record_world.specs.Recording.{Port, Recording, client_taken, find_port, hear_lines, heard, held, is_full, lines, number_of, rest_taken, taken, taken_by, with_due}
 
 -- a port keeps its number
 rest-number : (at : Front) (port : Port) (frames : Redacted) (rest : List ℕ) → (rest_taken at port frames rest).port.number ≡ port.number
@@ -64,3 +64,24 @@ hears_of (Ok value) number place piece old is_bound ports here new early late du
     ∙ ap (λ (l : List ℕ). l ++ lines (hear_lines (taken here piece early))) none
     ∙ ap (λ (e : List (List ℕ)). lines (hear_lines (taken here piece e))) past)
     ∙ sym (ap (λ (f : Option Port). with_due (heard f piece old)) (ap (find_port number) (sym all) ∙ found))
+
+-- where the passphrases of a piece have no room, those that are kept then have none
+pub full_of : (number place : ℕ) (piece : List ℕ) (old : Recording) (is_bound : Bool) (ports : List Port) (here : Port)
+    (early : List (List ℕ)) (due : List ℕ)
+    → kept is_bound ports early due ≡ record old { due = [] } → IsFirst (has_key number_of number) ports place
+    → here ≡ get_or ports place here → is_over (taken here piece early).passphrases ≡ true
+    → is_full (heard (find_port number old.ports) piece old).kept ≡ true
+full_of number place piece old is_bound ports here early due same first there over =
+    let all : ports ≡ old.ports = ap (λ (r : Recording). r.ports) same in
+    let past : early ≡ old.passphrases = ap (λ (r : Recording). r.passphrases) same in
+    let found : find_port number ports ≡ Some here = found_there (has_key number_of number) ports place here first ∙ ap Some (sym there) in
+    ap (λ (f : Option Port). is_full (heard f piece old).kept) (ap (find_port number) (sym all) ∙ found)
+    ∙ sym (ap (λ (e : List (List ℕ)). is_over (taken here piece e).passphrases) past) ∙ over
+
+-- and where they have room, those that came have
+pub fits_of : {T E : Type 0} (result : Result T E) (old : Recording) (is_bound : Bool) (ports : List Port)
+    (early late : List (List ℕ)) (due : List ℕ) → kept is_bound ports early due ≡ record old { due = [] }
+    → OnOk result (is_over early ≡ false → is_over late ≡ false) → OnOk result (is_full old ≡ false → is_over late ≡ false)
+fits_of (Err want) old is_bound ports early late due same fits = tt
+fits_of (Ok value) old is_bound ports early late due same fits =
+    λ fine. fits (ap (λ (r : Recording). is_over r.passphrases) same ∙ fine)

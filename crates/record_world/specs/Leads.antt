@@ -1,14 +1,14 @@
 -- An earlier and a later state of one recorder (ours).
-use Rattle.std.specs.Prelude.{◌≡◌, ◌++◌, ◌||◌, Bool, true, false, ℕ, List, [], ◌∷◌, Option}
+use Rattle.std.specs.Prelude.{◌≡◌, ◌++◌, ◌||◌, ◌⊎◌, Bool, true, false, ℕ, List, [], ◌∷◌, Option}
 use Rattle.std.specs.Io.KnownBytes.{Appends}
 use Rattle.world_ports.specs.Causes.{Rose}
 use Rattle.world_ports.specs.Journal.{Grows}
 use Rattle.world_ports.specs.Streams.{OnlyWrites, StreamView, WritesPart}
 use Rattle.world_ports.specs.declared.entry.Entry.{Entry}
-use Rattle.record_world.specs.Recording.{Recording, record_from, recording_after}
+use Rattle.record_world.specs.Recording.{Recording, is_full, record_from, recording_after}
 
--- the side of a recorder that writes: what its sink tells, whether that failed, whether memory ran out, and what is kept
--- between two entries
+-- the side of a recorder that writes: what its sink tells, whether the record broke, whether memory ran out, and what is
+-- kept between two entries
 pub record Taped : Type 0 where
   pub sink : StreamView
   pub is_broken : Bool
@@ -29,10 +29,11 @@ pub record IsFront (text all : List ℕ) : Type 0 where
   pub more : List ℕ
   pub is : text ++ more ≡ all
 
--- all lines of these entries, and what they leave
+-- all lines of these entries, and what they leave, which takes no more room than it may unless that before them does
 pub record IsWhole (before after : Recording) (entries : List Entry) (text : List ℕ) : Type 0 where
   pub lines : text ≡ record_from before entries
   pub left : after ≡ recording_after before entries
+  pub fits : is_full before ≡ false → is_full after ≡ false
 
 -- what was written of these entries, by whether it was stopped before, and is since
 abbrev pub IsWritten : Bool → Bool → Recording → Recording → List Entry → List ℕ → Type 0
@@ -45,11 +46,12 @@ abbrev pub Stays : Bool → Bool → Type 0
 Stays true now = now ≡ true
 Stays false now = Unit {0}
 
--- broken later where it was before, and else exactly where the sink counted a failed write
-abbrev pub BreaksFor : Bool → Bool → ℕ → ℕ → Type 0
-BreaksFor true now before after = Unit {0}
-BreaksFor false true before after = Rose before after
-BreaksFor false false before after = after ≡ before
+-- one that was stopped doesn't break any more; another broke exactly where the sink counted a failed write, or where the
+-- passphrases of these entries take more room than they may
+abbrev pub BreaksFor : Bool → Bool → Bool → ℕ → ℕ → Bool → Type 0
+BreaksFor true was now before after full = (now ≡ was) × (after ≡ before)
+BreaksFor false was true before after full = Rose before after ⊎ (full ≡ true)
+BreaksFor false was false before after full = after ≡ before
 
 -- since then it wrote the lines of these entries: all, or where it is stopped since a front of them, and nothing where it
 -- was stopped before
@@ -59,7 +61,8 @@ pub record Writes (entries : List Entry) (before after : Taped) : Type 0 where
   pub only : OnlyWrites before.sink after.sink
   pub broken : Stays before.is_broken after.is_broken
   pub short : Stays before.is_short after.is_short
-  pub cause : BreaksFor before.is_broken after.is_broken before.sink.write_faults after.sink.write_faults
+  pub cause : BreaksFor (is_stopped before) before.is_broken after.is_broken before.sink.write_faults after.sink.write_faults
+      (is_full (recording_after before.recording entries))
   pub lines : IsWritten (is_stopped before) (is_stopped after) before.recording after.recording entries text
 
 -- the same for one entry: where its call wanted memory, nothing, as of any entries
@@ -72,10 +75,15 @@ abbrev pub PutsText : Bool → List ℕ → StreamView → StreamView → Type 0
 PutsText false text before after = Appends before.written after.written text
 PutsText true text before after = WritesPart text before after
 
+-- a write failed exactly where the sink counted that
+abbrev pub FailsFor : Bool → ℕ → ℕ → Type 0
+FailsFor true before after = Rose before after
+FailsFor false before after = after ≡ before
+
 -- a text was put, or the sink failed and counted that
 pub record Puts (text : List ℕ) (before after : StreamView) (failed : Bool) : Type 0 where
   pub only : OnlyWrites before after
-  pub cause : BreaksFor false failed before.write_faults after.write_faults
+  pub cause : FailsFor failed before.write_faults after.write_faults
   pub written : PutsText failed text before after
 
 -- the entries that the journal has since then are those whose lines were written

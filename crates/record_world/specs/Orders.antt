@@ -1,11 +1,26 @@
 -- What a recorder wrote of one list of entries and then of another, as ghost members of its impl cite it.
-use Rattle.std.proofs.Common.{◌≡◌, ◌≤◌, ◌<◌, ◌^◌, ◌-◌, ◌⊎◌, inl, inr, ◌++◌, ◌||◌, Bool, true, false, ℕ, List, [], ◌∷◌, Option, Some, None, refl, sym, ap, subst, ◌∙◌, eq-or-lt_of_le, le_refl, le_trans, lt_of_le_of_lt, lt_of_lt_of_le, append_assoc, append-nil}
+use Rattle.std.proofs.Common.{◌≡◌, ◌≤◌, ◌<◌, ◌^◌, ◌-◌, ◌⊎◌, inl, inr, ◌++◌, ◌||◌, Bool, true, false, ℕ, List, [], ◌∷◌, Option, Some, None, Result, Ok, Err, refl, sym, ap, subst, ◌∙◌, arith, le_refl, le_trans, append_assoc, append-nil}
 use Rattle.std.proofs.KnownBytes.{Appends-nil, Appends-trans}
 use Rattle.world_ports.specs.Causes.{Rose}
 use Rattle.world_ports.specs.Journal.{Grows}
 use Rattle.world_ports.specs.Streams.{OnlyWrites, StreamView}
+use Rattle.world_ports.specs.declared.Door.{Door}
+use Rattle.world_ports.specs.declared.Door.TheVariants.{Clients, Children}
+use Rattle.world_ports.specs.declared.answers.Accepted.{Accepted}
+use Rattle.world_ports.specs.declared.answers.Accepted.TheVariants as accepted
+use Rattle.world_ports.specs.declared.answers.Got.{Got}
+use Rattle.world_ports.specs.declared.answers.Got.TheVariants as got
+use Rattle.world_ports.specs.declared.answers.WorldFault.{WorldFault}
+use Rattle.world_ports.specs.declared.answers.WorldFault.TheVariants.{Failed, Memory}
+use Rattle.world_ports.specs.declared.answers.Wrote.{Wrote}
+use Rattle.world_ports.specs.declared.answers.Wrote.TheVariants as wrote
 use Rattle.world_ports.specs.declared.entry.Entry.{Entry}
-use Rattle.record_world.specs.Recording.{Recording, after, record_from, recording_after, text_of}
+use Rattle.world_ports.specs.declared.entry.Entry.TheVariants as entry
+use Rattle.wire_text.specs.Bounds.{longest_body}
+use Rattle.wire_text.specs.Frames.{Bad, Front, More, Whole, front, split}
+use Rattle.redact_core.specs.Redaction.{Redacted, kept_len, redacted_all}
+use Rattle.redact_core.proofs.GrowLemmas.{all_more, over_more}
+use Rattle.record_world.specs.Recording.{Port, Recording, after, at_accept, at_read, at_start, at_write, client_taken, find_port, heard, is_full, record_from, recording_after, rest_taken, taken_by, text_of}
 use Rattle.record_world.specs.Leads.{BreaksFor, IsFront, IsWritten, Leads, Stays, Taped, Writes, is_stopped}
 
 -- inhabited by false alone
@@ -41,7 +56,7 @@ after-append start (one ∷ a) b = after-append (after one start) a b
 
 written-none : (stopped : Bool) (recording : Recording) → IsWritten stopped stopped recording recording [] []
 written-none true recording = refl
-written-none false recording = record { lines = refl; left = refl }
+written-none false recording = record { lines = refl; left = refl; fits = λ fine. fine }
 
 -- a front of a front, and of what is longer
 front-longer : (text all more : List ℕ) → IsFront text all → IsFront text (all ++ more)
@@ -63,6 +78,7 @@ written-twice false false true x y z a b p q st tu first later = record {
 written-twice false false false x y z a b p q st tu first later = record {
   lines = ap (λ l. p ++ l) later.lines ∙ ap (λ l. l ++ record_from y b) first.lines ∙ ap (λ r. record_from x a ++ record_from r b) first.left ∙ sym (record-append x a b);
   left = later.left ∙ ap (λ r. recording_after r b) first.left ∙ sym (after-append x a b);
+  fits = λ fine. later.fits (first.fits fine);
 }
 
 -- ---- stopping
@@ -85,29 +101,132 @@ stays-or false true true true ac bd = refl
 stays-or false true false true ac bd = refl
 stays-or false false c d ac bd = tt
 
-rose-later : (a b c : ℕ) → a ≤ b → b ≤ c → Rose a b → Rose a c
-rose-later a b c ab bc (inl less) = inl (lt_of_lt_of_le less bc)
-rose-later a b c ab bc (inr top) = by_cases (eq-or-lt_of_le bc)
-  where
-    by_cases : (b ≡ c) ⊎ (b < c) → Rose a c
-    by_cases (inl same) = inr (sym same ∙ top)
-    by_cases (inr less) = inl (lt_of_le_of_lt ab less)
+-- ---- what passphrases take
 
-rose-earlier : (a b c : ℕ) → a ≤ b → Rose b c → Rose a c
-rose-earlier a b c ab (inl less) = inl (lt_of_le_of_lt ab less)
-rose-earlier a b c ab (inr top) = inr top
+rest-same : (at : Front) (port : Port) (frames : Redacted) (rest : List ℕ)
+    → (rest_taken at port frames rest).passphrases ≡ frames.passphrases
+rest-same (Bad announced) port frames rest = refl
+rest-same (Whole body_len) port frames rest = refl
+rest-same More port frames rest = refl
 
-cause-twice : (x y z : Bool) (a b c : ℕ) → a ≤ b → b ≤ c → Stays y z → BreaksFor x y a b → BreaksFor y z b c → BreaksFor x z a c
-cause-twice true y z a b c ab bc stays first later = tt
-cause-twice false true true a b c ab bc stays first later = rose-later a b c ab bc first
-cause-twice false true false a b c ab bc stays first later = absurd (no stays)
-cause-twice false false true a b c ab bc stays first later = rose-earlier a b c ab later
-cause-twice false false false a b c ab bc stays first later = later ∙ first
+client-more : (is_bad : Bool) (port : Port) (piece : List ℕ) (early : List (List ℕ))
+    → kept_len early ≤ kept_len (client_taken is_bad port piece early).passphrases
+client-more true port piece early = le_refl (kept_len early)
+client-more false port piece early =
+    let cut = split longest_body (port.unrecorded ++ piece) in
+    subst (λ (l : List (List ℕ)). kept_len early ≤ kept_len l)
+    (sym (rest-same (front longest_body cut.rest) port (redacted_all cut.bodies early) cut.rest)) (all_more cut.bodies early)
 
--- where no write failed, it is as broken as before
-pub cause-same : (b : Bool) (n : ℕ) → BreaksFor b b n n
-cause-same true n = tt
-cause-same false n = refl
+taken_more : (door : Door) (port : Port) (piece : List ℕ) (early : List (List ℕ))
+    → kept_len early ≤ kept_len (taken_by door port piece early).passphrases
+taken_more Clients port piece early = client-more port.is_bad port piece early
+taken_more Children port piece early = le_refl (kept_len early)
+
+by_read : (found : Option Port) (piece : List ℕ) (recording : Recording)
+    → kept_len recording.passphrases ≤ kept_len (heard found piece recording).kept.passphrases
+by_read None piece recording = le_refl (kept_len recording.passphrases)
+by_read (Some port) piece recording = taken_more port.door port piece recording.passphrases
+
+read-more : (port : ℕ) (bytes : List ℕ) (answer : Result Got WorldFault) (recording : Recording)
+    → kept_len recording.passphrases ≤ kept_len (at_read port bytes answer recording).kept.passphrases
+read-more port bytes (Ok (got.Bytes count)) recording = by_read (find_port port recording.ports) bytes recording
+read-more port bytes (Ok got.End) recording = le_refl (kept_len recording.passphrases)
+read-more port bytes (Ok got.NotNow) recording = le_refl (kept_len recording.passphrases)
+read-more port bytes (Err Failed) recording = le_refl (kept_len recording.passphrases)
+read-more port bytes (Err Memory) recording = le_refl (kept_len recording.passphrases)
+
+-- a call that reads nothing leaves the passphrases
+accept-same : (door : Door) (answer : Result Accepted WorldFault) (recording : Recording)
+    → (at_accept door answer recording).kept.passphrases ≡ recording.passphrases
+accept-same door (Ok (accepted.Port number)) recording = refl
+accept-same door (Ok accepted.NotNow) recording = refl
+accept-same door (Err fault) recording = refl
+
+write-same : (port : ℕ) (answer : Result Wrote WorldFault) (recording : Recording)
+    → (at_write port answer recording).kept.passphrases ≡ recording.passphrases
+write-same port (Ok (wrote.Took count)) recording = refl
+write-same port (Ok wrote.NotNow) recording = refl
+write-same port (Err Failed) recording = refl
+write-same port (Err Memory) recording = refl
+
+start-same : (job : ℕ) (answer : Result (List ℕ) WorldFault) (recording : Recording)
+    → (at_start job answer recording).kept.passphrases ≡ recording.passphrases
+start-same job (Ok ticket) recording = refl
+start-same job (Err Failed) recording = refl
+start-same job (Err Memory) recording = refl
+
+same-most : (a b : List (List ℕ)) → b ≡ a → kept_len a ≤ kept_len b
+same-most a b is = subst (λ (c : List (List ℕ)). kept_len a ≤ kept_len c) (sym is) (le_refl (kept_len a))
+
+one-more : (one : Entry) (recording : Recording)
+    → kept_len recording.passphrases ≤ kept_len (after one recording).passphrases
+one-more (entry.Bind door path answer) recording = le_refl (kept_len recording.passphrases)
+one-more (entry.Poll wait items answer) recording = le_refl (kept_len recording.passphrases)
+one-more (entry.Accept door answer) recording = same-most recording.passphrases (at_accept door answer recording).kept.passphrases (accept-same door answer recording)
+one-more (entry.Read port room bytes answer) recording = read-more port bytes answer recording
+one-more (entry.Write port offered answer) recording = same-most recording.passphrases (at_write port answer recording).kept.passphrases (write-same port answer recording)
+one-more (entry.Close port answer) recording = le_refl (kept_len recording.passphrases)
+one-more (entry.Start job answer) recording = same-most recording.passphrases (at_start job.number answer recording).kept.passphrases (start-same job.number answer recording)
+one-more (entry.Now answer) recording = le_refl (kept_len recording.passphrases)
+
+-- they take no less behind entries than before them
+all-more : (recording : Recording) (entries : List Entry)
+    → kept_len recording.passphrases ≤ kept_len (recording_after recording entries).passphrases
+all-more recording [] = le_refl (kept_len recording.passphrases)
+all-more recording (one ∷ later) = le_trans (one-more one recording) (all-more (after one recording) later)
+
+-- where they took too much they still do
+full-more : (recording : Recording) (entries : List Entry) → is_full recording ≡ true
+    → is_full (recording_after recording entries) ≡ true
+full-more recording entries full =
+    over_more recording.passphrases (recording_after recording entries).passphrases (all-more recording entries) full
+
+full-append : (start : Recording) (a b : List Entry) → is_full (recording_after start a) ≡ true
+    → is_full (recording_after start (a ++ b)) ≡ true
+full-append start a b full = ap is_full (after-append start a b) ∙ full-more (recording_after start a) b full
+
+-- ---- breaking
+
+pub cause-none : (broken short : Bool) (n : ℕ) (full : Bool) → BreaksFor (broken || short) broken broken n n full
+cause-none true short n full = (refl, refl)
+cause-none false true n full = (refl, refl)
+cause-none false false n full = refl
+
+broke-later : (b c : ℕ) (a : ℕ) (first full : Bool) → c ≡ b → (first ≡ true → full ≡ true) → Rose a b ⊎ (first ≡ true)
+    → Rose a c ⊎ (full ≡ true)
+broke-later b c a first full same later (inl rose) = inl (subst (λ (n : ℕ). Rose a n) (sym same) rose)
+broke-later b c a first full same later (inr is) = inr (later is)
+
+broke-then : (a b c : ℕ) (second full : Bool) → b ≡ a → full ≡ second → Rose b c ⊎ (second ≡ true)
+    → Rose a c ⊎ (full ≡ true)
+broke-then a b c second full same is (inl rose) = inl (subst (λ (n : ℕ). Rose n c) same rose)
+broke-then a b c second full same is (inr over) = inr (is ∙ over)
+
+cause-twice : (s t x y z : Bool) (a b c : ℕ) (first second full : Bool) → Stays s t → (y ≡ true → t ≡ true)
+    → (first ≡ true → full ≡ true) → (s ≡ false → t ≡ false → full ≡ second)
+    → BreaksFor s x y a b first → BreaksFor t y z b c second → BreaksFor s x z a c full
+cause-twice true true x y z a b c first second full stays broken later same early late = (late.0 ∙ early.0, late.1 ∙ early.1)
+cause-twice true false x y z a b c first second full stays broken later same early late = absurd (no stays)
+cause-twice false true x true z a b c first second full stays broken later same early late =
+    subst (λ (now : Bool). BreaksFor false x now a c full) (sym late.0) (broke-later b c a first full late.1 later early)
+cause-twice false true x false z a b c first second full stays broken later same early late =
+    subst (λ (now : Bool). BreaksFor false x now a c full) (sym late.0) (late.1 ∙ early)
+cause-twice false false x true z a b c first second full stays broken later same early late = absurd (no (broken refl))
+cause-twice false false x false true a b c first second full stays broken later same early late =
+    broke-then a b c second full early (same refl refl) late
+cause-twice false false x false false a b c first second full stays broken later same early late = late ∙ early
+
+-- one that is broken is stopped
+broken-stops : (broken short : Bool) → broken ≡ true → broken || short ≡ true
+broken-stops true short is = refl
+broken-stops false short is = absurd (no is)
+
+-- what one that isn't stopped keeps
+left-whole : (s t : Bool) (x y : Recording) (a : List Entry) (p : List ℕ) → IsWritten s t x y a p → s ≡ false → t ≡ false
+    → y ≡ recording_after x a
+left-whole true t x y a p written goes on = absurd (no (sym goes))
+left-whole false true x y a p written goes on = absurd (no (sym on))
+left-whole false false x y a p written goes on = written.left
 
 -- ---- the sink
 
@@ -133,7 +252,7 @@ writes-none x = record {
   only = only-none x.sink;
   broken = stays-same x.is_broken;
   short = stays-same x.is_short;
-  cause = cause-same x.is_broken x.sink.write_faults;
+  cause = cause-none x.is_broken x.is_short x.sink.write_faults (is_full x.recording);
   lines = written-none (is_stopped x) x.recording;
 }
 
@@ -145,7 +264,14 @@ writes-twice x y z a b first later = record {
   only = only-twice x.sink y.sink z.sink first.only later.only;
   broken = stays-twice x.is_broken y.is_broken z.is_broken first.broken later.broken;
   short = stays-twice x.is_short y.is_short z.is_short first.short later.short;
-  cause = cause-twice x.is_broken y.is_broken z.is_broken x.sink.write_faults y.sink.write_faults z.sink.write_faults first.only.later later.only.later later.broken first.cause later.cause;
+  cause = cause-twice (is_stopped x) (is_stopped y) x.is_broken y.is_broken z.is_broken x.sink.write_faults y.sink.write_faults
+      z.sink.write_faults (is_full (recording_after x.recording a)) (is_full (recording_after y.recording b))
+      (is_full (recording_after x.recording (a ++ b)))
+      (stays-or x.is_broken x.is_short y.is_broken y.is_short first.broken first.short)
+      (broken-stops y.is_broken y.is_short) (full-append x.recording a b)
+      (λ goes on. ap is_full (after-append x.recording a b)
+      ∙ sym (ap (λ r. is_full (recording_after r b)) (left-whole (is_stopped x) (is_stopped y) x.recording y.recording a first.text first.lines goes on)))
+      first.cause later.cause;
   lines = written-twice (is_stopped x) (is_stopped y) (is_stopped z) x.recording y.recording z.recording a b first.text later.text
       (stays-or x.is_broken x.is_short y.is_broken y.is_short first.broken first.short) (stays-or y.is_broken y.is_short z.is_broken z.is_short later.broken later.short) first.lines later.lines;
 }

@@ -20,7 +20,7 @@ use Rattle.world_ports.specs.declared.entry.Entry.TheVariants as entry
 use Rattle.schedule_text.specs.declared.step.Step.{Step}
 use Rattle.schedule_text.specs.declared.step.Step.TheVariants as steps
 use Rattle.schedule_text.specs.Steps.{step_line}
-use Rattle.redact_core.specs.Redaction.{Redacted, redacted_all}
+use Rattle.redact_core.specs.Redaction.{Redacted, is_over, redacted_all}
 
 -- ---- what is kept between two entries
 
@@ -48,6 +48,10 @@ pub record Recording : Type 0 where
 -- nothing was recorded yet
 abbrev pub first_recording : Recording
 first_recording = record { is_bound = false; ports = []; passphrases = []; due = [] }
+
+-- the passphrases that came take more room than they may
+abbrev pub is_full : Recording → Bool
+is_full recording = is_over recording.passphrases
 
 -- the port of this number
 abbrev pub find_port : ℕ → List Port → Option Port

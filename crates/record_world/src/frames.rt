@@ -1,16 +1,16 @@
 //! Takes whole frames out of what a client sent, and appends them without their secrets.
 
-ghost use Rattle.std.specs.Prelude.{◌≡◌, ◌++◌, IfOk, OnOk};
+ghost use Rattle.std.specs.Prelude.{◌≡◌, ◌++◌, Err, IfOk, OnOk, false, true};
 ghost use Rattle.wire_text.specs.Bounds.{longest_body};
 ghost use Rattle.wire_text.specs.Frames.{Whole, after_front, front, front_body, split};
 ghost use Rattle.wire_text.specs.Wire.{string};
-ghost use Rattle.redact_core.specs.Redaction.{redacted, redacted_all};
+ghost use Rattle.redact_core.specs.Redaction.{is_over, redacted, redacted_all};
+ghost use Rattle.redact_core.specs.declared.fault.RedactFault.TheVariants.{Full};
 ghost use Rattle.record_world.specs.Frames.{ends_badly, rest_bytes};
 
 use frame_core::{LONGEST_BODY, Look, front_body, look};
-use redact_core::{Passphrases, redact_body};
+use redact_core::{Passphrases, RedactFault, redact_body};
 use secret_buf::ScrubBuf;
-use std::alloc::AllocError;
 
 /// The storage of longer bodies isn't kept for the next one, in bytes.
 const LONG: usize = 4096;
@@ -22,7 +22,7 @@ pub fn take_frames(
     unrecorded: &mut ScrubBuf,
     passphrases: &mut Passphrases,
     leaving: &mut Vec<u8>,
-) -> Result<bool, AllocError>
+) -> Result<bool, RedactFault>
     ensures bad { IfOk result (λ is_bad. is_bad
         ≡ ends_badly (front longest_body (split longest_body unrecorded.old.live).rest)) }
     ensures rest { OnOk result (unrecorded.new.live ≡ (split longest_body unrecorded.old.live).rest) }
@@ -32,6 +32,9 @@ pub fn take_frames(
         ++ (redacted_all (split longest_body unrecorded.old.live).bodies passphrases.old).body
         ++ rest_bytes (front longest_body (split longest_body unrecorded.old.live).rest)
         (split longest_body unrecorded.old.live).rest) }
+    ensures full { result ≡ Err Full → is_over (redacted_all (split longest_body unrecorded.old.live).bodies
+        passphrases.old).passphrases ≡ true }
+    ensures fits { OnOk result (is_over passphrases.old ≡ false → is_over passphrases.new ≡ false) }
 {
     'frames: loop {
         match look(unrecorded.live(), LONGEST_BODY) {
@@ -52,13 +55,16 @@ fn take_frame(
     body_len: u32,
     passphrases: &mut Passphrases,
     leaving: &mut Vec<u8>,
-) -> Result<(), AllocError>
+) -> Result<(), RedactFault>
     requires { front longest_body unrecorded.old.live ≡ Whole body_len }
     ensures rest { OnOk result (unrecorded.new.live ≡ after_front body_len unrecorded.old.live) }
     ensures passphrases { OnOk result (passphrases.new
         ≡ (redacted (front_body body_len unrecorded.old.live) passphrases.old).passphrases) }
     ensures leaving { OnOk result (leaving.new.items ≡ leaving.old.items
         ++ string (redacted (front_body body_len unrecorded.old.live) passphrases.old).body) }
+    ensures full { result ≡ Err Full → is_over (redacted (front_body body_len unrecorded.old.live)
+        passphrases.old).passphrases ≡ true }
+    ensures fits { OnOk result (is_over passphrases.old ≡ false → is_over passphrases.new ≡ false) }
 {
     let size = 4 + body_len as usize;
     redact_body(

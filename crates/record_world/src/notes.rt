@@ -1,17 +1,19 @@
 //! A recorder's memory between two calls: its connections, its passphrases, and a line due.
 
-ghost use Rattle.std.specs.Prelude.{◌≡◌, ◌++◌, MatchOption, None, OnOk, [], ◌∷◌, not, length, true};
+ghost use Rattle.std.specs.Prelude.{◌≡◌, ◌++◌, Err, MatchOption, None, OnOk, [], ◌∷◌, false, not, length, true};
 ghost use Rattle.std.specs.List.{position};
 ghost use Rattle.lists.specs.Firsts.{IsFirst};
 ghost use Rattle.lists.specs.Keyed.{has_key, remove_by};
 ghost use Rattle.schedule_text.specs.declared.step.Step.TheVariants as steps;
+ghost use Rattle.redact_core.specs.Redaction.{is_over};
+ghost use Rattle.redact_core.specs.declared.fault.RedactFault.TheVariants.{Full};
 ghost use Rattle.record_world.specs.Dues.{due_text};
-ghost use Rattle.record_world.specs.Recording.{at_close, find_port, first_recording, hear_lines, heard, held, joined, lines, number_of, only, taken, with_due};
+ghost use Rattle.record_world.specs.Recording.{at_close, find_port, first_recording, hear_lines, heard, held, is_full, joined, lines, number_of, only, taken, with_due};
 
 use crate::due::Due;
 use crate::hears::put_hearing;
 use crate::peer::Peer;
-use redact_core::Passphrases;
+use redact_core::{Passphrases, RedactFault};
 use std::alloc::{AllocError, Global};
 use std::marker::Model;
 use world_ports::Door;
@@ -147,9 +149,12 @@ impl Notes {
     }
 
     /// Bytes came from a connection.
-    pub fn hear(&mut self, number: u64, piece: &[u8]) -> Result<(), AllocError>
-        ensures { OnOk result
+    pub fn hear(&mut self, number: u64, piece: &[u8]) -> Result<(), RedactFault>
+        ensures kept { OnOk result
             (self.new ≡ with_due (heard (find_port number self.old.ports) piece.now self.old)) }
+        ensures full { result ≡ Err Full
+            → is_full (heard (find_port number self.old.ports) piece.now self.old).kept ≡ true }
+        ensures fits { OnOk result (is_full self.old ≡ false → is_full self.new ≡ false) }
     {
         self.wait(Due::Nothing);
         match place_of(&self.peers, number) {
@@ -213,13 +218,15 @@ fn hear(
     passphrases: &mut Passphrases,
     leaving: &mut Vec<u8>,
     text: &mut Vec<u8>,
-) -> Result<(), AllocError>
+) -> Result<(), RedactFault>
     requires { leaving.old.items ≡ [] }
     ensures port { OnOk result (peer.new
         ≡ held (taken peer.old piece.now passphrases.old).bytes (taken peer.old piece.now passphrases.old).port) }
     ensures passphrases { OnOk result (passphrases.new ≡ (taken peer.old piece.now passphrases.old).passphrases) }
     ensures text { OnOk result (text.new.items ≡ text.old.items
         ++ lines (hear_lines (taken peer.old piece.now passphrases.old))) }
+    ensures full { result ≡ Err Full → is_over (taken peer.old piece.now passphrases.old).passphrases ≡ true }
+    ensures fits { OnOk result (is_over passphrases.old ≡ false → is_over passphrases.new ≡ false) }
 {
     peer.take_in(piece, passphrases, leaving)?;
     put_hearing(text, peer.is_held(), peer.number(), leaving)?;

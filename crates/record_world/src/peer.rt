@@ -1,10 +1,12 @@
 //! An accepted connection, with the bytes that came of it and aren't recorded yet.
 
-ghost use Rattle.std.specs.Prelude.{◌≡◌, ◌++◌, OnOk, OnErr, length, []};
+ghost use Rattle.std.specs.Prelude.{◌≡◌, ◌++◌, Err, OnOk, OnErr, false, length, true, []};
+ghost use Rattle.redact_core.specs.Redaction.{is_over};
+ghost use Rattle.redact_core.specs.declared.fault.RedactFault.TheVariants.{Full};
 ghost use Rattle.record_world.specs.Recording.{held, new_port, number_of, taken};
 
 use crate::frames::take_frames;
-use redact_core::Passphrases;
+use redact_core::{Passphrases, RedactFault};
 use secret_buf::ScrubBuf;
 use std::alloc::{AllocError, Global};
 use std::marker::Model;
@@ -72,21 +74,26 @@ impl Peer {
     }
 
     /// Takes in a piece, and appends to `leaving` what may be recorded of it by now.
-    #[tactic(auto, using(crate::proofs::FrameLemmas::client_bad, crate::proofs::FrameLemmas::client_good))]
+    #[tactic(auto, using(crate::proofs::FrameLemmas::client_bad, crate::proofs::FrameLemmas::client_good, crate::proofs::FrameLemmas::client_full))]
     pub fn take_in(
         &mut self,
         piece: &[u8],
         passphrases: &mut Passphrases,
         leaving: &mut Vec<u8>,
-    ) -> Result<(), AllocError>
+    ) -> Result<(), RedactFault>
         ensures port { OnOk result (self.new ≡ (taken self.old piece.now passphrases.old).port) }
         ensures passphrases { OnOk result
             (passphrases.new ≡ (taken self.old piece.now passphrases.old).passphrases) }
         ensures leaving { OnOk result (leaving.new.items
             ≡ leaving.old.items ++ (taken self.old piece.now passphrases.old).bytes) }
+        ensures full { result ≡ Err Full → is_over (taken self.old piece.now passphrases.old).passphrases ≡ true }
+        ensures fits { OnOk result (is_over passphrases.old ≡ false → is_over passphrases.new ≡ false) }
     {
         match self.door {
-            Door::Children => leaving.extend_from_slice(piece),
+            Door::Children => {
+                leaving.extend_from_slice(piece)?;
+                Ok(())
+            }
             Door::Clients if self.is_bad => Ok(()),
             Door::Clients => {
                 self.unrecorded.push_slice(piece)?;

@@ -17,7 +17,7 @@ use world_ports::{
 /// A world that makes each call on the world it borrows, hands its answer on, and writes the lines of
 /// a schedule of format 2 to the sink it borrows.
 ///
-/// Where the sink failed it writes nothing more, and the calls go on. Where memory of its own runs
+/// Where the sink failed, or passphrases came that take too much room, it writes nothing more, and the calls go on. Where memory of its own runs
 /// out, a call answers so; from there on it writes nothing more either. It asks for memory of its own
 /// in `accept` and `read` alone.
 #[derive(Drop)]
@@ -42,7 +42,7 @@ impl<'w, W: World, O: Sink> Recorder<'w, W, O> {
         Recorder { inner, out, tape }
     }
 
-    /// Whether the sink failed.
+    /// Whether the sink failed, or the passphrases that came take too much room.
     pub fn broken(&self) -> bool
         ensures { result ≡ self.now.tape.now.is_broken }
     {

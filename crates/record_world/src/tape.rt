@@ -15,6 +15,7 @@ ghost use Rattle.record_world.specs.Recording.{first_recording, only, with_due};
 
 use crate::line::{Line, put_at, put_due};
 use crate::notes::Notes;
+use redact_core::RedactFault;
 use std::alloc::{AllocError, Global};
 use std::mem;
 use world_ports::{
@@ -24,7 +25,7 @@ use world_ports::{
 /// The first line of a record.
 const FORMAT: &[u8] = b"schedule 2\n";
 
-/// What a recorder keeps between two calls: whether its sink failed, whether memory ran out, and notes. After either it
+/// What a recorder keeps between two calls: whether the record broke, whether memory ran out, and notes. After either it
 /// writes nothing more.
 #[derive(Drop)]
 pub struct Tape {
@@ -169,11 +170,11 @@ impl Tape {
     {
         if self.records(is_short(answer)) {
             match *answer {
-                Ok(Got::Bytes(_)) => {
-                    if self.notes.hear(port, bytes).is_err() {
-                        self.run_out();
-                    }
-                }
+                Ok(Got::Bytes(_)) => match self.notes.hear(port, bytes) {
+                    Ok(()) => {}
+                    Err(RedactFault::Full) => self.is_broken = true,
+                    Err(RedactFault::Memory) => self.run_out(),
+                },
                 Ok(Got::End) | Err(_) => self.notes.end(port),
                 Ok(Got::NotNow) => self.notes.pass(),
             }

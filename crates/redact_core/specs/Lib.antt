@@ -1,3 +1,4 @@
 pub mod Redaction
+pub mod Places
 pub mod Blanks
 pub mod Rows

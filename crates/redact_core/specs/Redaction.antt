@@ -1,7 +1,7 @@
--- Bodies of requests without their secrets: the private fields of an added key are zeros, and a passphrase is
--- the number under which it first came (ours).
-use Rattle.std.specs.Prelude.{ℕ, zero, suc, ◌==◌, ◌||◌, Bool, true, false, List, [], ◌∷◌, ◌++◌, length, take, drop, replicate, decimal, Option, Some, None, Result, Ok, Err}
-use Rattle.std.specs.List.{position}
+-- Bodies of requests without their secrets: the private fields of an added key are zeros, a passphrase is the number
+-- under which it first came, and of a request that isn't served the number is left (ours).
+use Rattle.std.specs.Prelude.{ℕ, zero, suc, ◌+◌, ◌==◌, ◌||◌, nat_lt, Bool, true, false, List, [], ◌∷◌, ◌++◌, length, take, drop, replicate, decimal, Option, Some, None, Result, Ok, Err}
+use Rattle.std.specs.List.{position, sum_by}
 use Rattle.std.specs.Str.{bytes_eq}
 use Rattle.wire_text.specs.Wire.{string}
 use Rattle.wire_core.specs.Fields.{string_at}
@@ -52,6 +52,22 @@ abbrev pub noted : List ℕ → List (List ℕ) → List (List ℕ)
 noted passphrase passphrases =
     noted_by (position (bytes_eq passphrase) passphrases) passphrase passphrases
 
+-- the room that a passphrase takes: its bytes, and 64 for its place (ours)
+abbrev pub room_of : List ℕ → ℕ
+room_of passphrase = length passphrase + 64
+
+-- the room that passphrases take
+abbrev pub kept_len : List (List ℕ) → ℕ
+kept_len passphrases = sum_by room_of passphrases
+
+-- the most room that they may take: 4 MiB (ours)
+abbrev pub most_kept : ℕ
+most_kept = 4194304
+
+-- they take more
+abbrev pub is_over : List (List ℕ) → Bool
+is_over passphrases = nat_lt most_kept (kept_len passphrases)
+
 -- a body without its secrets, and the passphrases that came, in order
 pub record Redacted : Type 0 where
   pub body : List ℕ
@@ -83,7 +99,8 @@ unread false number bytes = number ∷ bytes
 abbrev pub unchanged : ℕ → List ℕ → List (List ℕ) → Redacted
 unchanged number bytes passphrases = record { body = number ∷ bytes; passphrases = passphrases }
 
--- the body behind whose number these bytes stand, by the request that it is
+-- the body behind whose number these bytes stand, by the request that it is: one of a number that isn't served may hold
+-- a PIN or a private key
 abbrev pub redacted_as : Result ClientRequest MsgFault → ℕ → List ℕ → List (List ℕ) → Redacted
 redacted_as (Ok (Add addition)) number bytes passphrases =
     let key = addition.key.private in
@@ -96,7 +113,7 @@ redacted_as (Ok (Remove blob)) number bytes passphrases = unchanged number bytes
 redacted_as (Ok RemoveAll) number bytes passphrases = unchanged number bytes passphrases
 redacted_as (Ok (Bind bind)) number bytes passphrases = unchanged number bytes passphrases
 redacted_as (Ok (OtherExtension name)) number bytes passphrases = unchanged number bytes passphrases
-redacted_as (Ok (Unsupported other)) number bytes passphrases = unchanged number bytes passphrases
+redacted_as (Ok (Unsupported other)) number bytes passphrases = unchanged number [] passphrases
 redacted_as (Err fault) number bytes passphrases = record {
   body = unread (holds_secrets number) number bytes;
   passphrases = passphrases;

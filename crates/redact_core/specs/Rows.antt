@@ -50,6 +50,14 @@ lock passphrase = 22 ∷ string passphrase
 abbrev pub unlock : List ℕ → List ℕ
 unlock passphrase = 23 ∷ string passphrase
 
+-- what follows the number of a request about a smartcard: its reader and its PIN
+abbrev pub card : List ℕ
+card = string (codes "reader") ++ string (codes "1234")
+
+-- what followed the number of an addition of a key of SSH's version 1: bits, numbers and a comment
+abbrev pub old_key : List ℕ
+old_key = 0 ∷ 0 ∷ 0 ∷ 8 ∷ 0 ∷ 8 ∷ 201 ∷ 0 ∷ 3 ∷ 5 ∷ 0 ∷ 8 ∷ 77 ∷ string (codes "a key")
+
 -- nine passphrases
 abbrev pub nine : List (List ℕ)
 nine =

@@ -4,7 +4,7 @@
 ghost use Rattle.std.specs.Prelude.{◌≡◌, [], ◌∷◌, ◌++◌, codes};
 ghost use Rattle.wire_text.specs.Wire.{string};
 ghost use Rattle.redact_core.specs.Redaction.{redacted, redacted_all};
-ghost use Rattle.redact_core.specs.Rows.{certified, ed25519, left, lock, nine, rsa, stand_in, three, unlock};
+ghost use Rattle.redact_core.specs.Rows.{card, certified, ed25519, left, lock, nine, old_key, rsa, stand_in, three, unlock};
 
 /// An addition has zeros for its private fields; the public ones, the comment and the constraints
 /// stay.
@@ -36,7 +36,20 @@ pub fn passphrases_are_numbered()
         ≡ string (lock (codes "1")) ++ string (unlock (codes "2")) ++ string (unlock (codes "1")) }
 {}
 
-/// An addition, a lock or an unlock that isn't read is its number; every other body stays.
+/// A body of a number that isn't served is its number: those with a PIN, the old ones with a private key or a challenge,
+/// and any other.
+pub fn what_is_not_served_is_its_number()
+    ensures card { redacted (20 ∷ card) [] ≡ left (20 ∷ []) [] }
+    ensures removed_card { redacted (21 ∷ card) [] ≡ left (21 ∷ []) [] }
+    ensures constrained_card { redacted (26 ∷ (card ++ 1 ∷ 0 ∷ 0 ∷ 0 ∷ 60 ∷ [])) [] ≡ left (26 ∷ []) [] }
+    ensures old_addition { redacted (7 ∷ old_key) [] ≡ left (7 ∷ []) [] }
+    ensures old_constrained { redacted (24 ∷ (old_key ++ 2 ∷ [])) [] ≡ left (24 ∷ []) [] }
+    ensures old_challenge { redacted (3 ∷ old_key) [] ≡ left (3 ∷ []) [] }
+    ensures other { redacted (255 ∷ 1 ∷ []) (codes "pw" ∷ []) ≡ left (255 ∷ []) (codes "pw" ∷ []) }
+    ensures bare { redacted (20 ∷ []) [] ≡ left (20 ∷ []) [] }
+{}
+
+/// An addition, a lock or an unlock that isn't read is its number; every other body of a number that is served stays.
 pub fn other_bodies_stay()
     ensures trailing { redacted (lock (codes "pw") ++ 0 ∷ []) [] ≡ left (22 ∷ []) [] }
     ensures short { redacted (23 ∷ 0 ∷ 0 ∷ 0 ∷ 9 ∷ codes "pw") [] ≡ left (23 ∷ []) [] }
@@ -45,6 +58,6 @@ pub fn other_bodies_stay()
     ensures list { (redacted (11 ∷ codes "x") []).body ≡ 11 ∷ codes "x" }
     ensures sign { (redacted (13 ∷ 0 ∷ []) []).body ≡ 13 ∷ 0 ∷ [] }
     ensures remove { (redacted (18 ∷ string (codes "blob")) []).body ≡ 18 ∷ string (codes "blob") }
-    ensures other { (redacted (255 ∷ 1 ∷ []) []).body ≡ 255 ∷ 1 ∷ [] }
+    ensures extension { (redacted (27 ∷ string (codes "query")) []).body ≡ 27 ∷ string (codes "query") }
     ensures nothing { (redacted [] []).body ≡ [] }
 {}

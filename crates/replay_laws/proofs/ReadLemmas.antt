@@ -1,6 +1,7 @@
 -- A body that is told is read as the body itself, but for its secrets.
 use Rattle.std.proofs.Common.{◌≡◌, ℕ, ◌≤◌, List, [], ◌∷◌, ◌++◌, length, drop, map, refl, sym, ap, ◌∙◌, arith, inl, inr, Bool, true, false, Result, Ok, Err}
-use Rattle.std.specs.Prelude.{◌⊎◌}
+use Rattle.std.specs.Prelude.{◌⊎◌, ◌==◌, ◌≢◌, ◌&&◌}
+use Rattle.std.specs.Cmp.Lexicographic.{pointwise}
 use Rattle.std.proofs.lemmas.Bool.{cases_eq}
 use Rattle.std.proofs.lemmas.Bool.Decides.{nat_tests}
 use Rattle.std.proofs.lemmas.List.{drop_at, length-replicate}
@@ -18,7 +19,7 @@ use Rattle.key_blob.specs.declared.fault.KeyFault.TheVariants as key_faults
 use Rattle.agent_msg.specs.declared.fault.MsgFault.{MsgFault}
 use Rattle.agent_msg.specs.declared.fault.MsgFault.TheVariants as fault
 use Rattle.agent_msg.specs.Reading.{request_of, request_of_number}
-use Rattle.agent_msg.specs.Requests.{Addition, BindRequest, ClientRequest, IsConstrainedAddition, IsPlainAddition, IsText, ListIdentities, Sign, Add, Remove, RemoveAll, Lock, Unlock, Bind, OtherExtension, Unsupported, bind_front, names_bind}
+use Rattle.agent_msg.specs.Requests.{Addition, BindRequest, ClientRequest, IsConstrainedAddition, IsOfOtherNumber, IsPlainAddition, IsText, ListIdentities, Sign, Add, Remove, RemoveAll, Lock, Unlock, Bind, OtherExtension, Unsupported, bind_front, names_bind, session_bind}
 use Rattle.agent_msg.proofs.FoundLemmas.{request_is_found}
 use Rattle.agent_msg.proofs.ReadLemmas.{request_is_read}
 use Rattle.redact_core.specs.Blanks.{blanked}
@@ -136,6 +137,29 @@ secret_unread number (inr (inr (inl is))) =
 secret_unread number (inr (inr (inr is))) =
     (fault.Key key_faults.Short, ap (λ (n : ℕ). agent_request_of (n ∷ [])) is ∙ ap and_host_key short_25)
 
+-- ---- what isn't served
+
+-- the number alone is read as the same
+alone_read : (number other : ℕ) (bytes : List ℕ) → IsOfOtherNumber (number ∷ bytes) other
+    → request_of (number ∷ []) ≡ Ok (Unsupported other)
+alone_read number other bytes shown =
+    let same : number ≡ other = (let printed : number ∷ bytes ≡ other ∷ shown.contents = shown.printed in cc) in
+    request_is_read (number ∷ []) (Unsupported other)
+    (record { contents = []; printed = ap (λ (n : ℕ). n ∷ []) same; other = shown.other })
+
+-- it is no extension's
+no_extension : (number other : ℕ) (bytes : List ℕ) → IsOfOtherNumber (number ∷ bytes) other → (number == 27) ≡ false
+no_extension number other bytes shown =
+    let same : number ≡ other = (let printed : number ∷ bytes ≡ other ∷ shown.contents = shown.printed in cc) in
+    let apart : other ≢ 27 = shown.other 8 27 (omega arith) in
+    let beside : number ≢ 27 = λ is. apart (sym same ∙ is) in
+    grind (arith, nat_tests)
+
+-- such a body begins no request to bind
+names_nothing : (number : ℕ) (bytes : List ℕ) → (number == 27) ≡ false → names_bind (number ∷ bytes) ≡ false
+unfolding names_bind bind_front
+names_nothing number bytes apart = rw apart refl
+
 -- ---- bodies
 
 module _ (rename : List ℕ → List ℕ) where
@@ -186,6 +210,13 @@ module _ (rename : List ℕ → List ℕ) where
       ap (hide_read hidden) (ap and_host_key told ∙ keyless (rename passphrase) ∙ ap Ok (sym named)
       ∙ ap (renamed_read rename) (sym (keyless passphrase) ∙ sym (ap and_host_key is)))
 
+  -- a request of a number that isn't served is told by that number, and read as the same
+  unserved_read : (number other : ℕ) (bytes : List ℕ) → IsOfOtherNumber (number ∷ bytes) other
+      → request_of (number ∷ bytes) ≡ Ok (Unsupported other) → ReadsAs (number ∷ bytes) (number ∷ [])
+  unserved_read number other bytes shown is =
+      ap (hide_read hidden)
+      (ap and_host_key (alone_read number other bytes shown) ∙ sym (ap (λ (r : Result ClientRequest MsgFault). renamed_read rename (and_host_key r)) is))
+
   unread_so : (secret : Bool) (number : ℕ) (bytes : List ℕ) (what : MsgFault)
       → holds_secrets number ≡ secret
       → request_of (number ∷ bytes) ≡ Err what → Reads (number ∷ bytes) (unread secret number bytes)
@@ -221,7 +252,7 @@ module _ (rename : List ℕ → List ℕ) where
   by_read (Ok (OtherExtension name)) number bytes each is short =
       as_read (unchanged_read (number ∷ bytes) (OtherExtension name) is refl)
   by_read (Ok (Unsupported other)) number bytes each is short =
-      as_read (unchanged_read (number ∷ bytes) (Unsupported other) is refl)
+      as_read (unserved_read number other bytes (request_is_found (number ∷ bytes) (Unsupported other) each is) is)
   by_read (Err what) number bytes each is short =
       unread_so (holds_secrets number) number bytes what refl is
 
@@ -245,6 +276,12 @@ module _ (rename : List ℕ → List ℕ) where
       → names_bind (unread secret number bytes) ≡ names_bind (number ∷ bytes)
   unread_names true number bytes holds = secret_names number [] bytes (secret_is number holds)
   unread_names false number bytes holds = refl
+
+  unserved_names : (number other : ℕ) (bytes : List ℕ) → IsOfOtherNumber (number ∷ bytes) other
+      → names_bind (number ∷ []) ≡ names_bind (number ∷ bytes)
+  unserved_names number other bytes shown =
+      let apart = no_extension number other bytes shown in
+      names_nothing number [] apart ∙ sym (names_nothing number bytes apart)
 
   addition_is : (number : ℕ) (bytes : List ℕ) (addition : Addition)
       → IsPlainAddition (number ∷ bytes) addition ⊎ IsConstrainedAddition (number ∷ bytes) addition → IsSecret number
@@ -278,7 +315,8 @@ module _ (rename : List ℕ → List ℕ) where
       (inr (inr (inl (text_is number 23 bytes passphrase (request_is_found (number ∷ bytes) (Unlock passphrase) each is)))))
   names_by (Ok (Bind bind)) number bytes each is = refl
   names_by (Ok (OtherExtension name)) number bytes each is = refl
-  names_by (Ok (Unsupported other)) number bytes each is = refl
+  names_by (Ok (Unsupported other)) number bytes each is =
+      unserved_names number other bytes (request_is_found (number ∷ bytes) (Unsupported other) each is)
   names_by (Err what) number bytes each is = unread_names (holds_secrets number) number bytes refl
 
   pub renamed_names : (number : ℕ) (bytes : List ℕ) → IsBytes (number ∷ bytes)

@@ -32,7 +32,7 @@ renamed_as rename (Ok (Remove blob)) number bytes = number ∷ bytes
 renamed_as rename (Ok RemoveAll) number bytes = number ∷ bytes
 renamed_as rename (Ok (Bind bind)) number bytes = number ∷ bytes
 renamed_as rename (Ok (OtherExtension name)) number bytes = number ∷ bytes
-renamed_as rename (Ok (Unsupported other)) number bytes = number ∷ bytes
+renamed_as rename (Ok (Unsupported other)) number bytes = number ∷ []
 renamed_as rename (Err fault) number bytes = unread (holds_secrets number) number bytes
 
 -- a body with zeros for private fields and other passphrases, or its number alone
