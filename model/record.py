@@ -13,6 +13,9 @@ from .agent import LIMITS
 from .wire import Fault, string, take_frame
 
 LONGEST_HEARD = 16384  # bytes of a line `hear`
+MOST_KEPT = 4194304  # bytes of all passphrases, each its own and those of its place
+PLACE = 64
+SERVED = (11, 13, 17, 18, 19, 22, 23, 25, 27)  # others may hold a PIN or a private key
 SECRET = (17, 22, 23, 25)  # additions, locks and unlocks, which hold secrets
 
 
@@ -40,6 +43,8 @@ def without_secrets(added: bytes) -> bytes:
 
 def redacted(body: bytes, passphrases: list[bytes]) -> bytes:
     """A body without its secrets. A passphrase is told by its place among those that there were."""
+    if body[0] not in SERVED:
+        return body[:1]
     if body[0] not in SECRET:
         return body
     try:
@@ -63,7 +68,10 @@ def numbered(passphrase: bytes, passphrases: list[bytes]) -> bytes:
 
 
 class Recorder:
-    """Writes the lines of each entry; what it writes to tells whether it took them."""
+    """Writes the lines of each entry; what it writes to tells whether it took them.
+
+    Where it didn't, or the passphrases take too much room, nothing more is written.
+    """
 
     def __init__(self, write: Callable[[bytes], bool]) -> None:
         self.write = write
@@ -78,6 +86,7 @@ class Recorder:
     def record(self, entry: Entry) -> None:
         lines = self.lines(entry)
         self.short |= entry.answer == "Memory"
+        self.broken |= sum(len(one) + PLACE for one in self.passphrases) > MOST_KEPT
         for line in lines:
             if not self.broken and not self.short:
                 self.broken = not self.write(line.encode() + b"\n")

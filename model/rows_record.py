@@ -171,19 +171,19 @@ row("an accept that wanted memory", [*JOIN, Entry("accept", "client", "Memory"),
 
 # Frames
 
-LONG = b"\xc8" * 20000
+LONG = b"\x0d" * 20000
 row(
     "what leaves in one event is told in lines of 16384 bytes",
     [*JOIN, *then("read", 1, st(LONG)[:16384]), *then("read", 1, st(LONG)[16384:])],
-    [*JOINED, AT, AT, "hold 1", "hear 1 00004e20" + "c8" * 16380, "hear 1 " + "c8" * 3620],
+    [*JOINED, AT, AT, "hold 1", "hear 1 00004e20" + "0d" * 16380, "hear 1 " + "0d" * 3620],
     [],
 )
 row(
     "16384 bytes are one line, and one more are two",
-    [*JOIN, *then("read", 1, st(b"\xc8" * 16380)), *then("accept", "client", 2)]
-    + [*then("read", 2, st(b"\xc8" * 16381)[:9]), *then("read", 2, st(b"\xc8" * 16381)[9:])],
-    [*HEARD, "hear 1 00003ffc" + "c8" * 16380, AT, "join client", AT, AT, "hold 2"]
-    + ["hear 2 00003ffd" + "c8" * 16380, "hear 2 c8"],
+    [*JOIN, *then("read", 1, st(b"\x0d" * 16380)), *then("accept", "client", 2)]
+    + [*then("read", 2, st(b"\x0d" * 16381)[:9]), *then("read", 2, st(b"\x0d" * 16381)[9:])],
+    [*HEARD, "hear 1 00003ffc" + "0d" * 16380, AT, "join client", AT, AT, "hold 2"]
+    + ["hear 2 00003ffd" + "0d" * 16380, "hear 2 0d"],
     [],
 )
 row(
@@ -193,12 +193,12 @@ row(
     [*HEARD, "hear 1 000000010b0000000113", AT, AT, "hear 1 000000010b", AT, "end 1"],
     ["close 1"],
 )
-PIECES = [st(b"\xc8" * 262144)[at : at + 16384] for at in range(0, 262148, 16384)]
+PIECES = [st(b"\x0d" * 262144)[at : at + 16384] for at in range(0, 262148, 16384)]
 row(
     "a frame of 262144 bytes",
     JOIN + [entry for piece in PIECES for entry in then("read", 1, piece)],
-    [*JOINED, *[AT] * 17, "hold 1", "hear 1 00040000" + "c8" * 16380]
-    + [*["hear 1 " + "c8" * 16384] * 15, "hear 1 c8c8c8c8"],
+    [*JOINED, *[AT] * 17, "hold 1", "hear 1 00040000" + "0d" * 16380]
+    + [*["hear 1 " + "0d" * 16384] * 15, "hear 1 0d0d0d0d"],
     [],
 )
 row(
@@ -263,6 +263,21 @@ row(
     [],
 )
 
+WORDS = [bytes([place]) * 262139 for place in range(15)]
+TRIED = JOIN + [entry for word in WORDS for entry in sent(1, unlock(word))]
+COUNTED = [[AT, *hear(1, unlock(b"%d" % place))] for place in range(1, 18)]
+WHOLE = [*HEARD, *COUNTED[0][1:], *[line for lines in COUNTED[1:15] for line in lines]]
+row(
+    "passphrases that take all the room that they may",
+    [*TRIED, *sent(1, unlock(bytes(261195))), *sent(1, unlock(WORDS[3]))],
+    [*WHOLE, *COUNTED[15], *COUNTED[3]],
+)
+row(
+    "passphrases that take a byte more end the record",
+    [*TRIED, *sent(1, unlock(bytes(261196))), *sent(1, LIST)],
+    WHOLE,
+)
+
 # Additions
 
 
@@ -323,15 +338,25 @@ for what, terms in [
 ]:
     name = f"an addition whose constraint is {what} is its number alone"
     adds(name, TERMS1 + terms, b"\x19", to(1, NO))
-OTHER = b"\x18" + ADD1[1:]
-adds("a secret under another number isn't known as one", OTHER, OTHER, to(1, NO))
+for what, body in [
+    ("adds a key of SSH's version 1 under constraints", b"\x18" + ADD1[1:]),
+    ("adds one without", b"\x07" + ADD1[1:]),
+    ("is a challenge for one", b"\x03" + ADD1[1:]),
+    ("adds the keys of a smartcard", b"\x14" + st(b"reader") + st(b"1234")),
+    ("removes them", b"\x15" + st(b"reader") + st(b"1234")),
+    ("adds them under constraints", b"\x1a" + st(b"reader") + st(b"1234") + b"\x02"),
+    ("has the number 0", b"\x00\x01"),
+    ("has the number 255", b"\xff" * 9),
+    ("is such a number alone", b"\x14"),
+]:
+    adds(f"a request that isn't served is its number alone: {what}", body, body[:1], to(1, NO))
 
 # What else there is stays
 
 PLAIN = [LIST, LIST + b"\0", sign(K1, b"to be signed"), b"\x0d", bind(K1, b"session", 1)]
-OTHERS = [b"\x12" + st(K1), b"\x13", b"\x1b" + st(b"query") + b"\0", b"\x00", b"\xff" * 9]
+OTHERS = [b"\x12" + st(K1), b"\x13", b"\x1b" + st(b"query") + b"\0"]
 row(
-    "requests without secrets stay as they are, read or not",
+    "requests without secrets that are served stay as they are, read or not",
     [*JOIN, *sent(1, *PLAIN), *sent(1, *OTHERS)],
     [*HEARD, *hear(1, *PLAIN), AT, *hear(1, *OTHERS)],
 )
