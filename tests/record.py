@@ -18,7 +18,7 @@ sys.dont_write_bytecode = True
 
 import rig
 from frames import string
-from rig import ADD, FAILURE, IDENTITIES, LIST, LOCK, SUCCESS, our_agent, run, until
+from rig import ADD, FAILURE, IDENTITIES, LIST, LOCK, SUCCESS, UNLOCK, our_agent, run, until
 
 check = rig.Checks("record")
 PROGRAM = rig.agent_program()
@@ -163,6 +163,37 @@ def a_full_disk_disturbs_nobody(folder):
         assert peer.ask(LOCK, string(b"pw"))[0] == SUCCESS
         assert peer.ask(LIST)[0] == IDENTITIES
     assert agent.process.wait(20) == 7
+
+
+@check
+def what_is_not_served_is_told_by_its_number(folder):
+    agent = recorded(folder, helper=rig.BUILT / "standin_helper")
+    pin = b"a PIN of 20 bytes .."
+    with agent.peer() as peer:
+        for number in (20, 21, 26, 7, 24, 3, 255):
+            assert peer.ask(number, string(b"reader"), string(pin))[0] == FAILURE
+    agent.end()
+    record = (folder / "record").read_bytes()
+    assert not is_in(pin, record) and b"hear 1 0000000114\n" in record, record
+    assert replayed(record)[1] == (b"\0\0\0\1" + bytes([FAILURE])) * 7
+
+
+@check
+def more_passphrases_than_are_kept_end_the_record(folder):
+    with open(folder / "record", "wb") as file:
+        agent = our_agent(PROGRAM, folder, "--record", "--until-idle", helper=rig.BUILT / "standin_helper", stdout=file)
+    with agent.peer() as peer:
+        for place in range(15):
+            assert peer.ask(UNLOCK, string(bytes([place]) * 262139))[0] == FAILURE
+        assert peer.ask(UNLOCK, string(bytes([3]) * 262139))[0] == FAILURE
+        until(lambda: b"hear 1 0000000617000000013" in (folder / "record").read_bytes(), what="the record")
+        assert peer.ask(UNLOCK, string(bytes(261196)))[0] == FAILURE
+        assert peer.ask(LIST)[0] == IDENTITIES
+    assert agent.process.wait(20) == 7
+    record = (folder / "record").read_bytes()
+    told = [line for line in record.splitlines() if line.startswith(b"hear ")]
+    assert len(told) == 16 and told[15] == told[3], told
+    assert len(replayed(record)[1]) == 5 * 16
 
 
 @check
