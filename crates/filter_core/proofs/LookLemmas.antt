@@ -6,8 +6,8 @@ use Rattle.wire_text.specs.Frames.{Bad, Front, More, Whole, after_front, front, 
 use Rattle.filter_model.specs.declared.waits.Waits.{Waits}
 use Rattle.filter_model.specs.declared.waits.Waits.TheVariants as waiting
 use Rattle.filter_model.specs.Lists.{Listed}
-use Rattle.filter_model.specs.Pairs.{Pair, is_none, is_quiet, kept}
-use Rattle.filter_model.specs.Looking.{Looked, and_then, and_then_if, answered, client_front, client_looked, client_owed, client_waits, ends, fate_of, given_back, nothing_left, reply_for, stays, taken_as, upstream_front, upstream_looked, upstream_waits, without_front}
+use Rattle.filter_model.specs.Pairs.{Pair, freed, is_none, is_quiet, unlinked}
+use Rattle.filter_model.specs.Looking.{Looked, and_then, and_then_if, answered, client_front, client_looked, client_owed, client_waits, ends, fate_of, freed_after, lost, lost_if, nothing_left, reply_for, stays, taken_as, upstream_front, upstream_looked, upstream_waits, without_front}
 use Rattle.filter_core.specs.Slots.{Leaves, is_free, owes_reply}
 
 -- ---- the client's side
@@ -133,9 +133,17 @@ then_goes listed pair mid left is_open first next =
     leaves_as is_open left (and_then (client_looked listed pair) (upstream_looked listed)) (upstream_looked listed mid)
     (ap (λ (b : Bool). and_then_if b (client_looked listed pair).pair (upstream_looked listed)) (sym first.stays) ∙ ap (upstream_looked listed) (sym first.left)) next.stays next.left
 
--- the connection is given back where it isn't needed
-pub back_leaves : (pair left : Pair) (is_open : Bool) (after : Looked) → left ≡ kept pair → Leaves is_open pair after → Leaves is_open left (given_back after)
-back_leaves pair left is_open after back leaves = record {
+-- a connection on which nothing is under way is as good as a new one
+pub freed_leaves : (pair left : Pair) (is_open : Bool) (after : Looked) → left ≡ freed pair → Leaves is_open pair after → Leaves is_open left (freed_after after)
+freed_leaves pair left is_open after back leaves = record {
   stays = leaves.stays;
-  left = back ∙ ap kept leaves.left;
+  left = back ∙ ap freed leaves.left;
 }
+
+-- ---- a connection that ended
+
+pub lost_used : (pair : Pair) → pair.is_used ≡ true → Leaves false pair (lost pair)
+lost_used pair used = leaves_as false pair (lost pair) (ends pair) (ap (λ (b : Bool). lost_if b pair) used) refl refl
+
+pub lost_unused : (pair left : Pair) → pair.is_used ≡ false → left ≡ unlinked pair → Leaves true left (lost pair)
+lost_unused pair left unused is = leaves_as true left (lost pair) (stays (unlinked pair)) (ap (λ (b : Bool). lost_if b pair) unused) refl is

@@ -158,7 +158,7 @@ numbers-ordered low high (one ∷ pairs) (suc i) (suc j) rising order within =
 
 -- a slot of nobody
 pub no_slot : Slot
-no_slot = record { number = 0; client = empty_half; upstream = empty_half; waits = waits.Nothing; is_linked = false; is_bound = false }
+no_slot = record { number = 0; client = empty_half; upstream = empty_half; waits = waits.Nothing; is_linked = false; is_used = false; is_bound = false }
 
 -- the comparisons with a number rise along the slots, as a binary search asks
 comparisons_rise : (slots : List Slot) (number high : ℕ) → IsRising 0 high (pairs_of slots) → IsNonDecreasingBy (λ slot. ordering_index (nat_cmp slot.number number)) slots

@@ -1,5 +1,5 @@
 -- Edits of the slots are edits of the pairs, and these are the steps of the definition.
-use Rattle.std.proofs.Common.{◌≡◌, ◌∙◌, ℕ, zero, suc, ◌+◌, ◌-◌, ◌^◌, ◌<◌, List, [], ◌∷◌, ◌++◌, Bool, true, false, length, cond, get_or, set, refl, ap, arith, sym, subst, Some, slice_get, Result, Ok, Err}
+use Rattle.std.proofs.Common.{◌≡◌, ◌∙◌, ℕ, zero, suc, ◌+◌, ◌-◌, ◌^◌, ◌<◌, List, [], ◌∷◌, ◌++◌, Bool, true, false, length, cond, get_or, set, refl, ap, arith, sym, subst, Option, Some, None, slice_get, Result, Ok, Err}
 use Rattle.std.proofs.lemmas.List.{map-set, map-append, drop-map, take-map}
 use Rattle.std.specs.Prelude.{OnOk}
 use Rattle.std.proofs.lemmas.Option.{slice_get-map}
@@ -7,8 +7,8 @@ use Rattle.std.specs.List.{count_by, filter, remove}
 use Rattle.std.proofs.lemmas.List.Sums.{length-filter}
 use Rattle.std.specs.Option.{option_map}
 use Rattle.filter_model.specs.Lists.{Listed}
-use Rattle.filter_model.specs.Pairs.{Pair}
-use Rattle.filter_model.specs.Filters.{Happening, Numbered, State, at_pair, find_pair, links, parted, put_pair, remove_pair, settled, told}
+use Rattle.filter_model.specs.Pairs.{Pair, is_spare, unlinked}
+use Rattle.filter_model.specs.Filters.{Happening, Numbered, State, at_pair, find_pair, is_crowded, links, parted, put_pair, remove_pair, settled, spares_if, told, trimmed, trimmed_by, unlinked_by, unlinked_in, without}
 use Rattle.filter_core.specs.declared.slot.Slot.{Slot}
 use Rattle.filter_core.specs.Slots.{IsKept, IsRising, Leaves, numbered_of, pair_of, pairs_of}
 use Rattle.filter_core.specs.Places.{IsPlace}
@@ -90,7 +90,7 @@ kept-numbered pairs last below kept = record { rising = rising-higher 0 last (la
 
 -- the pair stays open
 pub steps_open : (event : Happening) (state : State) (number : ℕ) (pair left : Pair) → find_pair number state.pairs ≡ Some pair → Leaves true left (told event state.listed pair)
-    → at_pair (find_pair number state.pairs) number event state ≡ record state { pairs = put_pair number left state.pairs; closes = []; parts = parted number pair.is_linked left.is_linked }
+    → at_pair (find_pair number state.pairs) number event state ≡ record state { pairs = put_pair number left state.pairs; spares = spares_if (is_spare left) number state.spares; closes = []; parts = parted number pair.is_linked left.is_linked }
 steps_open event state number pair left found leaves =
     ap (λ f. at_pair f number event state) found
     ∙ ap (λ b. settled b number pair (told event state.listed pair).pair state) (sym leaves.stays)
@@ -98,7 +98,7 @@ steps_open event state number pair left found leaves =
 
 -- it is closed
 pub steps_closed : (event : Happening) (state : State) (number : ℕ) (pair left : Pair) → find_pair number state.pairs ≡ Some pair → Leaves false left (told event state.listed pair)
-    → at_pair (find_pair number state.pairs) number event state ≡ record state { pairs = remove_pair number state.pairs; closes = number ∷ []; parts = [] }
+    → at_pair (find_pair number state.pairs) number event state ≡ record state { pairs = remove_pair number state.pairs; spares = without number state.spares; closes = number ∷ []; parts = [] }
 steps_closed event state number pair left found leaves =
     ap (λ f. at_pair f number event state) found
     ∙ ap (λ b. settled b number pair (told event state.listed pair).pair state) (sym leaves.stays)
@@ -120,33 +120,71 @@ counted slots = sym (length-filter (λ slot. slot.is_linked) slots) ∙ as_many 
 
 -- ---- the state of the storage
 
-abbrev pub state_of : Listed → List Slot → ℕ → List ℕ → List ℕ → State
-state_of listed slots last closed parts = record { listed = listed; pairs = pairs_of slots; last_pair = last; closes = closed; parts = parts }
+abbrev pub state_of : Listed → List Slot → ℕ → List ℕ → List ℕ → List ℕ → State
+state_of listed slots last spares closed parts = record {
+  listed = listed;
+  pairs = pairs_of slots;
+  last_pair = last;
+  spares = spares;
+  closes = closed;
+  parts = parts;
+}
 
 -- an event that leaves the pair open
-pub tells_open : (listed : Listed) (slots : List Slot) (last : ℕ) (closed parts noted : List ℕ) (number place : ℕ) (event : Happening) (old slot : Slot) (stays : Bool)
+pub tells_open : (listed : Listed) (slots : List Slot) (last : ℕ) (spares kept closed parts noted : List ℕ) (number place : ℕ) (event : Happening) (old slot : Slot) (stays : Bool)
     → IsPlace number (pairs_of slots) place → old ≡ get_or slots place old → slot.number ≡ old.number → Leaves stays (pair_of slot) (told event listed (pair_of old)) → stays ≡ true → closed ≡ [] → parts ≡ []
-    → noted ≡ parts ++ parted number old.is_linked slot.is_linked
-    → state_of listed (set slots place slot) last closed noted ≡ at_pair (find_pair number (pairs_of slots)) number event (state_of listed slots last closed parts)
-tells_open listed slots last closed parts noted number place event old slot stays is here same leaves open_yet quiet unparted notes =
-    ap (λ (pairs : List Numbered). let s : State = record { listed = listed; pairs = pairs; last_pair = last; closes = closed; parts = noted } in s) (put_slot slots number place old is here slot same)
-    ∙ ap (λ (closes : List ℕ). let s : State = record { listed = listed; pairs = put_pair number (pair_of slot) (pairs_of slots); last_pair = last; closes = closes; parts = noted } in s) quiet
-    ∙ ap (λ (gone : List ℕ). let s : State = record { listed = listed; pairs = put_pair number (pair_of slot) (pairs_of slots); last_pair = last; closes = []; parts = gone } in s)
+    → kept ≡ spares_if (is_spare (pair_of slot)) number spares → noted ≡ parts ++ parted number old.is_linked slot.is_linked
+    → state_of listed (set slots place slot) last kept closed noted ≡ at_pair (find_pair number (pairs_of slots)) number event (state_of listed slots last spares closed parts)
+tells_open listed slots last spares kept closed parts noted number place event old slot stays is here same leaves open_yet quiet unparted keeps notes =
+    ap (λ (pairs : List Numbered). let s : State = record { listed = listed; pairs = pairs; last_pair = last; spares = kept; closes = closed; parts = noted } in s) (put_slot slots number place old is here slot same)
+    ∙ ap (λ (left : List ℕ). let s : State = record { listed = listed; pairs = put_pair number (pair_of slot) (pairs_of slots); last_pair = last; spares = left; closes = closed; parts = noted } in s) keeps
+    ∙ ap (λ (closes : List ℕ). let s : State = record { listed = listed; pairs = put_pair number (pair_of slot) (pairs_of slots); last_pair = last; spares = spares_if (is_spare (pair_of slot)) number spares; closes = closes; parts = noted } in s) quiet
+    ∙ ap (λ (gone : List ℕ). let s : State = record { listed = listed; pairs = put_pair number (pair_of slot) (pairs_of slots); last_pair = last; spares = spares_if (is_spare (pair_of slot)) number spares; closes = []; parts = gone } in s)
     (notes ∙ ap (λ (l : List ℕ). l ++ parted number old.is_linked slot.is_linked) unparted)
-    ∙ sym (steps_open event (state_of listed slots last closed parts) number (pair_of old) (pair_of slot) (found_slot slots number place old is here)
+    ∙ sym (steps_open event (state_of listed slots last spares closed parts) number (pair_of old) (pair_of slot) (found_slot slots number place old is here)
     (subst (λ (b : Bool). Leaves b (pair_of slot) (told event listed (pair_of old))) open_yet leaves))
 
 -- one that closes it
-pub tells_closed : (listed : Listed) (slots : List Slot) (last : ℕ) (closed parts : List ℕ) (number place : ℕ) (event : Happening) (old slot : Slot) (stays : Bool)
+pub tells_closed : (listed : Listed) (slots : List Slot) (last : ℕ) (spares closed parts : List ℕ) (number place : ℕ) (event : Happening) (old slot : Slot) (stays : Bool)
     → IsPlace number (pairs_of slots) place → old ≡ get_or slots place old → slot.number ≡ old.number → Leaves stays (pair_of slot) (told event listed (pair_of old)) → stays ≡ false → closed ≡ [] → parts ≡ []
-    → state_of listed (remove (set slots place slot) place) last (closed ++ slot.number ∷ []) parts ≡ at_pair (find_pair number (pairs_of slots)) number event (state_of listed slots last closed parts)
-tells_closed listed slots last closed parts number place event old slot stays is here same leaves shut quiet unparted =
-    ap (λ (pairs : List Numbered). let s : State = record { listed = listed; pairs = pairs; last_pair = last; closes = closed ++ slot.number ∷ []; parts = parts } in s) (remove_put slots number place old is here slot)
-    ∙ ap (λ (closes : List ℕ). let s : State = record { listed = listed; pairs = remove_pair number (pairs_of slots); last_pair = last; closes = closes ++ slot.number ∷ []; parts = parts } in s) quiet
-    ∙ ap (λ (n : ℕ). let s : State = record { listed = listed; pairs = remove_pair number (pairs_of slots); last_pair = last; closes = n ∷ []; parts = parts } in s) (same ∙ number_of_slot slots number place old is here)
-    ∙ ap (λ (gone : List ℕ). let s : State = record { listed = listed; pairs = remove_pair number (pairs_of slots); last_pair = last; closes = number ∷ []; parts = gone } in s) unparted
-    ∙ sym (steps_closed event (state_of listed slots last closed parts) number (pair_of old) (pair_of slot) (found_slot slots number place old is here)
+    → state_of listed (remove (set slots place slot) place) last (without slot.number spares) (closed ++ slot.number ∷ []) parts ≡ at_pair (find_pair number (pairs_of slots)) number event (state_of listed slots last spares closed parts)
+tells_closed listed slots last spares closed parts number place event old slot stays is here same leaves shut quiet unparted =
+    ap (λ (pairs : List Numbered). let s : State = record { listed = listed; pairs = pairs; last_pair = last; spares = without slot.number spares; closes = closed ++ slot.number ∷ []; parts = parts } in s) (remove_put slots number place old is here slot)
+    ∙ ap (λ (closes : List ℕ). let s : State = record { listed = listed; pairs = remove_pair number (pairs_of slots); last_pair = last; spares = without slot.number spares; closes = closes ++ slot.number ∷ []; parts = parts } in s) quiet
+    ∙ ap (λ (n : ℕ). let s : State = record { listed = listed; pairs = remove_pair number (pairs_of slots); last_pair = last; spares = without n spares; closes = n ∷ []; parts = parts } in s) (same ∙ number_of_slot slots number place old is here)
+    ∙ ap (λ (gone : List ℕ). let s : State = record { listed = listed; pairs = remove_pair number (pairs_of slots); last_pair = last; spares = without number spares; closes = number ∷ []; parts = gone } in s) unparted
+    ∙ sym (steps_closed event (state_of listed slots last spares closed parts) number (pair_of old) (pair_of slot) (found_slot slots number place old is here)
     (subst (λ (b : Bool). Leaves b (pair_of slot) (told event listed (pair_of old))) shut leaves))
+
+-- ---- a spare connection is given back
+
+pub unlinks_slot : (slots : List Slot) (number place : ℕ) (old slot : Slot) → IsPlace number (pairs_of slots) place → old ≡ get_or slots place old → slot.number ≡ old.number → pair_of slot ≡ unlinked (pair_of old)
+    → pairs_of (set slots place slot) ≡ unlinked_in number (pairs_of slots)
+unlinks_slot slots number place old slot is here same left =
+    put_slot slots number place old is here slot same
+    ∙ ap (λ (pair : Pair). put_pair number pair (pairs_of slots)) left
+    ∙ sym (ap (λ (found : Option Pair). unlinked_by found number (pairs_of slots)) (found_slot slots number place old is here))
+
+pub unlinks_none : (pairs : List Numbered) (number : ℕ) → find_pair number pairs ≡ None → pairs ≡ unlinked_in number pairs
+unlinks_none pairs number none = sym (ap (λ (found : Option Pair). unlinked_by found number pairs) none)
+
+trims_empty : (test : Bool) (state : State) → trimmed_by test [] state ≡ state
+trims_empty true state = refl
+trims_empty false state = refl
+
+-- none is spare
+pub trims_none : (state : State) → state.spares ≡ [] → trimmed state ≡ state
+trims_none state none = ap (λ (spares : List ℕ). trimmed_by (is_crowded state) spares state) none ∙ trims_empty (is_crowded state) state
+
+-- not too many are
+pub trims_not : (state : State) → is_crowded state ≡ false → trimmed state ≡ state
+trims_not state few = ap (λ (test : Bool). trimmed_by test state.spares state) few
+
+-- too many are
+pub trims_one : (state : State) (oldest : ℕ) (later : List ℕ) → state.spares ≡ oldest ∷ later → is_crowded state ≡ true
+    → trimmed state ≡ record state { pairs = unlinked_in oldest state.pairs; spares = without oldest state.spares; parts = state.parts ++ oldest ∷ [] }
+trims_one state oldest later spares crowded =
+    ap (λ (test : Bool). trimmed_by test state.spares state) crowded ∙ ap (λ (l : List ℕ). trimmed_by true l state) spares
 
 -- what follows where memory sufficed
 pub after_ok : {T E : Type 0} {P Q : Type 0} (result : Result T E) → (P → Q) → OnOk result P → OnOk result Q

@@ -11,7 +11,7 @@ use Rattle.filter_core.specs.declared.slot.Slot.{Slot}
 use Rattle.filter_model.specs.Lists.{Listed}
 use Rattle.filter_model.specs.Pairs.{Half, Pair, half_of, is_none, is_quiet, owes_more}
 use Rattle.filter_model.specs.Looking.{Looked}
-use Rattle.filter_model.specs.Filters.{Connected, Ended, Happening, Heard, Joined, Numbered, Took}
+use Rattle.filter_model.specs.Filters.{Connected, Ended, Happening, Heard, Joined, Lost, Numbered, Took}
 
 -- the blobs of a set, in order
 abbrev pub blobs_of : BTreeSet (Vec ℕ Global) → List (List ℕ)
@@ -32,6 +32,7 @@ pair_of slot = record {
   upstream = slot.upstream;
   waits = slot.waits;
   is_linked = slot.is_linked;
+  is_used = slot.is_used;
   is_bound = slot.is_bound;
 }
 
@@ -80,4 +81,5 @@ FitsPair Joined pair = Unit {0}
 FitsPair (Connected number) pair = Unit {0}
 FitsPair (Heard number side piece) pair = Unit {0}
 FitsPair (Took number side count) pair = count ≤ length (half_of side pair).owed
+FitsPair (Lost number) pair = Unit {0}
 FitsPair (Ended number) pair = Unit {0}

@@ -23,7 +23,11 @@ pub enum FilterEvent<'a> {
         side: Side,
         count: usize,
     },
-    /// A side has ended, or could not be read or written.
+    /// The connection to the agent behind has ended, or could not be read or written.
+    Lost {
+        pair: u64,
+    },
+    /// The client has ended, or could not be read or written, or the agent behind refused a connection.
     Ended {
         pair: u64,
     },

@@ -2,8 +2,8 @@
 
 ghost use Rattle.std.specs.Prelude.{◌≡◌, ◌↔◌, ◌-◌, ◌^◌, ◌<◌, ◌≤◌, [], ◌∷◌, ◌++◌, IsSome, IsTrue, MatchOption, None, OnOk, Some, count_by, false, length, slice_get, true};
 ghost use Rattle.std.specs.List.{remove};
-ghost use Rattle.filter_model.specs.Filters.{Fits, Joined, at_pair, can_send, find_pair, first_state, has_place, is_reached, joined, links, owed_of, parted, step, wants};
-ghost use Rattle.filter_model.specs.Pairs.{Pair};
+ghost use Rattle.filter_model.specs.Filters.{Fits, Joined, at_pair, can_send, find_pair, first_state, happened, has_place, is_crowded, is_reached, joined, links, owed_of, parted, spares_if, step, trimmed, unlinked_in, wants, without};
+ghost use Rattle.filter_model.specs.Pairs.{Pair, is_spare};
 ghost use Rattle.filter_core.specs.Happenings.{happening};
 ghost use Rattle.filter_core.specs.Slots.{FitsPair, listed_of, pair_of, pairs_of};
 ghost use Rattle.filter_core.specs.declared.slot.Slot.{Slot};
@@ -22,6 +22,9 @@ const MOST_PAIRS: usize = 128;
 /// The most connections to the agent behind.
 const MOST_LINKS: usize = 64;
 
+/// The most of these that are spare.
+const MOST_SPARES: usize = 16;
+
 /// A filter: what it lets be used, its open pairs, those that its last step closed, and those whose connection to the agent behind it
 /// gave back. Dropping it wipes what its pairs sent and are owed.
 #[derive(Drop)]
@@ -31,6 +34,8 @@ pub struct Filter {
     // By their numbers, which rise.
     slots: Vec<Slot>,
     last: u64,
+    // The pairs with a spare connection to the agent behind, the one first whose last event is the longest ago.
+    spares: Vec<u64>,
     closed: Vec<u64>,
     parted: Vec<u64>,
 }
@@ -45,6 +50,7 @@ impl Model for Filter {
       listed = listed_of f.listed;
       pairs = pairs_of f.slots.items;
       last_pair = f.last;
+      spares = f.spares.items;
       closes = f.closed.items;
       parts = f.parted.items;
     } };
@@ -62,6 +68,7 @@ impl Filter {
             listed,
             slots: Vec::new(alloc),
             last: 0,
+            spares: Vec::new(alloc),
             closed: Vec::new(alloc),
             parted: Vec::new(alloc),
         }
@@ -82,6 +89,7 @@ impl Filter {
             FilterEvent::Took { pair, side, count } => {
                 self.is_reached(pair, side) && count > 0 && count <= self.owed(pair, side).len()
             }
+            FilterEvent::Lost { pair } => self.is_reached(pair, Side::Upstream),
             FilterEvent::Ended { pair } => self.is_open(pair),
         }
     }
@@ -91,15 +99,8 @@ impl Filter {
         requires { Fits (happening event.now) self.old }
         ensures { OnOk result (self.new ≡ step self.old (happening event.now)) }
     {
-        self.closed.clear();
-        self.parted.clear();
-        match *event {
-            FilterEvent::Joined => self.join(),
-            FilterEvent::Connected { pair } => self.tell(pair, event),
-            FilterEvent::Heard { pair, .. } => self.tell(pair, event),
-            FilterEvent::Took { pair, .. } => self.tell(pair, event),
-            FilterEvent::Ended { pair } => self.tell(pair, event),
-        }
+        self.happen(event)?;
+        self.trim()
     }
 
     /// What a side of a pair is owed: nothing where the pair isn't open.
@@ -193,12 +194,63 @@ impl Filter {
         count_links(&self.slots) < MOST_LINKS
     }
 
+    // Whether more connections are spare than may be, or no place is left for one that is needed.
+    fn is_crowded(&self) -> bool
+        ensures { result ≡ is_crowded self.now }
+    {
+        self.spares.len() > MOST_SPARES || !self.has_place()
+    }
+
+    // Takes one event, with however many spare connections.
+    fn happen(&mut self, event: &FilterEvent<'_>) -> Result<(), AllocError>
+        requires { Fits (happening event.now) self.old }
+        ensures { OnOk result (self.new ≡ happened self.old (happening event.now)) }
+    {
+        self.closed.clear();
+        self.parted.clear();
+        match *event {
+            FilterEvent::Joined => self.join(),
+            FilterEvent::Connected { pair } => self.tell(pair, event),
+            FilterEvent::Heard { pair, .. } => self.tell(pair, event),
+            FilterEvent::Took { pair, .. } => self.tell(pair, event),
+            FilterEvent::Lost { pair } => self.tell(pair, event),
+            FilterEvent::Ended { pair } => self.tell(pair, event),
+        }
+    }
+
+    // Gives the first spare connection back where there are too many.
+    #[tactic(auto, using(crate::proofs::SlotLemmas::trims_none, crate::proofs::SlotLemmas::trims_one, crate::proofs::SlotLemmas::trims_not))]
+    fn trim(&mut self) -> Result<(), AllocError>
+        ensures { OnOk result (self.new ≡ trimmed self.old) }
+    {
+        match self.spares.first() {
+            Some(oldest) if self.is_crowded() => self.part(*oldest),
+            _ => Ok(()),
+        }
+    }
+
+    // Gives the connection of this pair back.
+    fn part(&mut self, number: u64) -> Result<(), AllocError>
+        ensures { OnOk result (self.new ≡ record self.old {
+          pairs = unlinked_in number self.old.pairs;
+          spares = without number self.old.spares;
+          parts = self.old.parts ++ number ∷ [];
+        }) }
+    {
+        if let Some(place) = place_of(&self.slots, number) {
+            slot::unlink(&mut self.slots[place]);
+        }
+        drop_spare(&mut self.spares, number);
+        self.parted.push(number)?;
+        Ok(())
+    }
+
     // A pair joins. Where too many are open it is closed at once.
     fn join(&mut self) -> Result<(), AllocError>
         requires last { self.old.last_pair < 2 ^ 64 - 1 }
         requires closes { self.old.closes ≡ [] }
         requires parts { self.old.parts ≡ [] }
-        ensures { OnOk result (self.new ≡ step self.old Joined) }
+        ensures { OnOk result (self.new ≡ happened self.old Joined) }
     {
         if self.slots.len() < MOST_PAIRS {
             self.admit()
@@ -246,8 +298,8 @@ impl Filter {
                 let slot = &mut self.slots[place];
                 let was_linked = slot.is_linked;
                 match slot::tell(self.alloc, slot, &self.listed, event)? {
-                    true => note_parted(&mut self.parted, pair, was_linked, slot.is_linked),
-                    false => close(&mut self.slots, &mut self.closed, place),
+                    true => note(&mut self.spares, &mut self.parted, pair, slot, was_linked),
+                    false => close(&mut self.slots, &mut self.spares, &mut self.closed, place),
                 }
             }
             None => Ok(()),
@@ -269,6 +321,39 @@ fn count_links(slots: &[Slot]) -> usize
     count_linked(slots)
 }
 
+// The pair of this number has no spare connection.
+fn drop_spare(spares: &mut Vec<u64>, number: u64)
+    ensures { spares.new.items ≡ without number spares.old.items }
+{
+    spares.retain(|other| number != *other);
+}
+
+// Notes whether the pair of this number has a spare connection, behind all others.
+fn note_spare(spares: &mut Vec<u64>, number: u64, is_spare: bool) -> Result<(), AllocError>
+    ensures { OnOk result (spares.new.items ≡ spares_if is_spare number spares.old.items) }
+{
+    drop_spare(spares, number);
+    if is_spare {
+        spares.push(number)?;
+    }
+    Ok(())
+}
+
+// Notes what became of the connection of this pair.
+fn note(
+    spares: &mut Vec<u64>,
+    noted: &mut Vec<u64>,
+    number: u64,
+    slot: &Slot,
+    was_linked: bool,
+) -> Result<(), AllocError>
+    ensures { OnOk result ((spares.new.items ≡ spares_if (is_spare (pair_of slot.now)) number spares.old.items)
+        × (noted.new.items ≡ noted.old.items ++ parted number was_linked slot.now.is_linked)) }
+{
+    note_spare(spares, number, slot::is_spare(slot))?;
+    note_parted(noted, number, was_linked, slot.is_linked)
+}
+
 // Notes the pair of this number where it gave its connection back.
 fn note_parted(
     noted: &mut Vec<u64>,
@@ -285,13 +370,21 @@ fn note_parted(
 }
 
 // Closes the pair at this place. What it sent and is owed is wiped.
-fn close(slots: &mut Vec<Slot>, closed: &mut Vec<u64>, place: usize) -> Result<(), AllocError>
+fn close(
+    slots: &mut Vec<Slot>,
+    spares: &mut Vec<u64>,
+    closed: &mut Vec<u64>,
+    place: usize,
+) -> Result<(), AllocError>
     requires { place < length slots.old.items }
     ensures slots { slots.new.items ≡ remove slots.old.items place }
+    ensures spares { (slot : Slot) → slice_get slots.old.items place ≡ Some slot
+        → spares.new.items ≡ without slot.number spares.old.items }
     ensures closed { (slot : Slot) → slice_get slots.old.items place ≡ Some slot
         → OnOk result (closed.new.items ≡ closed.old.items ++ slot.number ∷ []) }
 {
     let slot = slots.remove(place);
+    drop_spare(spares, slot.number);
     closed.push(slot.number)?;
     Ok(())
 }

@@ -5,8 +5,8 @@ ghost use Rattle.wire_text.specs.Bounds.{longest_body};
 ghost use Rattle.wire_text.specs.Frames.{Whole, front, front_body};
 ghost use Rattle.agent_msg.specs.ReplyReading.{reply_of};
 ghost use Rattle.filter_model.specs.declared.waits.Waits.TheVariants as waiting;
-ghost use Rattle.filter_model.specs.Pairs.{change_half, half_of, heard_more, is_none, is_quiet, is_through, kept, new_pair, reaches, sent_some, wants_half};
-ghost use Rattle.filter_model.specs.Looking.{and_then, answered, client_looked, fate_of, looked, reply_for, taken_as, upstream_looked, without_front};
+ghost use Rattle.filter_model.specs.Pairs.{change_half, half_of, heard_more, freed, is_none, is_quiet, is_spare, is_through, new_pair, reaches, sent_some, unlinked, wants_half};
+ghost use Rattle.filter_model.specs.Looking.{and_then, answered, client_looked, fate_of, looked, lost, reply_for, taken_as, upstream_looked, without_front};
 ghost use Rattle.filter_model.specs.Filters.{told};
 ghost use Rattle.filter_core.specs.Happenings.{happening};
 ghost use Rattle.filter_core.specs.Slots.{FitsPair, Leaves, is_free, listed_of, numbered_of, owes_reply, pair_of};
@@ -30,6 +30,8 @@ pub struct Slot {
     pub waits: Waits,
     // There is a connection to the agent behind.
     pub is_linked: bool,
+    // Another connection would not do in its place.
+    is_used: bool,
     // A bind was forwarded.
     is_bound: bool,
 }
@@ -44,6 +46,7 @@ pub fn new(alloc: Global, number: u64) -> Slot
         upstream: Buffers::new(alloc),
         waits: Waits::Nothing,
         is_linked: false,
+        is_used: false,
         is_bound: false,
     }
 }
@@ -85,7 +88,10 @@ fn push(slot: &mut Slot, side: Side, piece: &[u8]) -> Result<(), AllocError>
 {
     match side {
         Side::Client => slot.client.hear(piece),
-        Side::Upstream => slot.upstream.hear(piece),
+        Side::Upstream => {
+            slot.is_used = true;
+            slot.upstream.hear(piece)
+        }
     }
 }
 
@@ -97,7 +103,10 @@ fn drop_sent(slot: &mut Slot, side: Side, count: usize)
 {
     match side {
         Side::Client => slot.client.sent(count),
-        Side::Upstream => slot.upstream.sent(count),
+        Side::Upstream => {
+            slot.is_used = true;
+            slot.upstream.sent(count);
+        }
     }
 }
 
@@ -259,23 +268,38 @@ fn is_through(slot: &Slot) -> bool
     is_quiet(slot.waits) && is_none(slot.upstream.heard()) && is_none(slot.upstream.owed())
 }
 
-// Gives the connection to the agent behind back where nothing is under way and no bind was ever forwarded.
-fn give_back(slot: &mut Slot)
-    ensures pair { pair_of slot.new ≡ kept (pair_of slot.old) }
+// The connection to the agent behind is as good as a new one where nothing is under way and no bind was ever forwarded.
+fn free(slot: &mut Slot)
+    ensures pair { pair_of slot.new ≡ freed (pair_of slot.old) }
     ensures number { slot.new.number ≡ slot.old.number }
 {
-    slot.is_linked = slot.is_linked && (slot.is_bound || !is_through(slot));
+    slot.is_used = slot.is_used && (slot.is_bound || !is_through(slot));
 }
 
-// Looks at both sides, and gives a connection back that isn't needed; tells whether the pair stays open.
-#[tactic(auto, using(crate::proofs::LookLemmas::back_leaves))]
+/// Whether there is a connection to the agent behind that the pair could do without.
+pub fn is_spare(slot: &Slot) -> bool
+    ensures { result ≡ is_spare (pair_of slot.now) }
+{
+    slot.is_linked && !slot.is_bound && is_through(slot)
+}
+
+/// Takes the connection to the agent behind from the pair.
+pub fn unlink(slot: &mut Slot)
+    ensures pair { pair_of slot.new ≡ unlinked (pair_of slot.old) }
+    ensures number { slot.new.number ≡ slot.old.number }
+{
+    slot.is_linked = false;
+}
+
+// Looks at both sides, and frees a connection on which nothing is under way; tells whether the pair stays open.
+#[tactic(auto, using(crate::proofs::LookLemmas::freed_leaves))]
 fn look(alloc: Global, slot: &mut Slot, listed: &Listed) -> Result<bool, AllocError>
     ensures looked { IfOk result (λ stays. Leaves stays (pair_of slot.new)
         (looked (listed_of listed.now) (pair_of slot.old))) }
     ensures number { slot.new.number ≡ slot.old.number }
 {
     let stays = look_at_both(alloc, slot, listed)?;
-    give_back(slot);
+    free(slot);
     Ok(stays)
 }
 
@@ -286,6 +310,19 @@ fn link(slot: &mut Slot) -> bool
     ensures stays { result ≡ true }
 {
     slot.is_linked = true;
+    true
+}
+
+// The connection to the agent behind has ended; tells whether the pair stays open, as it does where that wasn't used.
+#[tactic(auto, using(crate::proofs::LookLemmas::lost_used, crate::proofs::LookLemmas::lost_unused))]
+fn lose(slot: &mut Slot) -> bool
+    ensures looked { Leaves result (pair_of slot.new) (lost (pair_of slot.old)) }
+    ensures number { slot.new.number ≡ slot.old.number }
+{
+    if slot.is_used {
+        return false;
+    }
+    unlink(slot);
     true
 }
 
@@ -339,6 +376,7 @@ pub fn tell(
         FilterEvent::Connected { .. } => Ok(link(slot)),
         FilterEvent::Heard { side, piece, .. } => hear(alloc, slot, listed, side, piece),
         FilterEvent::Took { side, count, .. } => sent(alloc, slot, listed, side, count),
+        FilterEvent::Lost { .. } => Ok(lose(slot)),
         FilterEvent::Ended { .. } => Ok(false),
     }
 }

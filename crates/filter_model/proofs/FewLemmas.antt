@@ -1,9 +1,10 @@
--- There are few connections to the agent behind, and each is needed.
-use Rattle.std.proofs.Common.{◌≡◌, ◌∙◌, ◌==◌, ◌&&◌, ◌||◌, ◌+◌, ◌≤◌, if◌then◌else◌, ℕ, suc, Bool, true, false, not, List, [], ◌∷◌, ◌++◌, length, All, Option, Some, None, refl, sym, ap, cond, arith, nat_lt}
+-- There are few connections to the agent behind, and each is needed or one of the spare ones.
+use Rattle.std.proofs.Common.{◌≡◌, ◌∙◌, ◌==◌, ◌&&◌, ◌||◌, ◌+◌, ◌≤◌, if◌then◌else◌, ℕ, suc, Bool, true, false, not, List, [], ◌∷◌, ◌++◌, length, Option, Some, None, refl, sym, ap, subst, cond, arith, nat_lt}
 use Rattle.std.specs.List.{filter}
 use Rattle.std.specs.Prelude.{IsTrue}
-use Rattle.std.proofs.lemmas.Bool.Decides.{Decides-ltb}
-use Rattle.std.proofs.lemmas.List.Elements.{All-cons, All-head, All-nil, All-push, All-tail}
+use Rattle.std.specs.Option.{IfSome}
+use Rattle.std.proofs.lemmas.Bool.{eqb-true}
+use Rattle.std.proofs.lemmas.Bool.Decides.{Decides-ltb, nat_tests}
 use Rattle.std.proofs.lemmas.Option.{none-some, same_Some}
 use Rattle.wire_text.specs.Bounds.{longest_body}
 use Rattle.wire_text.specs.Frames.{Front, Whole, Bad, More, after_front, front, front_body}
@@ -12,11 +13,12 @@ use Rattle.pair_ports.specs.declared.side.Side.TheVariants.{Client, Upstream}
 use Rattle.filter_model.specs.declared.waits.Waits.{Waits}
 use Rattle.filter_model.specs.declared.waits.Waits.TheVariants.{Nothing, OnList, OnBind, OnReply}
 use Rattle.filter_model.specs.Lists.{Listed}
-use Rattle.filter_model.specs.Pairs.{Pair, change_half, heard_more, is_none, is_quiet, is_some_bytes, is_through, kept, new_pair, sent_some}
-use Rattle.filter_model.specs.Filters.{AllFit, Connected, Ended, Fits, Happening, Heard, Joined, Numbered, State, Took, at_pair, find_pair, first_state, has_place, joined, links, most_links, most_pairs, put_pair, reached_by, remove_pair, run, sends_by, settled, step, told}
-use Rattle.filter_model.specs.Looking.{and_then, and_then_if, answered, client_front, client_looked, client_owed, client_waits, fate_of, looked, nothing_left, reply_for, taken_as, upstream_front, upstream_looked, upstream_waits}
-use Rattle.filter_model.specs.Places.{AreFew, EachHoldsFew, IsNeeded}
+use Rattle.filter_model.specs.Pairs.{Pair, change_half, heard_more, is_none, is_quiet, is_some_bytes, is_spare, is_through, new_pair, sent_some, unlinked}
+use Rattle.filter_model.specs.Filters.{AllFit, Connected, Ended, Fits, Happening, Heard, Joined, Lost, Numbered, State, Took, at_pair, find_pair, first_state, happened, has_number, has_place, is_crowded, joined, links, most_links, most_pairs, most_spares, put_pair, reached_by, remove_pair, run, sends_by, settled, spares_if, step, told, trimmed_by, unlinked_by, unlinked_in, without}
+use Rattle.filter_model.specs.Looking.{and_then_if, answered, client_front, client_looked, client_owed, client_waits, fate_of, looked, lost, lost_if, nothing_left, reply_for, taken_as, upstream_front, upstream_looked, upstream_waits}
+use Rattle.filter_model.specs.Places.{AreFew, EachHoldsFew, IsIdle, IsIdleAt, IsNeeded}
 use Rattle.filter_model.proofs.FairLemmas.{two}
+use Rattle.filter_model.proofs.NumberLemmas.{found-append, found-more, found-new, found-put, found-unlinked, gone-remove, gone-without, kept-put, kept-remove, kept-unlinked, kept-without, length-spares, length-tail, length-without, same-number, spares-other, spares-own}
 
 -- ---- how many there are
 
@@ -67,53 +69,7 @@ links-remove : (number : ℕ) (pairs : List Numbered) → links (remove_pair num
 links-remove number [] = omega arith
 links-remove number (one ∷ others) = remove-by (number == one.number) number one others (links-remove number others)
 
--- ---- each is needed
-
-abbrev AreNeeded : List Numbered → Type 0
-AreNeeded pairs = All (λ one. IsNeeded one.pair) pairs
-
-needed-put-by : (test : Bool) (number : ℕ) (after : Pair) (one : Numbered) (others : List Numbered) → IsNeeded after → IsNeeded one.pair → AreNeeded others
-    → AreNeeded (put_pair number after others) → AreNeeded (if test then record { number = number; pair = after } ∷ others else one ∷ put_pair number after others)
-needed-put-by true number after one others new first rest put =
-    All-cons (λ (each : Numbered). IsNeeded each.pair) (record { number = number; pair = after }) others new rest
-needed-put-by false number after one others new first rest put =
-    All-cons (λ (each : Numbered). IsNeeded each.pair) one (put_pair number after others) first put
-
-needed-put : (number : ℕ) (after : Pair) (pairs : List Numbered) → IsNeeded after → AreNeeded pairs → AreNeeded (put_pair number after pairs)
-needed-put number after [] new all = all
-needed-put number after (one ∷ others) new all =
-    let first = All-head (λ (each : Numbered). IsNeeded each.pair) one others all in
-    let rest = All-tail (λ (each : Numbered). IsNeeded each.pair) one others all in
-    needed-put-by (number == one.number) number after one others new first rest (needed-put number after others new rest)
-
-needed-remove-by : (test : Bool) (number : ℕ) (one : Numbered) (others : List Numbered) → IsNeeded one.pair → AreNeeded (remove_pair number others)
-    → AreNeeded (if test then remove_pair number others else one ∷ remove_pair number others)
-needed-remove-by true number one others first rest = rest
-needed-remove-by false number one others first rest =
-    All-cons (λ (each : Numbered). IsNeeded each.pair) one (remove_pair number others) first rest
-
-needed-remove : (number : ℕ) (pairs : List Numbered) → AreNeeded pairs → AreNeeded (remove_pair number pairs)
-needed-remove number [] all = all
-needed-remove number (one ∷ others) all =
-    needed-remove-by (number == one.number) number one others (All-head (λ (each : Numbered). IsNeeded each.pair) one others all)
-    (needed-remove number others (All-tail (λ (each : Numbered). IsNeeded each.pair) one others all))
-
 -- ---- a look
-
-through-is : (waits : Waits) (heard owed : List ℕ) → waits ≡ Nothing → heard ≡ [] → owed ≡ [] → (is_quiet waits && (is_none heard && is_none owed)) ≡ true
-through-is waits heard owed quiet unheard empty =
-    ap (λ (w : Waits). is_quiet w && (is_none heard && is_none owed)) quiet
-    ∙ ap (λ (h : List ℕ). is_none h && is_none owed) unheard ∙ ap is_none empty
-
-bound-is : (linked bound through : Bool) → through ≡ true → (linked && (bound || not through)) ≡ true → bound ≡ true
-bound-is linked true through is holds = refl
-bound-is true false true is holds = cc
-bound-is true false false is holds = cc
-bound-is false false through is holds = cc
-
-kept-needed : (pair : Pair) → IsNeeded (kept pair)
-kept-needed pair quiet unheard empty linked =
-    bound-is pair.is_linked pair.is_bound (is_through pair) (through-is pair.waits pair.upstream.heard pair.upstream.owed quiet unheard empty) linked
 
 abbrev Same : Pair → Pair → Type 0
 Same after pair = after.is_linked ≡ pair.is_linked
@@ -165,39 +121,11 @@ then-same : (listed : Listed) (test : Bool) (pair : Pair) → Same (and_then_if 
 then-same listed true pair = upstream-same listed pair pair.waits
 then-same listed false pair = refl
 
-first-of : (here there : Bool) → (here && there) ≡ true → here ≡ true
-first-of here there is = (two here there is).0
-
--- no look makes a connection
-looked-linked : (listed : Listed) (pair : Pair) → (looked listed pair).pair.is_linked ≡ true → pair.is_linked ≡ true
-looked-linked listed pair linked =
+-- no look makes a connection, and none takes one
+looked-same : (listed : Listed) (pair : Pair) → Same (looked listed pair).pair pair
+looked-same listed pair =
     let first = client_looked listed pair in
-    let after = (and_then first (upstream_looked listed)).pair in
-    sym (then-same listed first.is_open first.pair ∙ client-same listed pair pair.waits)
-    ∙ first-of after.is_linked _ linked
-
--- ---- an event
-
--- what an event may leave of an open pair
-record Leaves (pairs : List Numbered) (number : ℕ) (after : Pair) : Type 0 where
-  few : links (put_pair number after pairs) ≤ most_links
-  needed : IsNeeded after
-
-no-more : (was after : Bool) → (after ≡ true → was ≡ true) → one_if after ≤ one_if was
-no-more true true only = omega arith
-no-more true false only = omega arith
-no-more false true only = let bad : false ≡ true = only refl in cc
-no-more false false only = omega arith
-
-looked-leaves : (listed : Listed) (pairs : List Numbered) (number : ℕ) (was pair : Pair) → find_pair number pairs ≡ Some was → pair.is_linked ≡ was.is_linked → links pairs ≤ most_links
-    → Leaves pairs number (looked listed pair).pair
-looked-leaves listed pairs number was pair found same few =
-    let after = (looked listed pair).pair in
-    let less = no-more was.is_linked after.is_linked (λ linked. sym same ∙ looked-linked listed pair linked) in
-    record {
-      few = omega (arith, links-put number was after pairs found, less, few);
-      needed = kept-needed (and_then (client_looked listed pair) (upstream_looked listed)).pair;
-    }
+    then-same listed first.is_open first.pair ∙ client-same listed pair pair.waits
 
 heard-same : (side : Side) (piece : List ℕ) (pair : Pair) → Same (change_half side (heard_more piece) pair) pair
 heard-same Client piece pair = refl
@@ -207,6 +135,10 @@ sent-same : (side : Side) (count : ℕ) (pair : Pair) → Same (change_half side
 sent-same Client count pair = refl
 sent-same Upstream count pair = refl
 
+lost-same : (used : Bool) (pair : Pair) → (lost_if used pair).is_open ≡ true → (lost_if used pair).pair.is_linked ≡ false
+lost-same true pair open_yet = cc
+lost-same false pair open_yet = refl
+
 not-is : (b : Bool) → IsTrue (not b) → b ≡ false
 not-is true is = cc
 not-is false is = refl
@@ -215,70 +147,340 @@ at-most-one : (b : Bool) → one_if b ≤ 1
 at-most-one true = omega arith
 at-most-one false = omega arith
 
+-- ---- an event
+
+-- one that leaves as many connections
+as-many : (pairs : List Numbered) (number : ℕ) (was after : Pair) → find_pair number pairs ≡ Some was → Same after was → links pairs ≤ most_links
+    → links (put_pair number after pairs) ≤ most_links
+as-many pairs number was after found same few =
+    let equal = ap one_if same in
+    omega (arith, links-put number was after pairs found, equal, few)
+
+-- one that leaves the pair without a connection
+no-more : (pairs : List Numbered) (number : ℕ) (was after : Pair) → find_pair number pairs ≡ Some was → after.is_linked ≡ false → links pairs ≤ most_links
+    → links (put_pair number after pairs) ≤ most_links
+no-more pairs number was after found apart few =
+    let none = ap one_if apart in
+    omega (arith, links-put number was after pairs found, none, few)
+
 -- a connection is made
-linked-leaves : (state : State) (number : ℕ) (was : Pair) → find_pair number state.pairs ≡ Some was → Fits (Connected number) state
-    → Leaves state.pairs number (record was { is_linked = true })
-linked-leaves state number was found fits =
+one-more : (state : State) (number : ℕ) (was : Pair) → find_pair number state.pairs ≡ Some was → Fits (Connected number) state
+    → links (put_pair number (record was { is_linked = true }) state.pairs) ≤ most_links
+one-more state number was found fits =
     let sends : sends_by (Some was) Upstream (has_place state) ≡ true = ap (λ (f : Option Pair). sends_by f Upstream (has_place state)) (sym found) ∙ fits.0 in
     let apart : was.is_linked ≡ false = ap (λ (f : Option Pair). reached_by f Upstream) (sym found) ∙ not-is _ fits.1 in
     let both = two (is_some_bytes was.upstream.owed) (was.is_linked || has_place state) sends in
     let place : has_place state ≡ true = ap (λ (b : Bool). b || has_place state) (sym apart) ∙ both.1 in
     let below = (Decides-ltb (links state.pairs) most_links).0 place in
-    let after : Pair = record was { is_linked = true } in
+    omega (arith, links-put number was (record was { is_linked = true }) state.pairs found, below)
+
+-- what an event leaves of an open pair, in links
+abbrev KeepsFew : State → ℕ → Happening → Type 0
+KeepsFew state number event = (was : Pair) → find_pair number state.pairs ≡ Some was → (told event state.listed was).is_open ≡ true
+    → links (put_pair number (told event state.listed was).pair state.pairs) ≤ most_links
+
+-- ---- what holds before spare ones are given back: one more may be spare
+
+record AreNearlyFew (state : State) : Type 0 where
+  within : links state.pairs ≤ most_links
+  few : length state.spares ≤ 17
+  needed : (number : ℕ) → IfSome (find_pair number state.pairs) (IsNeeded number state.spares)
+  idle : (number : ℕ) → has_number number state.spares ≡ true → IsIdleAt (find_pair number state.pairs)
+
+-- a fact of a pair and its number, and whether it is spare
+abbrev Needed : ℕ → Bool → Pair → Type 0
+Needed number spare pair = pair.waits ≡ Nothing → pair.upstream.heard ≡ [] → pair.upstream.owed ≡ [] → pair.is_linked ≡ true → (pair.is_bound || spare) ≡ true
+
+through-is : (waits : Waits) (heard owed : List ℕ) → waits ≡ Nothing → heard ≡ [] → owed ≡ [] → (is_quiet waits && (is_none heard && is_none owed)) ≡ true
+through-is waits heard owed quiet unheard empty =
+    ap (λ (w : Waits). is_quiet w && (is_none heard && is_none owed)) quiet
+    ∙ ap (λ (h : List ℕ). is_none h && is_none owed) unheard ∙ ap is_none empty
+
+or-spare : (linked bound through : Bool) → through ≡ true → linked ≡ true → (bound || (linked && (not bound && through))) ≡ true
+or-spare linked true through is there = refl
+or-spare true false true is there = refl
+or-spare true false false is there = cc
+or-spare false false through is there = cc
+
+-- a pair's own event tells whether it is spare
+own-needed : (number : ℕ) (pair : Pair) → Needed number (is_spare pair) pair
+own-needed number pair quiet unheard empty linked =
+    or-spare pair.is_linked pair.is_bound (is_through pair) (through-is pair.waits pair.upstream.heard pair.upstream.owed quiet unheard empty) linked
+
+none-is : (bytes : List ℕ) → is_none bytes ≡ true → bytes ≡ []
+none-is [] is = refl
+none-is (byte ∷ bytes) is = cc
+
+quiet-is : (waits : Waits) → is_quiet waits ≡ true → waits ≡ Nothing
+quiet-is Nothing is = refl
+quiet-is OnList is = cc
+quiet-is OnBind is = cc
+quiet-is OnReply is = cc
+
+own-idle : (pair : Pair) → is_spare pair ≡ true → IsIdle pair
+own-idle pair is =
+    let here = two pair.is_linked (not pair.is_bound && is_through pair) is in
+    let rest = two (not pair.is_bound) (is_through pair) here.1 in
+    let through = two (is_quiet pair.waits) (is_none pair.upstream.heard && is_none pair.upstream.owed) rest.1 in
+    let bytes = two (is_none pair.upstream.heard) (is_none pair.upstream.owed) through.1 in
     record {
-      few = omega (arith, links-put number was after state.pairs found, below);
-      needed = λ quiet unheard empty linked.
-          let none : is_some_bytes [] ≡ true = ap is_some_bytes (sym empty) ∙ both.0 in
-          cc;
+      linked = here.0;
+      unbound = not-is pair.is_bound rest.0;
+      quiet = quiet-is pair.waits through.0;
+      unheard = none-is pair.upstream.heard bytes.0;
+      empty = none-is pair.upstream.owed bytes.1;
     }
 
--- the pair was left so, or is closed
-settled-few : (open_yet : Bool) (number : ℕ) (was after : Pair) (state : State) → AreFew state → (open_yet ≡ true → Leaves state.pairs number after)
-    → AreFew (settled open_yet number was after state)
-settled-few true number was after state few leaves = record {
-  within = (leaves refl).few;
-  needed = needed-put number after state.pairs (leaves refl).needed few.needed;
-}
-settled-few false number was after state few leaves = record {
-  within = omega (arith, links-remove number state.pairs, few.within);
-  needed = needed-remove number state.pairs few.needed;
-}
+-- a pair is found, and what is known of it
+needed-found : (number : ℕ) (pair : Pair) (pairs : List Numbered) (spares : List ℕ) (spare : Bool) → find_pair number pairs ≡ Some pair → has_number number spares ≡ spare → Needed number spare pair
+    → IfSome (find_pair number pairs) (IsNeeded number spares)
+needed-found number pair pairs spares spare found has needed =
+    subst (λ (f : Option Pair). IfSome f (IsNeeded number spares)) (sym found)
+    (subst (λ (b : Bool). Needed number b pair) (sym has) needed)
+
+-- another pair is found as before, and is as spare
+needed-kept : (number : ℕ) (pairs after : List Numbered) (spares left : List ℕ) → find_pair number after ≡ find_pair number pairs → has_number number left ≡ has_number number spares
+    → IfSome (find_pair number pairs) (IsNeeded number spares) → IfSome (find_pair number after) (IsNeeded number left)
+needed-kept number pairs after spares left found has needed =
+    subst (λ (f : Option Pair). IfSome f (IsNeeded number left)) (sym found)
+    (subst (λ (b : Bool). IfSome (find_pair number pairs) (Needed number b)) (sym has) needed)
+
+idle-kept : (number : ℕ) (pairs after : List Numbered) (spares left : List ℕ) → find_pair number after ≡ find_pair number pairs → has_number number left ≡ has_number number spares
+    → (has_number number spares ≡ true → IsIdleAt (find_pair number pairs)) → has_number number left ≡ true → IsIdleAt (find_pair number after)
+idle-kept number pairs after spares left found has idle is = subst IsIdleAt (sym found) (idle (sym has ∙ is))
+
+-- ---- the pair of this number was left so, or is closed
+
+module _ (number : ℕ) (was after : Pair) (state : State) (few : AreFew state) (found : find_pair number state.pairs ≡ Some was) where
+  abbrev left : List ℕ
+  left = spares_if (is_spare after) number state.spares
+
+  put-needed : (other : ℕ) (same : Bool) → (other == number) ≡ same → IfSome (find_pair other (put_pair number after state.pairs)) (IsNeeded other left)
+  put-needed other true is =
+      let here : other ≡ number = eqb-true other number is in
+      subst (λ (n : ℕ). IfSome (find_pair n (put_pair number after state.pairs)) (IsNeeded n left)) (sym here)
+      (needed-found number after (put_pair number after state.pairs) left (is_spare after) (found-put number after was state.pairs found)
+      (spares-own (is_spare after) number state.spares) (own-needed number after))
+  put-needed other false is =
+      needed-kept other state.pairs (put_pair number after state.pairs) state.spares left (kept-put other number after state.pairs is)
+      (spares-other (is_spare after) other number state.spares is) (few.needed other)
+
+  put-idle : (other : ℕ) (same : Bool) → (other == number) ≡ same → has_number other left ≡ true → IsIdleAt (find_pair other (put_pair number after state.pairs))
+  put-idle other true is has =
+      let here : other ≡ number = eqb-true other number is in
+      let spare : is_spare after ≡ true = sym (spares-own (is_spare after) number state.spares) ∙ ap (λ (n : ℕ). has_number n left) (sym here) ∙ has in
+      subst (λ (n : ℕ). IsIdleAt (find_pair n (put_pair number after state.pairs))) (sym here)
+      (subst IsIdleAt (sym (found-put number after was state.pairs found)) (own-idle after spare))
+  put-idle other false is has =
+      idle-kept other state.pairs (put_pair number after state.pairs) state.spares left (kept-put other number after state.pairs is)
+      (spares-other (is_spare after) other number state.spares is) (few.idle other) has
+
+  gone-needed : (other : ℕ) (same : Bool) → (other == number) ≡ same → IfSome (find_pair other (remove_pair number state.pairs)) (IsNeeded other (without number state.spares))
+  gone-needed other true is =
+      let here : other ≡ number = eqb-true other number is in
+      subst (λ (n : ℕ). IfSome (find_pair n (remove_pair number state.pairs)) (IsNeeded n (without number state.spares))) (sym here)
+      (subst (λ (f : Option Pair). IfSome f (IsNeeded number (without number state.spares))) (sym (gone-remove number state.pairs)) tt)
+  gone-needed other false is =
+      needed-kept other state.pairs (remove_pair number state.pairs) state.spares (without number state.spares) (kept-remove other number state.pairs is)
+      (kept-without other number state.spares is) (few.needed other)
+
+  gone-idle : (other : ℕ) (same : Bool) → (other == number) ≡ same → has_number other (without number state.spares) ≡ true → IsIdleAt (find_pair other (remove_pair number state.pairs))
+  gone-idle other true is has =
+      let here : other ≡ number = eqb-true other number is in
+      let none = gone-without number state.spares in
+      let there = ap (λ (n : ℕ). has_number n (without number state.spares)) here in
+      cc
+  gone-idle other false is has =
+      idle-kept other state.pairs (remove_pair number state.pairs) state.spares (without number state.spares) (kept-remove other number state.pairs is)
+      (kept-without other number state.spares is) (few.idle other) has
+
+  settled-few : (open_yet : Bool) → (open_yet ≡ true → links (put_pair number after state.pairs) ≤ most_links) → AreNearlyFew (settled open_yet number was after state)
+  settled-few true within = record {
+    within = within refl;
+    few = let more = length-spares (is_spare after) number state.spares in let some = few.few in omega (arith, more, some);
+    needed = λ other. put-needed other (other == number) refl;
+    idle = λ other. put-idle other (other == number) refl;
+  }
+  settled-few false within = record {
+    within = omega (arith, links-remove number state.pairs, few.within);
+    few = let less = length-without number state.spares in let some = few.few in omega (arith, less, some);
+    needed = λ other. gone-needed other (other == number) refl;
+    idle = λ other. gone-idle other (other == number) refl;
+  }
+
+nearly : (state : State) → AreFew state → AreNearlyFew (record state { closes = []; parts = [] })
+nearly state few = record { within = few.within; few = (let some = few.few in omega (arith, some)); needed = few.needed; idle = few.idle }
 
 -- an event of the pair of this number
-at-few : (state : State) (number : ℕ) (event : Happening) → AreFew state
-    → ((was : Pair) → find_pair number state.pairs ≡ Some was → (told event state.listed was).is_open ≡ true → Leaves state.pairs number (told event state.listed was).pair)
-    → (found : Option Pair) → find_pair number state.pairs ≡ found → AreFew (at_pair found number event state)
-at-few state number event few leaves None found = record { within = few.within; needed = few.needed }
-at-few state number event few leaves (Some was) found =
-    settled-few (told event state.listed was).is_open number was (told event state.listed was).pair state few (leaves was found)
+at-few : (state : State) (number : ℕ) (event : Happening) → AreFew state → KeepsFew state number event
+    → (found : Option Pair) → find_pair number state.pairs ≡ found → AreNearlyFew (at_pair found number event state)
+at-few state number event few keeps None found = nearly state few
+at-few state number event few keeps (Some was) found =
+    settled-few number was (told event state.listed was).pair state few found (told event state.listed was).is_open (keeps was found)
 
-joined-few : (room : Bool) (state : State) → AreFew state → AreFew (joined room state)
+-- ---- a pair joins
+
+joined-needed : (number : ℕ) (state : State) (new : Numbered) (found : Option Pair) → find_pair number state.pairs ≡ found → new.pair.is_linked ≡ false → IfSome found (IsNeeded number state.spares)
+    → (other : Option Pair) → find_pair number (state.pairs ++ new ∷ []) ≡ other → IfSome other (IsNeeded number state.spares)
+joined-needed number state new found is apart needed None there = tt
+joined-needed number state new (Some pair) is apart needed (Some other) there =
+    let same : pair ≡ other = same_Some pair other (sym (found-more number pair state.pairs new is) ∙ there) in
+    subst (IsNeeded number state.spares) same needed
+joined-needed number state new None is apart needed (Some other) there = by_number (number == new.number) refl
+  where
+    by_number : (same : Bool) → (number == new.number) ≡ same → IsNeeded number state.spares other
+    by_number true here =
+        let new_found = found-new number state.pairs new (eqb-true number new.number here) is in
+        let same : new.pair ≡ other = same_Some new.pair other (sym new_found ∙ there) in
+        λ quiet unheard empty linked. let bad : true ≡ false = sym linked ∙ ap (λ (p : Pair). p.is_linked) (sym same) ∙ apart in cc
+    by_number false here = absurd (none-some other (sym (found-append number state.pairs new here ∙ is) ∙ there))
+
+joined-idle : (number : ℕ) (state : State) (new : Numbered) (found : Option Pair) → find_pair number state.pairs ≡ found → IsIdleAt found → IsIdleAt (find_pair number (state.pairs ++ new ∷ []))
+joined-idle number state new None is idle = absurd idle
+joined-idle number state new (Some pair) is idle = subst IsIdleAt (sym (found-more number pair state.pairs new is)) idle
+
+joined-few : (room : Bool) (state : State) → AreFew state → AreNearlyFew (joined room state)
 joined-few true state few =
     let new : Numbered = record { number = suc state.last_pair; pair = new_pair } in
     record {
       within = omega (arith, links-append state.pairs new, few.within);
-      needed = All-push (λ (one : Numbered). IsNeeded one.pair) state.pairs new few.needed (λ quiet unheard empty linked. cc);
+      few = let some = few.few in omega (arith, some);
+      needed = λ number. joined-needed number state new (find_pair number state.pairs) refl refl (few.needed number) (find_pair number (state.pairs ++ new ∷ [])) refl;
+      idle = λ number has. joined-idle number state new (find_pair number state.pairs) refl (few.idle number has);
     }
-joined-few false state few = record { within = few.within; needed = few.needed }
+joined-few false state few = record { within = few.within; few = (let some = few.few in omega (arith, some)); needed = few.needed; idle = few.idle }
+
+happened-few : (state : State) (event : Happening) → Fits event state → AreFew state → AreNearlyFew (happened state event)
+happened-few state Joined fits few = joined-few (nat_lt (length state.pairs) most_pairs) state few
+happened-few state (Connected number) fits few =
+    at-few state number (Connected number) few (λ was found open_yet. one-more state number was found fits) (find_pair number state.pairs) refl
+happened-few state (Heard number side piece) fits few =
+    at-few state number (Heard number side piece) few (λ was found open_yet.
+    as-many state.pairs number was (looked state.listed (change_half side (heard_more piece) was)).pair found
+    (looked-same state.listed (change_half side (heard_more piece) was) ∙ heard-same side piece was) few.within)
+    (find_pair number state.pairs) refl
+happened-few state (Took number side count) fits few =
+    at-few state number (Took number side count) few (λ was found open_yet.
+    as-many state.pairs number was (looked state.listed (change_half side (sent_some count) was)).pair found
+    (looked-same state.listed (change_half side (sent_some count) was) ∙ sent-same side count was) few.within)
+    (find_pair number state.pairs) refl
+happened-few state (Lost number) fits few =
+    at-few state number (Lost number) few (λ was found open_yet.
+    no-more state.pairs number was (lost was).pair found (lost-same was.is_used was open_yet) few.within)
+    (find_pair number state.pairs) refl
+happened-few state (Ended number) fits few =
+    at-few state number (Ended number) few (λ was found open_yet. cc) (find_pair number state.pairs) refl
+
+-- ---- too many are spare
+
+crowded-not : (many place : Bool) → (many || not place) ≡ false → (many ≡ false) × (place ≡ true)
+crowded-not true place is = cc
+crowded-not false true is = (refl, refl)
+crowded-not false false is = cc
+
+idle-linked : (found : Option Pair) → IsIdleAt found → (pair : Pair) × (found ≡ Some pair) × (pair.is_linked ≡ true)
+idle-linked None idle = absurd idle
+idle-linked (Some pair) idle = (pair, refl, idle.linked)
+
+-- the first is given back
+module _ (state : State) (oldest : ℕ) (later : List ℕ) (spares : state.spares ≡ oldest ∷ later) (few : AreNearlyFew state) where
+  abbrev gone : List Numbered
+  gone = unlinked_in oldest state.pairs
+
+  abbrev rest : List ℕ
+  rest = without oldest state.spares
+
+  oldest-has : has_number oldest state.spares ≡ true
+  oldest-has = ap (has_number oldest) spares ∙ ap (λ (b : Bool). b || has_number oldest later) (same-number oldest)
+
+  one-less : suc (links gone) ≤ links state.pairs
+  one-less =
+      let is = idle-linked (find_pair oldest state.pairs) (few.idle oldest oldest-has) in
+      let pair : Pair = is.0 in
+      let put : gone ≡ put_pair oldest (unlinked pair) state.pairs = ap (λ (f : Option Pair). unlinked_by f oldest state.pairs) is.1 in
+      let count = links-put oldest pair (unlinked pair) state.pairs is.1 in
+      let was = ap one_if is.2 in
+      let same = ap links put in
+      omega (arith, count, was, same)
+
+  rest-few : length rest ≤ most_spares
+  rest-few =
+      let less = length-tail oldest later in
+      let same = ap (λ (l : List ℕ). length (without oldest l)) spares in
+      let whole = ap length spares in
+      let some = few.few in
+      omega (arith, less, same, whole, some)
+
+  rest-needed : (other : ℕ) (same : Bool) → (other == oldest) ≡ same → IfSome (find_pair other gone) (IsNeeded other rest)
+  rest-needed other true is =
+      let here : other ≡ oldest = eqb-true other oldest is in
+      let found = idle-linked (find_pair oldest state.pairs) (few.idle oldest oldest-has) in
+      subst (λ (n : ℕ). IfSome (find_pair n gone) (IsNeeded n rest)) (sym here)
+      (subst (λ (f : Option Pair). IfSome f (IsNeeded oldest rest)) (sym (found-unlinked oldest found.0 state.pairs found.1))
+      (λ quiet unheard empty linked. cc))
+  rest-needed other false is =
+      needed-kept other state.pairs gone state.spares rest (kept-unlinked other oldest state.pairs is) (kept-without other oldest state.spares is) (few.needed other)
+
+  rest-idle : (other : ℕ) (same : Bool) → (other == oldest) ≡ same → has_number other rest ≡ true → IsIdleAt (find_pair other gone)
+  rest-idle other true is has =
+      let here : other ≡ oldest = eqb-true other oldest is in
+      let none = gone-without oldest state.spares in
+      let there = ap (λ (n : ℕ). has_number n rest) here in
+      cc
+  rest-idle other false is has =
+      idle-kept other state.pairs gone state.spares rest (kept-unlinked other oldest state.pairs is) (kept-without other oldest state.spares is) (few.idle other) has
+
+  full-not : {A : Type 0} → nat_lt (links gone) most_links ≡ false → A
+  full-not full =
+      let place = (Decides-ltb (links gone) most_links).1 (let less = one-less in let within = few.within in omega (arith, less, within)) in
+      let bad : true ≡ false = sym place ∙ full in
+      cc
+
+  given-back-few : AreFew (trimmed_by true (oldest ∷ later) state)
+  given-back-few = record {
+    within = let less = one-less in let within = few.within in omega (arith, less, within);
+    few = rest-few;
+    free = λ full. full-not full;
+    needed = λ other. rest-needed other (other == oldest) refl;
+    idle = λ other. rest-idle other (other == oldest) refl;
+  }
+
+trimmed-few : (test : Bool) (spares : List ℕ) (state : State) → is_crowded state ≡ test → state.spares ≡ spares → AreNearlyFew state → AreFew (trimmed_by test spares state)
+trimmed-few true [] state crowded is few = record {
+  within = few.within;
+  few = let none = ap length is in omega (arith, none);
+  free = λ full. is;
+  needed = few.needed;
+  idle = few.idle;
+}
+trimmed-few true (oldest ∷ later) state crowded is few = given-back-few state oldest later is few
+trimmed-few false spares state crowded is few =
+    let parts = crowded-not (nat_lt most_spares (length state.spares)) (has_place state) crowded in
+    record {
+      within = few.within;
+      few = not-more (length state.spares) parts.0;
+      free = λ full. (let bad : true ≡ false = sym parts.1 ∙ full in cc);
+      needed = few.needed;
+      idle = few.idle;
+    }
+  where
+    not-more : (count : ℕ) → nat_lt most_spares count ≡ false → count ≤ most_spares
+    not-more count is = grind (arith, nat_tests)
 
 step-few : (state : State) (event : Happening) → Fits event state → AreFew state → AreFew (step state event)
-step-few state Joined fits few = joined-few (nat_lt (length state.pairs) most_pairs) state few
-step-few state (Connected number) fits few =
-    at-few state number (Connected number) few (λ was found open_yet. linked-leaves state number was found fits) (find_pair number state.pairs) refl
-step-few state (Heard number side piece) fits few =
-    at-few state number (Heard number side piece) few (λ was found open_yet.
-    looked-leaves state.listed state.pairs number was (change_half side (heard_more piece) was) found (heard-same side piece was) few.within)
-    (find_pair number state.pairs) refl
-step-few state (Took number side count) fits few =
-    at-few state number (Took number side count) few (λ was found open_yet.
-    looked-leaves state.listed state.pairs number was (change_half side (sent_some count) was) found (sent-same side count was) few.within)
-    (find_pair number state.pairs) refl
-step-few state (Ended number) fits few =
-    at-few state number (Ended number) few (λ was found open_yet. cc) (find_pair number state.pairs) refl
+step-few state event fits few =
+    let after = happened state event in
+    trimmed-few (is_crowded after) after.spares after refl refl (happened-few state event fits few)
 
 run-few : (state : State) (events : List Happening) → AllFit state events → AreFew state → AreFew (run state events)
 run-few state [] fit few = few
 run-few state (event ∷ later) fit few = run-few (step state event) later fit.1 (step-few state event fit.0 few)
 
 pub each_holds_few : EachHoldsFew
-each_holds_few listed events fit = run-few (first_state listed) events fit (record { within = omega arith; needed = All-nil _ })
+each_holds_few listed events fit = run-few (first_state listed) events fit (record {
+  within = omega arith;
+  few = omega arith;
+  free = λ full. refl;
+  needed = λ number. tt;
+  idle = λ number has. cc;
+})

@@ -24,8 +24,8 @@ use Rattle.key_purposes.specs.declared.purpose.Purpose.{Purpose}
 use Rattle.filter_model.specs.declared.waits.Waits.TheVariants.{Nothing, OnList, OnBind, OnReply}
 use Rattle.filter_model.specs.declared.waits.Waits.{Waits}
 use Rattle.filter_model.specs.Lists.{Listed}
-use Rattle.filter_model.specs.Pairs.{Pair, change_half, half_of, heard_more, is_none, is_quiet, is_through, kept, owes_more, reaches, sent_some}
-use Rattle.filter_model.specs.Looking.{Looked, and_then, and_then_if, answered, cut_reply, is_listed, may_sign, only_listed, waits_by, waits_for, client_front, client_looked, client_owed, client_waits, fate_of, looked, nothing_left, reply_for, taken_as, upstream_front, upstream_looked, upstream_waits, without_front}
+use Rattle.filter_model.specs.Pairs.{Pair, change_half, half_of, heard_more, is_none, is_quiet, freed, is_through, owes_more, reaches, sent_some, unlinked}
+use Rattle.filter_model.specs.Looking.{Looked, and_then, and_then_if, answered, cut_reply, is_listed, may_sign, only_listed, waits_by, waits_for, client_front, client_looked, client_owed, client_waits, fate_of, looked, lost, lost_if, nothing_left, reply_for, taken_as, upstream_front, upstream_looked, upstream_waits, without_front}
 use Rattle.filter_model.specs.Watching.{Exchange, IsApart, IsExact, IsExchange, IsPending, IsPendingFor, IsReplied, Watched, answers, bodies, IsCut, IsReplyTo, change_stream, binds, is_bind, has_purpose, is_forwarded, may_pass, with_heard, with_sent}
 
 -- ---- lists
@@ -222,11 +222,12 @@ module _ (listed : Listed) (watched : Watched) (holds : Holds listed watched) wh
         each = All-push (IsExchange listed) e.exchanges refused e.each (subst (λ b. IsReplied b listed refused) (sym (passed listed body Nothing fate)) (record { unanswered = refl; reply = refl }));
         last = none_left;
         bound = e.bound ∙ sym (any-push is_bind e.taken body ∙ ap (λ b. list_any is_bind e.taken || b) (bound_by listed body Nothing fate) ∙ or-false (list_any is_bind e.taken));
-        apart = λ unlinked. record {
-          unheard = (e.apart unlinked).unheard;
-          whole = (e.apart unlinked).whole ∙ ap frames none;
+        unused = e.unused;
+        apart = λ unused. record {
+          unheard = (e.apart unused).unheard;
+          whole = (e.apart unused).whole ∙ ap frames none;
           unbound = ap (list_any is_bind) (map-push (λ x. x.body) e.exchanges refused) ∙ any-push is_bind (bodies e.exchanges) body
-              ∙ ap (λ b. list_any is_bind (bodies e.exchanges) || b) (bound_by listed body Nothing fate) ∙ or-false (list_any is_bind (bodies e.exchanges)) ∙ (e.apart unlinked).unbound;
+              ∙ ap (λ b. list_any is_bind (bodies e.exchanges) || b) (bound_by listed body Nothing fate) ∙ or-false (list_any is_bind (bodies e.exchanges)) ∙ (e.apart unused).unbound;
         };
       };
       fated = All-nil (λ other. fate_of listed other ≡ pair.waits);
@@ -257,10 +258,11 @@ module _ (listed : Listed) (watched : Watched) (holds : Holds listed watched) wh
         each = e.each;
         last = last;
         bound = binding ∙ ap (λ b. b || is_binding waits) e.bound ∙ sym (any-push is_bind e.taken body ∙ ap (λ b. list_any is_bind e.taken || b) (bound_by listed body waits fate));
-        apart = λ unlinked. record {
-          unheard = (e.apart unlinked).unheard;
-          whole = ap (λ l. l ++ string body) ((e.apart unlinked).whole ∙ ap frames none) ∙ sym (append-nil (string body));
-          unbound = (e.apart unlinked).unbound;
+        unused = e.unused;
+        apart = λ unused. record {
+          unheard = (e.apart unused).unheard;
+          whole = ap (λ l. l ++ string body) ((e.apart unused).whole ∙ ap frames none) ∙ sym (append-nil (string body));
+          unbound = (e.apart unused).unbound;
         };
       };
       fated = All-cons (λ other. fate_of listed other ≡ waits) body [] fate (All-nil (λ other. fate_of listed other ≡ waits));
@@ -315,10 +317,10 @@ module _ (listed : Listed) (watched : Watched) (holds : Holds listed watched) wh
     after_reply reply = record pair { client = owes_more reply pair.client; upstream = without_front body_len pair.upstream; waits = Nothing }
 
     -- it came over a connection
-    unlinked-none : {A : Type 0} → pair.is_linked ≡ false → A
-    unlinked-none unlinked =
+    unused-none : {A : Type 0} → pair.is_used ≡ false → A
+    unused-none unused =
         let within = whole_within longest_body pair.upstream.heard body_len found in
-        let none = ap length (e.apart unlinked).unheard in
+        let none = ap length (e.apart unused).unheard in
         absurd (omega (arith, within, none))
 
     replied-holds : (reply : List ℕ) → reply_for waits listed answer ≡ Some reply → Holds listed (left_at (after_reply reply) watched)
@@ -340,7 +342,8 @@ module _ (listed : Listed) (watched : Watched) (holds : Holds listed watched) wh
             (record { answer = answer; answered = refl; reply = reply-is listed (request_of awaits.body) answer reply (ap (λ w. reply_for w listed answer) fated ∙ is) }));
         last = refl;
         bound = e.bound;
-        apart = λ unlinked. unlinked-none unlinked;
+        unused = e.unused;
+        apart = λ unused. unused-none unused;
       };
       fated = All-nil (λ other. fate_of listed other ≡ Nothing);
       heard_bytes = holds.heard_bytes;
@@ -405,7 +408,7 @@ neither true there is = cc
 neither false true is = (refl, refl)
 neither false false is = cc
 
--- a connection that isn't needed is given back
+-- a connection on which nothing is under way is as good as a new one
 module _ (listed : Listed) (watched : Watched) (holds : Holds listed watched) where
   abbrev here : Pair
   here = watched.pair
@@ -426,14 +429,14 @@ module _ (listed : Listed) (watched : Watched) (holds : Holds listed watched) wh
         unbound = ap (list_any is_bind) (sym all) ∙ sym known.bound ∙ unbound;
       }
 
-  kept-apart : (linked : Bool) → here.is_linked ≡ linked → (linked && (here.is_bound || not (is_through here))) ≡ false → IsApart here known.exchanges known.pending
-  kept-apart false is unlinked = known.apart is
-  kept-apart true is unlinked =
-      let both = neither here.is_bound (is_through here) unlinked in
+  freed-apart : (used : Bool) → here.is_used ≡ used → (used && (here.is_bound || not (is_through here))) ≡ false → IsApart here known.exchanges known.pending
+  freed-apart false is unused = known.apart is
+  freed-apart true is unused =
+      let both = neither here.is_bound (is_through here) unused in
       spare-apart both.0 both.1
 
-  kept-holds : Holds listed (left_at (kept here) watched)
-  kept-holds = record {
+  freed-holds : Holds listed (left_at (freed here) watched)
+  freed-holds = record {
     exact = record {
       taken = known.taken;
       exchanges = known.exchanges;
@@ -448,7 +451,8 @@ module _ (listed : Listed) (watched : Watched) (holds : Holds listed watched) wh
       each = known.each;
       last = known.last;
       bound = known.bound;
-      apart = λ unlinked. apart_of (kept-apart here.is_linked refl unlinked);
+      unused = λ unlinked. ap (λ (used : Bool). used && (here.is_bound || not (is_through here))) (known.unused unlinked);
+      apart = λ unused. apart_of (freed-apart here.is_used refl unused);
     };
     fated = holds.fated;
     heard_bytes = holds.heard_bytes;
@@ -456,18 +460,18 @@ module _ (listed : Listed) (watched : Watched) (holds : Holds listed watched) wh
     upstream_bytes = holds.upstream_bytes;
   }
     where
-      apart_of : IsApart here known.exchanges known.pending → IsApart (kept here) known.exchanges known.pending
+      apart_of : IsApart here known.exchanges known.pending → IsApart (freed here) known.exchanges known.pending
       apart_of is = record { unheard = is.unheard; whole = is.whole; unbound = is.unbound }
 
 pub looked-holds : (listed : Listed) (watched : Watched) → Holds listed watched → Holds listed (left_at (looked listed watched.pair).pair watched)
 looked-holds listed watched holds =
     let first = and_then (client_looked listed watched.pair) (upstream_looked listed) in
-    kept-holds listed (left_at first.pair watched)
+    freed-holds listed (left_at first.pair watched)
     (and_then-holds listed watched (client_looked listed watched.pair) (client_looked-holds listed watched holds))
 
 -- a connection was made
-pub linked-holds : (listed : Listed) (watched : Watched) → Holds listed watched → Holds listed (left_at (record watched.pair { is_linked = true }) watched)
-linked-holds listed watched holds = record {
+pub linked-holds : (listed : Listed) (watched : Watched) → watched.pair.is_linked ≡ false → Holds listed watched → Holds listed (left_at (record watched.pair { is_linked = true }) watched)
+linked-holds listed watched apart holds = record {
   exact = record {
     taken = holds.exact.taken;
     exchanges = holds.exact.exchanges;
@@ -482,7 +486,42 @@ linked-holds listed watched holds = record {
     each = holds.exact.each;
     last = holds.exact.last;
     bound = holds.exact.bound;
-    apart = λ unlinked. true-false true refl unlinked;
+    unused = λ unlinked. true-false true refl unlinked;
+    apart = λ unused. record {
+      unheard = (holds.exact.apart unused).unheard;
+      whole = (holds.exact.apart unused).whole;
+      unbound = (holds.exact.apart unused).unbound;
+    };
+  };
+  fated = holds.fated;
+  heard_bytes = holds.heard_bytes;
+  client_bytes = holds.client_bytes;
+  upstream_bytes = holds.upstream_bytes;
+}
+
+-- one that isn't used ended, or was given back
+pub unlinked-holds : (listed : Listed) (watched : Watched) → watched.pair.is_used ≡ false → Holds listed watched → Holds listed (left_at (unlinked watched.pair) watched)
+unlinked-holds listed watched free holds = record {
+  exact = record {
+    taken = holds.exact.taken;
+    exchanges = holds.exact.exchanges;
+    pending = holds.exact.pending;
+    parts = holds.exact.parts;
+    from_client = holds.exact.from_client;
+    from_upstream = holds.exact.from_upstream;
+    to_upstream = holds.exact.to_upstream;
+    to_client = holds.exact.to_client;
+    are_bodies = holds.exact.are_bodies;
+    are_answers = holds.exact.are_answers;
+    each = holds.exact.each;
+    last = holds.exact.last;
+    bound = holds.exact.bound;
+    unused = λ unlinked. free;
+    apart = λ unused. record {
+      unheard = (holds.exact.apart unused).unheard;
+      whole = (holds.exact.apart unused).whole;
+      unbound = (holds.exact.apart unused).unbound;
+    };
   };
   fated = holds.fated;
   heard_bytes = holds.heard_bytes;
@@ -508,10 +547,11 @@ heard-holds listed watched Client piece bytes reached holds = record {
     each = holds.exact.each;
     last = holds.exact.last;
     bound = holds.exact.bound;
-    apart = λ unlinked. record {
-      unheard = (holds.exact.apart unlinked).unheard;
-      whole = (holds.exact.apart unlinked).whole;
-      unbound = (holds.exact.apart unlinked).unbound;
+    unused = holds.exact.unused;
+    apart = λ unused. record {
+      unheard = (holds.exact.apart unused).unheard;
+      whole = (holds.exact.apart unused).whole;
+      unbound = (holds.exact.apart unused).unbound;
     };
   };
   fated = holds.fated;
@@ -534,7 +574,8 @@ heard-holds listed watched Upstream piece bytes reached holds = record {
     each = holds.exact.each;
     last = holds.exact.last;
     bound = holds.exact.bound;
-    apart = λ unlinked. true-false watched.pair.is_linked reached unlinked;
+    unused = λ unlinked. true-false watched.pair.is_linked reached unlinked;
+    apart = λ unused. true-false true refl unused;
   };
   fated = holds.fated;
   heard_bytes = holds.heard_bytes;
@@ -563,10 +604,11 @@ took-holds listed watched Client count reached holds = record {
     each = holds.exact.each;
     last = holds.exact.last;
     bound = holds.exact.bound;
-    apart = λ unlinked. record {
-      unheard = (holds.exact.apart unlinked).unheard;
-      whole = (holds.exact.apart unlinked).whole;
-      unbound = (holds.exact.apart unlinked).unbound;
+    unused = holds.exact.unused;
+    apart = λ unused. record {
+      unheard = (holds.exact.apart unused).unheard;
+      whole = (holds.exact.apart unused).whole;
+      unbound = (holds.exact.apart unused).unbound;
     };
   };
   fated = holds.fated;
@@ -589,10 +631,19 @@ took-holds listed watched Upstream count reached holds = record {
     each = holds.exact.each;
     last = holds.exact.last;
     bound = holds.exact.bound;
-    apart = λ unlinked. true-false watched.pair.is_linked reached unlinked;
+    unused = λ unlinked. true-false watched.pair.is_linked reached unlinked;
+    apart = λ unused. true-false true refl unused;
   };
   fated = holds.fated;
   heard_bytes = holds.heard_bytes;
   client_bytes = holds.client_bytes;
   upstream_bytes = holds.upstream_bytes;
 }
+
+-- a connection ended
+pub lost-holds : (listed : Listed) (watched : Watched) → Holds listed watched → Holds listed (left_at (lost watched.pair).pair watched)
+lost-holds listed watched holds = by_used watched.pair.is_used refl
+  where
+    by_used : (used : Bool) → watched.pair.is_used ≡ used → Holds listed (left_at (lost_if used watched.pair).pair watched)
+    by_used true is = holds
+    by_used false is = unlinked-holds listed watched is holds

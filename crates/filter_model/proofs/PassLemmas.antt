@@ -32,14 +32,14 @@ use Rattle.filter_model.specs.declared.thing.Thing.{Thing}
 use Rattle.filter_model.specs.declared.thing.Thing.TheVariants.{Accept, Read, Write}
 use Rattle.filter_model.specs.Lists.{Listed}
 use Rattle.filter_model.specs.Pairs.{Pair, half_of, reaches, wants_half}
-use Rattle.filter_model.specs.Filters.{AllFit, Connected, Ended, Happening, Heard, Joined, State, Took, can_send, find_pair, has_place, is_reached, owed_by, owed_of, reached_by, run, sends_by, step, wants_by}
+use Rattle.filter_model.specs.Filters.{AllFit, Connected, Ended, Fits, Happening, Heard, Joined, Lost, State, Took, can_send, find_pair, has_place, has_number, is_reached, owed_by, owed_of, reached_by, run, sends_by, step, wants_by}
 use Rattle.filter_model.specs.Lines.{first_servable, is_idle, is_next, is_servable, is_thing, same_side}
-use Rattle.filter_model.specs.Answered.{Due, Binding, Closing, Free, Nothing, Parting, Reading, after_accept, after_bind, after_close, after_connect, after_disconnect, after_poll, after_read, after_write}
+use Rattle.filter_model.specs.Answered.{Due, Binding, Closing, Free, Nothing, Parting, Reading, after_accept, after_bind, after_close, after_connect, after_disconnect, after_poll, after_read, after_write, end_of}
 use Rattle.filter_model.specs.LegalPairs.{allowed, allowed_at, first_reading, read_on}
 use Rattle.filter_model.specs.Possible.{are_bytes, is_got, is_numbered, is_piece, is_taken}
 use Rattle.filter_model.specs.Places.{AreFew}
 use Rattle.filter_model.specs.KeptPurposes.{KeepsPurposes}
-use Rattle.filter_model.specs.Watching.{IsExact, IsInRange, Stream, Watched, new_watched, no_stream, watch, watch_if, watch_open, watched_of, watched_on}
+use Rattle.filter_model.specs.Watching.{IsExact, IsInRange, Stream, Watched, new_watched, no_stream, seen_at, watch, watch_if, watch_open, watched_of, watched_on}
 use Rattle.filter_model.specs.Brought.{EachPasses, IsPassed, events_brought, events_of, read_by, stream_by, written_by}
 use Rattle.filter_model.proofs.FairLemmas.{same_is, two}
 use Rattle.filter_model.proofs.JournalLemmas.{only_some, then_some}
@@ -150,6 +150,11 @@ module _ (listed : Listed) (watched : Watched) where
   ended-open (Some pair) number Client = refl
   ended-open (Some pair) number Upstream = refl
 
+  lost-open : (found : Option Pair) (number : ℕ) (side : Side) → stream_of side (watch_open found listed (Lost number) watched) ≡ stream_of side watched
+  lost-open None number side = refl
+  lost-open (Some pair) number Client = refl
+  lost-open (Some pair) number Upstream = refl
+
 unopen : (found : Option Pair) → IsSome found → found ≡ None → ⊥
 unopen None is none = cc
 unopen (Some pair) is none = cc
@@ -185,19 +190,28 @@ module _ (state : State) (number other : ℕ) (is_open : IsSome (find_pair other
   ended-watch true side (Some watched) = ended-open state.listed watched (find_pair number state.pairs) other side
   ended-watch false side watched = refl
 
+  lost-watch : (test : Bool) (side : Side) (watched : Option Watched) → stream_at side (watch_if test state number (Lost other) watched) ≡ stream_at side watched
+  lost-watch true side None = refl
+  lost-watch true side (Some watched) = lost-open state.listed watched (find_pair number state.pairs) other side
+  lost-watch false side watched = refl
+
+  end-watch : (there side : Side) (watched : Option Watched) → stream_at side (watch state number watched (end_of there other)) ≡ stream_at side watched
+  end-watch Client side watched = ended-watch (number == other) side watched
+  end-watch Upstream side watched = lost-watch (number == other) side watched
+
 new-none : (side : Side) → stream_of side new_watched ≡ no_stream
 new-none Client = refl
 new-none Upstream = refl
 
-unjoined-none : (listed : Listed) (number last : ℕ) (found : Option Pair) (side : Side) (watched : Option Watched) → number ≡ suc last → Good listed number last found watched
+unjoined-none : (listed : Listed) (number last : ℕ) (found : Option Pair) (spare : Bool) (side : Side) (watched : Option Watched) → number ≡ suc last → Good listed number last found spare watched
     → stream_at side watched ≡ no_stream
-unjoined-none listed number last found side None is good = refl
-unjoined-none listed number last found side (Some watched) is good = absurd (omega (arith, good.0))
+unjoined-none listed number last found spare side None is good = refl
+unjoined-none listed number last found spare side (Some watched) is good = absurd (omega (arith, good.0))
 
 joined-watch : (test : Bool) (state : State) (number : ℕ) (side : Side) (watched : Option Watched) → (number == suc state.last_pair) ≡ test → GoodAt number state watched
     → stream_at side (if test then Some new_watched else watched) ≡ stream_at side watched
 joined-watch true state number side watched same good =
-    new-none side ∙ sym (unjoined-none state.listed number state.last_pair (find_pair number state.pairs) side watched (eqb-true number (suc state.last_pair) same) good)
+    new-none side ∙ sym (unjoined-none state.listed number state.last_pair (find_pair number state.pairs) (has_number number state.spares) side watched (eqb-true number (suc state.last_pair) same) good)
 joined-watch false state number side watched same good = refl
 
 -- ---- a call
@@ -215,6 +229,21 @@ record Brings (state : State) (next : PairEntry) (after : State) : Type 0 where
   leads : after ≡ run state (events_of next)
   streams : Streams state next (events_of next)
 
+-- what is seen of a pair moves nothing
+seen-stream : (side : Side) (found : Option Pair) (watched : Option Watched) → stream_at side (seen_at found watched) ≡ stream_at side watched
+seen-stream side None watched = refl
+seen-stream side (Some pair) None = refl
+seen-stream Client (Some pair) (Some watched) = refl
+seen-stream Upstream (Some pair) (Some watched) = refl
+
+-- one event
+one-streams : (state : State) (next : PairEntry) (event : Happening)
+    → ((number : ℕ) (side : Side) (watched : Option Watched) → GoodAt number state watched
+    → stream_at side (watch state number watched event) ≡ with_more (read_by number side next) (written_by number side next) (stream_at side watched))
+    → Streams state next (event ∷ [])
+one-streams state next event streams = λ number side watched good.
+    seen-stream side (find_pair number (step state event).pairs) (watch state number watched event) ∙ streams number side watched good
+
 one_in_range : (event : Happening) → IsInRange event → All IsInRange (event ∷ [])
 one_in_range event range = All-cons IsInRange event [] range (All-nil _)
 
@@ -225,8 +254,8 @@ module _ (state : State) (line : List Thing) where
     fit = ((Decides-ltb state.last_pair (2 ^ 64 - 1)).0 able, tt);
     range = one_in_range Joined tt;
     leads = refl;
-    streams = λ number side watched good.
-        joined-watch (number == suc state.last_pair) state number side watched refl good ∙ nothing-more (stream_at side watched);
+    streams = one-streams state (entry.Accept (Ok (accepted.Port number))) Joined (λ number side watched good.
+        joined-watch (number == suc state.last_pair) state number side watched refl good ∙ nothing-more (stream_at side watched));
   }
   accept-brings (Ok accepted.NotNow) able = record { fit = tt; range = All-nil _; leads = refl; streams = λ number side watched good. nothing-more (stream_at side watched) }
   accept-brings (Err Failed) able = record { fit = tt; range = All-nil _; leads = refl; streams = λ number side watched good. nothing-more (stream_at side watched) }
@@ -259,14 +288,23 @@ module _ (state : State) (line : List Thing) where
   write-quiet pair there number side watched = quiet-stream [] _ (stream_at side watched) refl (none_if ((number == pair) && same_side side there))
 
   read-ends : (pair : ℕ) (there : Side) → IsSome (find_pair pair state.pairs) → (number : ℕ) (side : Side) (watched : Option Watched)
-      → stream_at side (watch_if (number == pair) state number (Ended pair) watched)
+      → stream_at side (watch state number watched (end_of there pair))
       ≡ with_more (if (number == pair) && same_side side there then [] else []) [] (stream_at side watched)
-  read-ends pair there is_open number side watched = ended-watch state number pair is_open (number == pair) side watched ∙ read-quiet pair there number side watched
+  read-ends pair there is_open number side watched = end-watch state number pair is_open there side watched ∙ read-quiet pair there number side watched
 
   write-ends : (pair : ℕ) (there : Side) → IsSome (find_pair pair state.pairs) → (number : ℕ) (side : Side) (watched : Option Watched)
-      → stream_at side (watch_if (number == pair) state number (Ended pair) watched)
+      → stream_at side (watch state number watched (end_of there pair))
       ≡ with_more [] (if (number == pair) && same_side side there then [] else []) (stream_at side watched)
-  write-ends pair there is_open number side watched = ended-watch state number pair is_open (number == pair) side watched ∙ write-quiet pair there number side watched
+  write-ends pair there is_open number side watched = end-watch state number pair is_open there side watched ∙ write-quiet pair there number side watched
+
+  -- the end of a side that is reached
+  end-fits : (pair : ℕ) (there : Side) → is_reached pair there state ≡ true → IsSome (find_pair pair state.pairs) → Fits (end_of there pair) state
+  end-fits pair Client reached is_open = is_open
+  end-fits pair Upstream reached is_open = reached
+
+  end-range : (pair : ℕ) (there : Side) → IsInRange (end_of there pair)
+  end-range pair Client = tt
+  end-range pair Upstream = tt
 
   connect-brings : (pair : ℕ) (answer : Result Linked WorldFault) → IsTrue (can_send pair Upstream state) → IsTrue (not (is_reached pair Upstream state)) → IsSome (find_pair pair state.pairs)
       → Brings state (entry.Connect pair answer) (after_connect pair state line answer).state
@@ -274,16 +312,16 @@ module _ (state : State) (line : List Thing) where
     fit = ((sends, apart), tt);
     range = one_in_range (Connected pair) tt;
     leads = refl;
-    streams = λ number side watched good.
-        linked-watch state number pair is_open (number == pair) side watched ∙ nothing-more (stream_at side watched);
+    streams = one-streams state (entry.Connect pair (Ok linked.Made)) (Connected pair) (λ number side watched good.
+        linked-watch state number pair is_open (number == pair) side watched ∙ nothing-more (stream_at side watched));
   }
   connect-brings pair (Ok linked.NotNow) sends apart is_open = record { fit = tt; range = All-nil _; leads = refl; streams = λ number side watched good. nothing-more (stream_at side watched) }
   connect-brings pair (Err Failed) sends apart is_open = record {
     fit = (is_open, tt);
     range = one_in_range (Ended pair) tt;
     leads = refl;
-    streams = λ number side watched good.
-        ended-watch state number pair is_open (number == pair) side watched ∙ nothing-more (stream_at side watched);
+    streams = one-streams state (entry.Connect pair (Err Failed)) (Ended pair) (λ number side watched good.
+        ended-watch state number pair is_open (number == pair) side watched ∙ nothing-more (stream_at side watched));
   }
   connect-brings pair (Err Memory) sends apart is_open = record { fit = tt; range = All-nil _; leads = refl; streams = λ number side watched good. nothing-more (stream_at side watched) }
 
@@ -297,11 +335,22 @@ module _ (state : State) (line : List Thing) where
         fit = ((reached, subst (λ (m : ℕ). 0 < m) (eqb-true n (length bytes) parts.0) some), tt);
         range = one_in_range (Heard pair there bytes) (bytes_are bytes later.1);
         leads = refl;
-        streams = λ number side watched good. heard-watch state number pair is_open (number == pair) side there bytes watched refl good;
+        streams = one-streams state (entry.Read pair there room bytes (Ok (got.Bytes n))) (Heard pair there bytes)
+            (λ number side watched good. heard-watch state number pair is_open (number == pair) side there bytes watched refl good);
       }
-  read-brings pair there room bytes (Ok got.End) reached is_open may = record { fit = (is_open, tt); range = one_in_range (Ended pair) tt; leads = refl; streams = λ number side watched good. read-ends pair there is_open number side watched }
+  read-brings pair there room bytes (Ok got.End) reached is_open may = record {
+    fit = (end-fits pair there reached is_open, tt);
+    range = one_in_range (end_of there pair) (end-range pair there);
+    leads = refl;
+    streams = one-streams state (entry.Read pair there room bytes (Ok got.End)) (end_of there pair) (λ number side watched good. read-ends pair there is_open number side watched);
+  }
   read-brings pair there room bytes (Ok got.NotNow) reached is_open may = record { fit = tt; range = All-nil _; leads = refl; streams = λ number side watched good. read-quiet pair there number side watched }
-  read-brings pair there room bytes (Err Failed) reached is_open may = record { fit = (is_open, tt); range = one_in_range (Ended pair) tt; leads = refl; streams = λ number side watched good. read-ends pair there is_open number side watched }
+  read-brings pair there room bytes (Err Failed) reached is_open may = record {
+    fit = (end-fits pair there reached is_open, tt);
+    range = one_in_range (end_of there pair) (end-range pair there);
+    leads = refl;
+    streams = one-streams state (entry.Read pair there room bytes (Err Failed)) (end_of there pair) (λ number side watched good. read-ends pair there is_open number side watched);
+  }
   read-brings pair there room bytes (Err Memory) reached is_open may = record { fit = tt; range = All-nil _; leads = refl; streams = λ number side watched good. read-quiet pair there number side watched }
 
   write-brings : (pair : ℕ) (there : Side) (offered : List ℕ) (answer : Result Wrote WorldFault) → is_reached pair there state ≡ true → IsSome (find_pair pair state.pairs) → offered ≡ owed_of pair there state → is_taken offered answer ≡ true
@@ -312,12 +361,17 @@ module _ (state : State) (line : List Thing) where
         fit = ((reached, (piece.0, subst (λ (bytes : List ℕ). n ≤ length bytes) owed piece.1)), tt);
         range = one_in_range (Took pair there n) tt;
         leads = refl;
-        streams = λ number side watched good.
+        streams = one-streams state (entry.Write pair there offered (Ok (wrote.Took n))) (Took pair there n) (λ number side watched good.
             took-watch state number pair is_open (number == pair) side there n watched refl good
-            ∙ ap (λ (bytes : List ℕ). with_more [] (if (number == pair) && same_side side there then take n bytes else []) (stream_at side watched)) (sym owed);
+            ∙ ap (λ (bytes : List ℕ). with_more [] (if (number == pair) && same_side side there then take n bytes else []) (stream_at side watched)) (sym owed));
       }
   write-brings pair there offered (Ok wrote.NotNow) reached is_open owed may = record { fit = tt; range = All-nil _; leads = refl; streams = λ number side watched good. write-quiet pair there number side watched }
-  write-brings pair there offered (Err Failed) reached is_open owed may = record { fit = (is_open, tt); range = one_in_range (Ended pair) tt; leads = refl; streams = λ number side watched good. write-ends pair there is_open number side watched }
+  write-brings pair there offered (Err Failed) reached is_open owed may = record {
+    fit = (end-fits pair there reached is_open, tt);
+    range = one_in_range (end_of there pair) (end-range pair there);
+    leads = refl;
+    streams = one-streams state (entry.Write pair there offered (Err Failed)) (end_of there pair) (λ number side watched good. write-ends pair there is_open number side watched);
+  }
   write-brings pair there offered (Err Memory) reached is_open owed may = record { fit = tt; range = All-nil _; leads = refl; streams = λ number side watched good. write-quiet pair there number side watched }
 
   lands : (next : PairEntry) (reading to : Reading) → reading ≡ to → Brings state next reading.state → Brings state next to.state
@@ -417,7 +471,8 @@ fit-append state (event ∷ some) more fit later = (fit.0, fit-append (step stat
 watched-append : (number : ℕ) (state : State) (watched : Option Watched) (some more : List Happening)
     → watched_on number state watched (some ++ more) ≡ watched_on number (run state some) (watched_on number state watched some) more
 watched-append number state watched [] more = refl
-watched-append number state watched (event ∷ some) more = watched-append number (step state event) (watch state number watched event) some more
+watched-append number state watched (event ∷ some) more =
+    watched-append number (step state event) (seen_at (find_pair number (step state event).pairs) (watch state number watched event)) some more
 
 -- what calls from one reading on bring
 record CallsBring (from to : Reading) (calls : List PairEntry) : Type 0 where

@@ -15,7 +15,7 @@ use Rattle.key_purposes.specs.declared.purpose.Purpose.{Purpose}
 use Rattle.key_purposes.proofs.MessageLemmas.{one_is}
 use Rattle.filter_model.specs.Lists.{Listed}
 use Rattle.filter_model.specs.Pairs.{Pair}
-use Rattle.filter_model.specs.Filters.{find_pair, first_state, run}
+use Rattle.filter_model.specs.Filters.{find_pair, first_state, has_number, run}
 use Rattle.filter_model.specs.Watching.{IsExact, Watched, has_purpose, is_forwarded, may_pass, watched_of}
 use Rattle.filter_model.specs.KeptPurposes.{EachKeepsPurposes, IsSignedFor, KeepsPurposes}
 use Rattle.filter_model.proofs.PairLemmas.{Holds}
@@ -100,12 +100,12 @@ keeps listed watched holds = λ purposes given.
           (body_bytes e.taken (front_bytes (frames e.taken) watched.pair.client.heard (subst IsBytes e.from_client holds.heard_bytes)));
     }
 
-good-keeps : (listed : Listed) (number last : ℕ) (found : Option Pair) (watched : Option Watched) → Good listed number last found watched → IfSome watched (KeepsPurposes listed)
-good-keeps listed number last found None good = tt
-good-keeps listed number last found (Some watched) good = keeps listed watched good.1.holds
+good-keeps : (listed : Listed) (number last : ℕ) (found : Option Pair) (spare : Bool) (watched : Option Watched) → Good listed number last found spare watched → IfSome watched (KeepsPurposes listed)
+good-keeps listed number last found spare None good = tt
+good-keeps listed number last found spare (Some watched) good = keeps listed watched good.1.holds
 
 pub each_keeps_purposes : EachKeepsPurposes
 each_keeps_purposes listed events number range fit =
-    good-keeps listed number (run (first_state listed) events).last_pair (find_pair number (run (first_state listed) events).pairs) _
-    (subst (λ l. Good l number (run (first_state listed) events).last_pair (find_pair number (run (first_state listed) events).pairs) (watched_of number listed events)) (listed-run (first_state listed) events)
+    good-keeps listed number (run (first_state listed) events).last_pair (find_pair number (run (first_state listed) events).pairs) (has_number number (run (first_state listed) events).spares) _
+    (subst (λ l. Good l number (run (first_state listed) events).last_pair (find_pair number (run (first_state listed) events).pairs) (has_number number (run (first_state listed) events).spares) (watched_of number listed events)) (listed-run (first_state listed) events)
     (run-good number (first_state listed) None events range fit refl))

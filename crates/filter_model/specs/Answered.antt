@@ -14,10 +14,10 @@ use Rattle.pair_ports.specs.declared.entry.Linked.{Linked}
 use Rattle.pair_ports.specs.declared.entry.Linked.TheVariants as linked
 use Rattle.pair_ports.specs.declared.entry.PairReady.{PairReady}
 use Rattle.pair_ports.specs.declared.side.Side.{Side}
-use Rattle.pair_ports.specs.declared.side.Side.TheVariants.{Upstream}
+use Rattle.pair_ports.specs.declared.side.Side.TheVariants.{Client, Upstream}
 use Rattle.filter_model.specs.declared.thing.Thing.{Thing}
 use Rattle.filter_model.specs.declared.thing.Thing.TheVariants.{Accept, Read, Write}
-use Rattle.filter_model.specs.Filters.{Connected, Ended, Happening, Heard, Joined, State, Took, step}
+use Rattle.filter_model.specs.Filters.{Connected, Ended, Happening, Heard, Joined, Lost, State, Took, step}
 use Rattle.filter_model.specs.Lines.{dropped, queued, queued_all, queued_pair, sent_back, without_pair}
 
 -- what has to come next: the bind; anything that can be served, or a poll where nothing can; the closing of pairs, or
@@ -91,16 +91,21 @@ after_connect pair state line (Ok answer) = after_linked pair state line answer
 after_connect pair state line (Err Failed) = after_event (Ended pair) state (dropped (Write pair Upstream) line)
 after_connect pair state line (Err Memory) = at state line Nothing
 
+-- a side has ended: the client's end is the pair's
+abbrev pub end_of : Side → ℕ → Happening
+end_of Client pair = Ended pair
+end_of Upstream pair = Lost pair
+
 -- bytes came, or the end, or nothing yet
 abbrev pub after_got : ℕ → Side → List ℕ → State → List Thing → Got → Reading
 after_got pair side bytes state line (got.Bytes n) = after_event (Heard pair side bytes) state (sent_back (Read pair side) line)
-after_got pair side bytes state line got.End = after_event (Ended pair) state (dropped (Read pair side) line)
+after_got pair side bytes state line got.End = after_event (end_of side pair) state (dropped (Read pair side) line)
 after_got pair side bytes state line got.NotNow = at state (dropped (Read pair side) line) Free
 
--- a read that the outside refused ends the pair
+-- a read that the outside refused ends the side
 abbrev pub after_read : ℕ → Side → List ℕ → State → List Thing → Result Got WorldFault → Reading
 after_read pair side bytes state line (Ok answer) = after_got pair side bytes state line answer
-after_read pair side bytes state line (Err Failed) = after_event (Ended pair) state (dropped (Read pair side) line)
+after_read pair side bytes state line (Err Failed) = after_event (end_of side pair) state (dropped (Read pair side) line)
 after_read pair side bytes state line (Err Memory) = at state line Nothing
 
 -- bytes went, or there is no room
@@ -108,10 +113,10 @@ abbrev pub after_wrote : ℕ → Side → State → List Thing → Wrote → Rea
 after_wrote pair side state line (wrote.Took n) = after_event (Took pair side n) state (sent_back (Write pair side) line)
 after_wrote pair side state line wrote.NotNow = at state (dropped (Write pair side) line) Free
 
--- a write that the outside refused ends the pair
+-- a write that the outside refused ends the side
 abbrev pub after_write : ℕ → Side → State → List Thing → Result Wrote WorldFault → Reading
 after_write pair side state line (Ok answer) = after_wrote pair side state line answer
-after_write pair side state line (Err Failed) = after_event (Ended pair) state (dropped (Write pair side) line)
+after_write pair side state line (Err Failed) = after_event (end_of side pair) state (dropped (Write pair side) line)
 after_write pair side state line (Err Memory) = at state line Nothing
 
 -- things became ready, or nothing will any more

@@ -16,7 +16,7 @@ use Rattle.pair_ports.specs.declared.entry.PairEntry.{PairEntry}
 use Rattle.pair_ports.specs.declared.entry.PairEntry.TheVariants as entry
 use Rattle.pair_ports.specs.declared.side.Side.{Side}
 use Rattle.pair_ports.specs.declared.side.Side.TheVariants.{Client, Upstream}
-use Rattle.filter_model.specs.Answered.{Reading}
+use Rattle.filter_model.specs.Answered.{Reading, end_of}
 use Rattle.filter_model.specs.Lists.{Listed}
 use Rattle.filter_model.specs.Filters.{AllFit, Connected, Ended, Happening, Heard, Joined, Took, first_state, run}
 use Rattle.filter_model.specs.LegalPairs.{first_reading, read_on}
@@ -40,19 +40,19 @@ connected_by pair (Ok linked.NotNow) = []
 connected_by pair (Err Failed) = Ended pair ∷ []
 connected_by pair (Err Memory) = []
 
--- bytes came, or the end; a read that the outside refused ends the pair
+-- bytes came, or the end; a read that the outside refused ends the side
 abbrev pub heard_by : ℕ → Side → List ℕ → Result Got WorldFault → List Happening
 heard_by pair side bytes (Ok (got.Bytes n)) = Heard pair side bytes ∷ []
-heard_by pair side bytes (Ok got.End) = Ended pair ∷ []
+heard_by pair side bytes (Ok got.End) = end_of side pair ∷ []
 heard_by pair side bytes (Ok got.NotNow) = []
-heard_by pair side bytes (Err Failed) = Ended pair ∷ []
+heard_by pair side bytes (Err Failed) = end_of side pair ∷ []
 heard_by pair side bytes (Err Memory) = []
 
--- bytes went; a write that the outside refused ends the pair
+-- bytes went; a write that the outside refused ends the side
 abbrev pub took_by : ℕ → Side → Result Wrote WorldFault → List Happening
 took_by pair side (Ok (wrote.Took n)) = Took pair side n ∷ []
 took_by pair side (Ok wrote.NotNow) = []
-took_by pair side (Err Failed) = Ended pair ∷ []
+took_by pair side (Err Failed) = end_of side pair ∷ []
 took_by pair side (Err Memory) = []
 
 -- what a call brings

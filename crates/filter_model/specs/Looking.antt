@@ -15,10 +15,9 @@ use Rattle.filter_model.specs.declared.waits.Waits.TheVariants.{Nothing, OnList,
 use Rattle.filter_model.specs.declared.waits.Waits.{Waits}
 use Rattle.key_purposes.specs.Messages.{may_be_for}
 use Rattle.filter_model.specs.Lists.{Listed}
-use Rattle.filter_model.specs.Pairs.{Half, Pair, kept, owes_more}
+use Rattle.filter_model.specs.Pairs.{Half, Pair, freed, owes_more, unlinked}
 
--- the pair that a look leaves, and whether it stays open; one that doesn't is as it was just before its end, but for a
--- connection that is given back
+-- the pair that a look leaves, and whether it stays open; one that doesn't is as it was just before its end
 pub record Looked : Type 0 where
   pub pair : Pair
   pub is_open : Bool
@@ -172,10 +171,19 @@ upstream_looked listed pair = upstream_waits pair.waits listed pair
 
 -- ---- both
 
--- what the looks leave: a connection to the agent behind that isn't needed is given back
-abbrev pub given_back : Looked → Looked
-given_back after = record after { pair = kept after.pair }
+-- what the looks leave: a connection to the agent behind on which nothing is under way is as good as a new one
+abbrev pub freed_after : Looked → Looked
+freed_after after = record after { pair = freed after.pair }
 
 -- a look at what the client sent, and then at what upstream sent
 abbrev pub looked : Listed → Pair → Looked
-looked listed pair = given_back (and_then (client_looked listed pair) (upstream_looked listed))
+looked listed pair = freed_after (and_then (client_looked listed pair) (upstream_looked listed))
+
+-- the connection to the agent behind has ended: another one will do, where it isn't used
+abbrev pub lost_if : Bool → Pair → Looked
+lost_if true pair = ends pair
+lost_if false pair = stays (unlinked pair)
+
+-- the same of this pair
+abbrev pub lost : Pair → Looked
+lost pair = lost_if pair.is_used pair

@@ -12,7 +12,7 @@ use Rattle.pair_ports.specs.declared.side.Side.{Side}
 use Rattle.pair_ports.specs.declared.side.Side.TheVariants.{Client, Upstream}
 use Rattle.filter_model.specs.LegalPairs.{first_reading, read_on}
 use Rattle.filter_model.specs.Lists.{for_all}
-use Rattle.filter_model.specs.Rows.{blob, list}
+use Rattle.filter_model.specs.Rows.{blob, failed, list}
 
 -- the journal may be one of a filter whose list has the key of tag 17
 abbrev pub is_legal : List PairEntry → Bool
@@ -41,6 +41,10 @@ accept_none = entry.Accept (Ok accepted.NotNow)
 -- a read of pair 1 finds nothing yet
 abbrev pub read_none : Side → PairEntry
 read_none side = entry.Read 1 side 16384 [] (Ok got.NotNow)
+
+-- a read of pair 1 finds that this side has ended
+abbrev pub read_end : Side → PairEntry
+read_end side = entry.Read 1 side 16384 [] (Ok got.End)
 
 -- a read of pair 1 gives these bytes
 abbrev pub read_of : Side → ℕ → List ℕ → PairEntry
@@ -82,3 +86,7 @@ joins later = bind ∷ poll_door ∷ accept_as 1 ∷ later
 abbrev pub asks_list : List PairEntry → List PairEntry
 asks_list later =
     read_of Client 5 list ∷ connect_made ∷ accept_none ∷ read_none Client ∷ write_of Upstream 5 list ∷ later
+
+-- the agent behind answers FAILURE, and the client is sent that
+abbrev pub gets_reply : List PairEntry → List PairEntry
+gets_reply later = poll_reply ∷ read_of Upstream 5 failed ∷ write_of Client 5 failed ∷ later

@@ -12,13 +12,14 @@ pub record Half : Type 0 where
   pub heard : List ℕ
   pub owed : List ℕ
 
--- an open pair, or one that is about to be closed; whether it has a connection to the agent behind, and whether a bind
--- was ever forwarded
+-- an open pair, or one that is about to be closed; whether it has a connection to the agent behind, whether another one
+-- would not do in its place, and whether a bind was ever forwarded
 pub record Pair : Type 0 where
   pub client : Half
   pub upstream : Half
   pub waits : Waits
   pub is_linked : Bool
+  pub is_used : Bool
   pub is_bound : Bool
 
 -- nothing was heard, and nothing is owed
@@ -27,17 +28,24 @@ empty_half = record { heard = []; owed = [] }
 
 -- a pair of which nothing was heard, which is owed nothing, waits for nothing, and has no connection to the agent behind
 abbrev pub new_pair : Pair
-new_pair = record { client = empty_half; upstream = empty_half; waits = Nothing; is_linked = false; is_bound = false }
+new_pair = record {
+  client = empty_half;
+  upstream = empty_half;
+  waits = Nothing;
+  is_linked = false;
+  is_used = false;
+  is_bound = false;
+}
 
 -- one half of a pair
 abbrev pub half_of : Side → Pair → Half
 half_of Client pair = pair.client
 half_of Upstream pair = pair.upstream
 
--- the pair, that half changed by f
+-- the pair, that half changed by f as bytes moved there: the connection to the agent behind is used from then on
 abbrev pub change_half : Side → (Half → Half) → Pair → Pair
 change_half Client f pair = record pair { client = f pair.client }
-change_half Upstream f pair = record pair { upstream = f pair.upstream }
+change_half Upstream f pair = record pair { upstream = f pair.upstream; is_used = true }
 
 -- more was heard
 abbrev pub heard_more : List ℕ → Half → Half
@@ -86,6 +94,16 @@ is_quiet OnReply = false
 abbrev pub is_through : Pair → Bool
 is_through pair = is_quiet pair.waits && (is_none pair.upstream.heard && is_none pair.upstream.owed)
 
--- the pair, its connection to the agent behind given back where nothing is under way and no bind was ever forwarded
-abbrev pub kept : Pair → Pair
-kept pair = record pair { is_linked = pair.is_linked && (pair.is_bound || not (is_through pair)) }
+-- the pair, its connection to the agent behind as good as a new one where nothing is under way and no bind was ever
+-- forwarded
+abbrev pub freed : Pair → Pair
+freed pair = record pair { is_used = pair.is_used && (pair.is_bound || not (is_through pair)) }
+
+-- the pair has a connection to the agent behind that it could do without: nothing is under way, and no bind was ever
+-- forwarded
+abbrev pub is_spare : Pair → Bool
+is_spare pair = pair.is_linked && (not pair.is_bound && is_through pair)
+
+-- the pair without its connection to the agent behind
+abbrev pub unlinked : Pair → Pair
+unlinked pair = record pair { is_linked = false }

@@ -75,6 +75,17 @@ took_reply = Took 1 Client 5
 abbrev pub asks : List ℕ → List Happening
 asks request = Heard 1 Client request ∷ Connected 1 ∷ Took 1 Upstream (length request) ∷ []
 
+-- the same, and the agent behind answers FAILURE
+abbrev pub answered : List ℕ → List Happening → List Happening
+answered request later = asks request ++ Heard 1 Upstream failed ∷ later
+
+-- a state in which pair 1 has a spare connection, and so many others have one later
+abbrev pub spare_beside : ℕ → State
+spare_beside count = record (first_state (for_all [])) {
+  pairs = record { number = 1; pair = record new_pair { is_linked = true } } ∷ [];
+  spares = 1 ∷ replicate count 2;
+}
+
 -- a state in which so many pairs have a connection to the agent behind, and one has none
 abbrev pub linked : ℕ → State
 linked count = record (first_state (for_all [])) {

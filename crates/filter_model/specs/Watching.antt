@@ -20,7 +20,7 @@ use Rattle.key_purposes.specs.Messages.{are_for}
 use Rattle.key_purposes.specs.declared.purpose.Purpose.{Purpose}
 use Rattle.filter_model.specs.Lists.{Listed}
 use Rattle.filter_model.specs.Pairs.{Pair, half_of, new_pair}
-use Rattle.filter_model.specs.Filters.{AllFit, Connected, Ended, Happening, Heard, Joined, State, Took, find_pair, first_state, step, told}
+use Rattle.filter_model.specs.Filters.{AllFit, Connected, Ended, Happening, Heard, Joined, Lost, State, Took, find_pair, first_state, step, told}
 
 -- ---- what a pair ever did
 
@@ -63,6 +63,7 @@ streamed (Connected number) pair watched = watched
 streamed (Heard number side piece) pair watched = change_stream side (with_heard piece) watched
 streamed (Took number side count) pair watched =
     change_stream side (with_sent (take count (half_of side pair).owed)) watched
+streamed (Lost number) pair watched = watched
 streamed (Ended number) pair watched = watched
 
 -- an event of this pair, which is open or isn't
@@ -87,13 +88,21 @@ watch state number watched Joined = if number == suc state.last_pair then Some n
 watch state number watched (Connected other) = watch_if (number == other) state number (Connected other) watched
 watch state number watched (Heard other side piece) = watch_if (number == other) state number (Heard other side piece) watched
 watch state number watched (Took other side count) = watch_if (number == other) state number (Took other side count) watched
+watch state number watched (Lost other) = watch_if (number == other) state number (Lost other) watched
 watch state number watched (Ended other) = watch_if (number == other) state number (Ended other) watched
+
+-- the pair as the filter has it, where it is open: another pair's event may have taken a spare connection from it
+abbrev pub seen_at : Option Pair → Option Watched → Option Watched
+seen_at None watched = watched
+seen_at (Some pair) None = None
+seen_at (Some pair) (Some watched) = Some (record watched { pair = pair })
 
 -- the same with more events
 abbrev pub watched_on : ℕ → State → Option Watched → List Happening → Option Watched
 watched_on number state watched [] = watched
 watched_on number state watched (event ∷ later) =
-    watched_on number (step state event) (watch state number watched event) later
+    let after = step state event in
+    watched_on number after (seen_at (find_pair number after.pairs) (watch state number watched event)) later
 
 -- what is known of the pair of this number after these events of a new filter, where it joined
 abbrev pub watched_of : ℕ → Listed → List Happening → Option Watched
@@ -216,16 +225,16 @@ answers exchanges = flat_map (λ exchange. exchange.answers) exchanges
 abbrev pub replies : List Exchange → List ℕ
 replies exchanges = flat_map (λ exchange. exchange.reply) exchanges
 
--- what holds while a pair has no connection to the agent behind: a body that waits for its reply is owed whole, none that
--- was sent is unanswered, and no bind was ever sent
+-- what holds while a pair's connection to the agent behind isn't used, or there is none: a body that waits for its reply
+-- is owed whole, none that was sent is unanswered, and no bind was ever sent
 pub record IsApart (pair : Pair) (exchanges : List Exchange) (pending : List (List ℕ)) : Type 0 where
   pub unheard : pair.upstream.heard ≡ []
   pub whole : pair.upstream.owed ≡ frames pending
   pub unbound : list_any is_bind (bodies exchanges) ≡ false
 
 -- what a pair sent and is owed: upstream the frames of the taken bodies that are forwarded, and the client a reply to
--- each body in order, but for the last at most. A connection to the agent behind begins and is given back between two
--- frames, and once a bind was sent on it, no other one is made
+-- each body in order, but for the last at most. A connection to the agent behind begins and is given back or lost between
+-- two frames, and once a bind was sent on it, no other one is made
 pub record IsExact (listed : Listed) (watched : Watched) : Type 0 where
   pub taken : List (List ℕ)
   pub exchanges : List Exchange
@@ -240,7 +249,8 @@ pub record IsExact (listed : Listed) (watched : Watched) : Type 0 where
   pub each : All (IsExchange listed) exchanges
   pub last : IsPending watched.pair.waits listed pending
   pub bound : watched.pair.is_bound ≡ list_any is_bind taken
-  pub apart : watched.pair.is_linked ≡ false → IsApart watched.pair exchanges pending
+  pub unused : watched.pair.is_linked ≡ false → watched.pair.is_used ≡ false
+  pub apart : watched.pair.is_used ≡ false → IsApart watched.pair exchanges pending
 
 -- the pieces of an event are bytes
 abbrev pub IsInRange : Happening → Type 0
@@ -248,6 +258,7 @@ IsInRange Joined = Unit {0}
 IsInRange (Connected number) = Unit {0}
 IsInRange (Heard number side piece) = IsBytes piece
 IsInRange (Took number side count) = Unit {0}
+IsInRange (Lost number) = Unit {0}
 IsInRange (Ended number) = Unit {0}
 
 -- the law

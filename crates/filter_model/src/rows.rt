@@ -4,9 +4,9 @@
 ghost use Rattle.std.specs.Prelude.{◌≡◌, [], ◌∷◌, ◌++◌, codes, length, false, true};
 ghost use Rattle.key_purposes.specs.declared.purpose.Purpose.TheVariants as purpose;
 ghost use Rattle.pair_ports.specs.declared.side.Side.TheVariants.{Client, Upstream};
-ghost use Rattle.filter_model.specs.Filters.{Heard, Took, can_send, has_place, is_reached, wants};
-ghost use Rattle.filter_model.specs.Rows.{after, asks, bind, failed, linked, list, one_listed, owed, owed_for, remove_all, sign, sign_commit, sign_login, three, took_reply, two_listed};
-ghost use Rattle.filter_model.specs.PairRows.{accept_none, asks_list, close_of, connect_failed, connect_made, connect_none, disconnect_of, is_legal, joins, poll_door, poll_nothing, poll_reply, read_none, read_of, write_of};
+ghost use Rattle.filter_model.specs.Filters.{Heard, Lost, Took, can_send, has_place, is_reached, trimmed, wants};
+ghost use Rattle.filter_model.specs.Rows.{after, answered, asks, bind, failed, linked, list, one_listed, owed, owed_for, remove_all, sign, sign_commit, sign_login, spare_beside, three, took_reply, two_listed};
+ghost use Rattle.filter_model.specs.PairRows.{accept_none, asks_list, close_of, connect_failed, connect_made, connect_none, disconnect_of, gets_reply, is_legal, joins, poll_door, poll_nothing, poll_reply, read_end, read_none, read_of, write_of};
 
 /// A list is forwarded, and its reply is cut to the keys that are listed.
 pub fn a_list_is_cut()
@@ -50,23 +50,35 @@ pub fn others_are_kept_in_order()
     ensures whole { wants 1 Client (after (Heard 1 Client (list ++ list) ∷ [])) ≡ false }
 {}
 
-/// The connection to the agent behind is given back behind a reply, unless a bind was sent on it, answered by whatever.
-/// There are 64 at most.
+/// A pair keeps its connection to the agent behind, and asks again over it, unless more than 16 that owe nothing keep one,
+/// or no place is left for another. Who lost one gets another, unless a bind was sent on it, or a request that isn't
+/// answered. There are 64 at most.
 pub fn connections_are_few()
     ensures waiting { can_send 1 Upstream (after (Heard 1 Client list ∷ [])) ≡ true }
     ensures refused { can_send 1 Upstream (after (Heard 1 Client remove_all ∷ [])) ≡ false }
     ensures linked { is_reached 1 Upstream (after (asks list)) ≡ true }
     ensures under_way { (after (asks list)).parts ≡ [] }
-    ensures given_back { (after (asks list ++ Heard 1 Upstream failed ∷ [])).parts ≡ 1 ∷ [] }
-    ensures gone { is_reached 1 Upstream (after (asks list ++ Heard 1 Upstream failed ∷ [])) ≡ false }
-    ensures bound { (after (asks bind ++ Heard 1 Upstream failed ∷ [])).parts ≡ [] }
-    ensures stays { is_reached 1 Upstream (after (asks bind ++ Heard 1 Upstream failed ∷ [])) ≡ true }
+    ensures kept { (after (answered list [])).parts ≡ [] }
+    ensures stays { is_reached 1 Upstream (after (answered list [])) ≡ true }
+    ensures spare { (after (answered list [])).spares ≡ 1 ∷ [] }
+    ensures bound { (after (answered bind [])).spares ≡ [] }
+    ensures bound_stays { is_reached 1 Upstream (after (answered bind [])) ≡ true }
+    ensures sixteen { (trimmed (spare_beside 15)).parts ≡ [] }
+    ensures seventeen { (trimmed (spare_beside 16)).parts ≡ 1 ∷ [] }
+    ensures gone { is_reached 1 Upstream (trimmed (spare_beside 16)) ≡ false }
     ensures last_place { has_place (linked 63) ≡ true }
     ensures full { has_place (linked 64) ≡ false }
+    ensures makes_room { (trimmed (record (linked 64) { spares = 2 ∷ [] })).parts ≡ 2 ∷ [] }
+    ensures has_room { (trimmed (record (linked 63) { spares = 2 ∷ [] })).parts ≡ [] }
+    ensures lost_idle { (after (answered list (Lost 1 ∷ []))).parts ≡ 1 ∷ [] }
+    ensures lost_unsent { owed Upstream (answered list (took_reply ∷ Heard 1 Client list ∷ Lost 1 ∷ [])) ≡ list }
+    ensures asks_anew { can_send 1 Upstream (after (answered list (took_reply ∷ Heard 1 Client list ∷ Lost 1 ∷ []))) ≡ true }
+    ensures lost_sent { (after (asks list ++ Lost 1 ∷ [])).closes ≡ 1 ∷ [] }
+    ensures lost_bound { (after (answered bind (Lost 1 ∷ []))).closes ≡ 1 ∷ [] }
 {}
 
 /// Journals: what is ready is served in its turn and before a poll, pairs are closed at once, and so are connections that
-/// are given back.
+/// ended.
 pub fn journals_are_legal()
     ensures unbound { is_legal (poll_door ∷ []) ≡ false }
     ensures joined { is_legal (joins (read_none Client ∷ accept_none ∷ poll_nothing ∷ [])) ≡ true }
@@ -79,10 +91,11 @@ pub fn journals_are_legal()
         ∷ write_of Upstream 4 (0 ∷ 0 ∷ 0 ∷ 1 ∷ []) ∷ [])) ≡ false }
     ensures no_place { is_legal (joins (read_of Client 5 list ∷ connect_none ∷ accept_none ∷ read_none Client
         ∷ poll_nothing ∷ [])) ≡ true }
-    ensures answered { is_legal (joins (asks_list (poll_reply ∷ read_of Upstream 5 failed ∷ disconnect_of 1
-        ∷ write_of Client 5 failed ∷ poll_nothing ∷ []))) ≡ true }
-    ensures held { is_legal (joins (asks_list (poll_reply ∷ read_of Upstream 5 failed ∷ write_of Client 5 failed ∷ [])))
-        ≡ false }
+    ensures answered { is_legal (joins (asks_list (gets_reply (read_none Upstream ∷ poll_nothing ∷ [])))) ≡ true }
+    ensures needed { is_legal (joins (asks_list (poll_reply ∷ read_of Upstream 5 failed ∷ disconnect_of 1 ∷ []))) ≡ false }
+    ensures ended_idle { is_legal (joins (asks_list (gets_reply (read_end Upstream ∷ disconnect_of 1 ∷ poll_nothing ∷ []))))
+        ≡ true }
+    ensures held { is_legal (joins (asks_list (gets_reply (read_end Upstream ∷ poll_nothing ∷ [])))) ≡ false }
     ensures ended { is_legal (joins (read_of Client 5 list ∷ connect_failed ∷ close_of 1 ∷ accept_none
         ∷ poll_nothing ∷ [])) ≡ true }
     ensures left_open { is_legal (joins (read_of Client 5 list ∷ connect_failed ∷ accept_none ∷ [])) ≡ false }
