@@ -1,6 +1,7 @@
 #!/usr/bin/env python3
 """Random clients and agents on both sides of the built filter, over sockets, beside the model: each side is sent the same
 bytes, a connection to the agent behind is made and given back at the same piece, and a pair is closed at the same one.
+More pairs are open than may keep a connection that they don't need.
 
     model/differential_filter.py FILTER [RUNS [SEED]]
     model/differential_filter.py --wrong [RUNS [SEED]]
@@ -26,10 +27,10 @@ if not __package__:
     sys.dont_write_bytecode = True
     sys.path.insert(0, str(Path(__file__).resolve().parents[1]))
 
-from model.filter import BIND, Pair
+from model.filter import BIND, Links, Pair
 from model.wire import string, uint32
 
-PAIRS, PIECES, PATIENCE = 4, 60, 20.0
+PAIRS, PIECES, PATIENCE = 48, 1200, 20.0
 
 # What a filter that waits for an answer leaves in the socket has to fit there. Python's own time limit would wait until
 # three quarters of the socket are free, and a piece counts until all of it was read: so the kernel's limit is used.
@@ -84,8 +85,7 @@ def request(dice: random.Random) -> bytes:
     bind = b"\x1b" + string(BIND) + string(host) + string(b"session") + string(b"sg") + b"\1"
     body = dice.choice(
         (
-            b"\x0b",
-            b"\x0b",
+            *(b"\x0b",) * 8,
             sign,
             sign,
             bind,
@@ -124,7 +124,7 @@ def answer(dice: random.Random, waits: str) -> bytes:
 class Played:
     """A pair of the built filter, beside the model's."""
 
-    def __init__(self, path: str, listener: socket.socket, purposes: set[bytes] | None) -> None:
+    def __init__(self, path: str, listener: socket.socket, purposes: set[bytes] | None, links: Links) -> None:
         client = socket.socket(socket.AF_UNIX)
         client.settimeout(PATIENCE)
         client.setsockopt(socket.SOL_SOCKET, socket.SO_SNDTIMEO, SENDING)
@@ -133,7 +133,7 @@ class Played:
         self.ends = {"client": client}
         self.seen = {"client": b"", "upstream": b""}
         self.kept = {"client": b"", "upstream": b""}
-        self.model = Pair(set(LISTED), purposes)
+        self.model = Pair(set(LISTED), purposes, links)
 
     def close(self) -> None:
         for end in self.ends.values():
@@ -143,7 +143,7 @@ class Played:
         """A side sends a piece, or ends where it is empty."""
         if not piece:
             self.ends[side].shutdown(socket.SHUT_RDWR)
-            self.model.end()
+            self.model.end(side)
             return
         self.model.hear(side, piece)
         end = self.ends[side]
@@ -210,6 +210,9 @@ class Script:
         if side == "client" and len(model.unread["client"]) > MOST_UNREAD:
             return None
         if side == "client" and not self.left["client"]:
+            # Clients rest between requests, so that many owe nothing at once.
+            if dice.random() < 0.85:
+                return None
             self.left["client"] += b"".join(request(dice) for _ in range(dice.choice((1, 1, 2, 5))))
             if dice.random() < 0.01:
                 self.left["client"] += dice.choice((bytes(4), uint32(262145)))
@@ -217,7 +220,7 @@ class Script:
         if chance < 0.01 and model.wants(side):
             return side, b""
         if chance < 0.02 and model.is_linked and not model.waits:
-            return "upstream", b"\0"
+            return "upstream", dice.choice((b"\0", b""))
         count = dice.choice((len(self.left[side]), len(self.left[side]), 1, 3, 16384))
         piece = bytes(self.left[side][:count])
         del self.left[side][:count]
@@ -228,17 +231,22 @@ def play(
     dice: random.Random, path: str, listener: socket.socket, purposes: set[bytes] | None, seen: Counter
 ) -> None:
     """Pairs beside each other, of which one after another gets a piece."""
-    played = [(Played(path, listener, purposes), Script()) for _ in range(PAIRS)]
+    links = Links()
+    played = [(Played(path, listener, purposes, links), Script()) for _ in range(PAIRS)]
     for _ in range(PIECES):
         number = dice.randrange(PAIRS)
         pair, script = played[number]
         if not pair.model.is_open:
             seen["closed"] += 1
             pair.close()
-            played[number] = Played(path, listener, purposes), Script()
+            played[number] = Played(path, listener, purposes, links), Script()
         elif step := script.next(dice, pair.model):
             pair.send(*step)
             pair.compare()
+            for other, _ in played:
+                if other is not pair and other.model.is_open and "upstream" in other.ends and not other.model.is_linked:
+                    seen["given back"] += 1
+                    other.follow()
             seen[f"waits for {pair.model.waits}"] += 1
     for pair, _ in played:
         pair.close()
@@ -276,29 +284,35 @@ WRONG = {
     "takes a request before the answer": ("        if self.waits:\n            return False\n", ""),
     "passes on what is no list": ('raise Fault("no list")', "return body"),
     "refuses without an answer": ("string(body if self.waits else FAILURE)", "(string(body) if self.waits else b'')"),
-    "gives a bound connection back": ("self.is_linked = self.is_bound", "self.is_linked = False"),
-    "holds what nobody needs": ("        self.is_linked = self.is_bound\n", ""),
+    "gives a bound connection back": ("self.is_linked and not self.is_bound and not", "self.is_linked and not"),
+    "gives one back that owes": ("not self.is_bound and not self.waits", "not self.is_bound"),
+    "keeps one more": ("len(self.spares) > MOST_SPARES", "len(self.spares) > MOST_SPARES + 1"),
+    "keeps none": ("len(self.spares) > MOST_SPARES", "len(self.spares) > 0"),
+    "gives the newest one back": ("self.spares.pop(0)", "self.spares.pop()"),
+    "exchanges a bound connection": ('if side == "client" or self.waits or self.is_bound:', 'if side == "client" or self.waits:'),
+    "ends where an idle connection does": ('if side == "client" or self.waits or self.is_bound:', "if True:"),
     "takes no bind for one": ("self.is_bound = self.is_bound or is_bind(body)", "pass"),
-    "connects for what it refuses": ("if self.waits and not self.is_linked:", "if not self.is_linked:"),
+    "connects for what it refuses": ("        if self.waits:\n            self.link(True)", "        self.link(True)"),
     "has no longest message": ("LONGEST = 262144", "LONGEST = 1 << 32"),
 }
 
 
-def differs(wrong: type[Pair], dice: random.Random) -> bool:
+def differs(wrong: dict, dice: random.Random) -> bool:
     """Whether a wrong model does something else at one piece of a script."""
     purposes = given(dice.choice(PURPOSES))
-    model, other, script = Pair(set(LISTED), purposes), wrong(set(LISTED), purposes), Script()
+    kinds = ((Pair, Links()), (wrong["Pair"], wrong["Links"]()))
+    pairs = [[kind(set(LISTED), purposes, links) for kind, links in kinds] + [Script()] for _ in range(PAIRS)]
     for _ in range(PIECES):
-        if (step := script.next(dice, model)) is None:
+        model, other, script = pairs[dice.randrange(PAIRS)]
+        if not model.is_open or (step := script.next(dice, model)) is None:
             continue
         side, piece = step
         for each in (model, other):
-            each.hear(side, piece) if piece else each.end()
-        states = [(each.sent, each.is_open, each.made, each.is_linked) for each in (model, other)]
-        if states[0] != states[1]:
-            return True
-        if not model.is_open:
-            return False
+            each.hear(side, piece) if piece else each.end(side)
+        for model, other, _ in pairs:
+            states = [(each.sent, each.is_open, each.made, each.is_linked) for each in (model, other)]
+            if states[0] != states[1]:
+                return True
     return False
 
 
@@ -309,7 +323,7 @@ def try_wrong(runs: int, seed: str) -> int:
         assert text.count(old) == 1, name
         found: dict = {"__name__": "model.wrong", "__package__": "model", "LISTED": LISTED}
         exec(compile(text.replace(old, new), name, "exec"), found)
-        if not any(differs(found["Pair"], random.Random(f"{seed} {run}")) for run in range(runs)):
+        if not any(differs(found, random.Random(f"{seed} {run}")) for run in range(runs)):
             unseen.append(name)
     print(f"filter: {len(WRONG) - len(unseen)} of {len(WRONG)} wrong models are told from the right one {unseen or ''}")
     return len(unseen) > 0

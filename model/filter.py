@@ -7,6 +7,7 @@ from .formats import login
 from .wire import Fault, Reader, string, take_frame, uint32
 
 LONGEST = 262144
+MOST_LINKS, MOST_SPARES = 64, 16
 FAILURE = b"\x05"
 BIND = b"session-bind@openssh.com"
 DIGESTS = {b"sha256": 32, b"sha512": 64}
@@ -78,12 +79,31 @@ def identities(body: bytes) -> list[tuple[bytes, bytes]] | None:
     return None if found is None else list(zip(found[1::2], found[2::2]))
 
 
-class Pair:
-    """A client's connection, and while it needs one, one of its own to the agent behind. `sent` is what each side was
-    sent, and `made` how many connections to the agent behind were made."""
+class Links:
+    """The connections of a filter's pairs to the agent behind: how many there are, and the pairs that owe nothing over
+    theirs and never bound it, the one first of which it is so longest."""
 
-    def __init__(self, listed: set[bytes], purposes: set[bytes] | None = None) -> None:
+    def __init__(self) -> None:
+        self.count = 0
+        self.spares: list[Pair] = []
+
+    def tell(self, pair: Pair) -> None:
+        """Something happened to this pair."""
+        if not pair.is_spare():
+            self.spares = [other for other in self.spares if other is not pair]
+        elif pair not in self.spares:
+            self.spares.append(pair)
+        if self.spares and (len(self.spares) > MOST_SPARES or self.count >= MOST_LINKS):
+            self.spares.pop(0).link(False)
+
+
+class Pair:
+    """A client's connection, and at times one of its own to the agent behind. `sent` is what each side was sent, and
+    `made` how many connections to the agent behind were made."""
+
+    def __init__(self, listed: set[bytes], purposes: set[bytes] | None = None, links: Links | None = None) -> None:
         self.listed, self.purposes = listed, purposes
+        self.links = links or Links()
         self.unread = {"client": bytearray(), "upstream": bytearray()}
         self.sent = {"client": b"", "upstream": b""}
         self.waits: str | None = None
@@ -101,15 +121,34 @@ class Pair:
                 while self.answer() or self.request():
                     pass
             except Fault:
-                self.is_open = False
+                self.close()
+            self.links.tell(self)
 
     def wants(self, side: str) -> bool:
         """Whether a side is read: not while a whole message of it waits. Its end isn't noticed either then."""
         return (side == "client" or self.is_linked) and take_frame(bytearray(self.unread[side]), LONGEST) is None
 
-    def end(self) -> None:
-        """Either side sends no more."""
+    def end(self, side: str) -> None:
+        """A side sends no more. Where nothing was under way at the agent behind, its end isn't the pair's."""
+        if side == "client" or self.waits or self.is_bound:
+            self.close()
+        else:
+            self.link(False)
+        self.links.tell(self)
+
+    def close(self) -> None:
         self.is_open = False
+        self.link(False)
+
+    def link(self, is_linked: bool) -> None:
+        """There is a connection to the agent behind from here on, or none."""
+        self.links.count += is_linked - self.is_linked
+        self.made += is_linked and not self.is_linked
+        self.is_linked = is_linked
+
+    def is_spare(self) -> bool:
+        """Whether there is a connection to the agent behind that isn't needed."""
+        return self.is_linked and not self.is_bound and not self.waits
 
     def request(self) -> bool:
         """Takes the client's next request, where no reply is waited for. Whether there was one."""
@@ -123,9 +162,8 @@ class Pair:
         elif is_signature_request(body, self.listed, self.purposes) or is_bind(body):
             self.waits = "reply"
         self.sent["upstream" if self.waits else "client"] += string(body if self.waits else FAILURE)
-        if self.waits and not self.is_linked:
-            self.is_linked = True
-            self.made += 1
+        if self.waits:
+            self.link(True)
         self.is_bound = self.is_bound or is_bind(body)
         return True
 
@@ -140,7 +178,6 @@ class Pair:
             return False
         self.sent["client"] += string(self.cut(body) if self.waits == "list" else body)
         self.waits = None
-        self.is_linked = self.is_bound
         return True
 
     def cut(self, body: bytes) -> bytes:

@@ -25,7 +25,7 @@ from rig import FAILURE, IDENTITIES, LIST, SIGN, Agent, Peer, openssh_agent, our
 
 check = rig.Checks("filter")
 PROGRAM = pathlib.Path(os.environ.get("FILTER", rig.BUILT / "filter_proxy"))
-MOST, LINKS, LONGEST = 128, 64, 262144
+MOST, LINKS, SPARES, LONGEST = 128, 64, 16, 262144
 # A session bind whose host key no agent reads.
 BIND = b"\x1b" + string(b"session-bind@openssh.com") + string(b"key") + string(b"session") + string(b"sg") + b"\0"
 
@@ -348,31 +348,101 @@ def played(folder, text=""):
             yield client, upstream, before, behind
 
 
+def passes(client, upstream, body=bytes([LIST]), answer=bytes([FAILURE])):
+    """A request goes over this connection to the agent behind, and the answer back."""
+    client.send(body)
+    assert upstream.reply() == body
+    upstream.send(answer)
+    assert client.reply() == answer
+
+
 @check
-def a_connection_is_made_for_a_request_and_given_back_behind_it(folder):
+def a_connection_is_made_for_the_first_request_and_stays(folder):
     with Behind(folder) as behind, filtered(folder, behind.path, "") as before, before.peer() as client:
         assert client.ask(rig.REMOVE_ALL) == bytes([FAILURE])
         behind.waits()
         client.send(bytes([LIST]), bytes([LIST]))
-        for answer in (bytes([IDENTITIES, 0, 0, 0, 0]), bytes([FAILURE])):
-            with behind.peer() as upstream:
+        with behind.peer() as upstream:
+            for answer in (bytes([IDENTITIES, 0, 0, 0, 0]), bytes([FAILURE])):
                 assert upstream.reply() == bytes([LIST])
                 upstream.send(answer)
                 assert client.reply() == answer
-                assert upstream.has_ended()
-        # Once a bind was sent it stays, whatever the answer was.
-        client.send(BIND)
-        with behind.peer() as upstream:
-            assert upstream.reply() == BIND
-            upstream.send(bytes([FAILURE]))
-            assert client.reply() == bytes([FAILURE])
-            client.send(bytes([LIST]))
-            assert upstream.reply() == bytes([LIST])
-            upstream.send(bytes([FAILURE]))
-            assert client.reply() == bytes([FAILURE])
+            passes(client, upstream, BIND)
+            passes(client, upstream)
             behind.waits()
             client.close()
             assert upstream.has_ended()
+
+
+@check
+def sixteen_idle_clients_that_never_bound_keep_a_connection(folder):
+    with Behind(folder) as behind, filtered(folder, behind.path, "") as before, contextlib.ExitStack() as stack:
+        peers = [stack.enter_context(before.peer()) for _ in range(SPARES + 2)]
+        links = []
+        for number, peer in enumerate(peers):
+            peer.send(BIND if number == 0 else bytes([LIST]))
+            links.append(stack.enter_context(behind.peer()))
+            assert links[-1].reply() == (BIND if number == 0 else bytes([LIST]))
+            # The second one's answer comes last, so the third one has been idle longest.
+            if number != 1:
+                links[-1].send(bytes([FAILURE]))
+                assert peer.reply() == bytes([FAILURE])
+        assert not replied(links)
+        links[1].send(bytes([FAILURE]))
+        assert peers[1].reply() == bytes([FAILURE])
+        assert links[2].has_ended() and not replied(links[:2] + links[3:])
+        # Its client doesn't notice, and the next one in the line goes.
+        peers[2].send(bytes([LIST]))
+        with behind.peer() as upstream:
+            assert upstream.reply() == bytes([LIST])
+            upstream.send(bytes([FAILURE]))
+            assert peers[2].reply() == bytes([FAILURE])
+            assert links[3].has_ended()
+            for number in (0, 1, 4):
+                passes(peers[number], links[number])
+            behind.waits()
+
+
+@check
+def an_idle_connection_that_ends_is_made_anew(folder):
+    with Behind(folder) as behind, filtered(folder, behind.path, "") as before, before.peer() as client:
+        client.send(bytes([LIST]))
+        for rested in (0.2, 0):
+            with behind.peer() as upstream:
+                assert upstream.reply() == bytes([LIST])
+                upstream.send(bytes([FAILURE]))
+                assert client.reply() == bytes([FAILURE])
+            # With no rest the filter hears of the end and of the request at once, or of the request first.
+            time.sleep(rested)
+            client.send(bytes([LIST]))
+        with behind.peer() as upstream:
+            assert upstream.reply() == bytes([LIST])
+        # A request that was sent is not sent again.
+        assert client.has_ended()
+
+
+@check
+def the_end_and_the_next_request_may_come_at_once(folder):
+    with Behind(folder) as behind, filtered(folder, behind.path, "") as before:
+        for body in (bytes([LIST]), BIND):
+            for ends_first in (True, False):
+                with before.peer() as client:
+                    client.send(bytes([LIST]))
+                    with behind.peer() as upstream:
+                        assert upstream.reply() == bytes([LIST])
+                        upstream.send(bytes([FAILURE]))
+                        assert client.reply() == bytes([FAILURE])
+                        # While the filter stands still both happen.
+                        os.kill(before.process.pid, signal.SIGSTOP)
+                        if not ends_first:
+                            client.send(body)
+                    if ends_first:
+                        client.send(body)
+                    os.kill(before.process.pid, signal.SIGCONT)
+                    with behind.peer() as upstream:
+                        assert upstream.reply() == body
+                        upstream.send(bytes([FAILURE]))
+                        assert client.reply() == bytes([FAILURE])
 
 
 @check
@@ -519,8 +589,8 @@ def words_lists_and_sockets_that_are_refused(folder):
 @check
 def random_clients_and_agents_beside_the_model(folder):
     model = rig.TOP / "model/differential_filter.py"
-    print(run([model, rig.there(PROGRAM), 40]), end="")
-    print(run([model, "--wrong", 300, 1]), end="")
+    print(run([model, rig.there(PROGRAM), 4]), end="")
+    print(run([model, "--wrong", 40, 1]), end="")
 
 
 # mortarleek-filter.

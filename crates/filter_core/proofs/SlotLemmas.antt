@@ -2,7 +2,7 @@
 use Rattle.std.proofs.Common.{◌≡◌, ◌∙◌, ℕ, zero, suc, ◌+◌, ◌-◌, ◌^◌, ◌<◌, List, [], ◌∷◌, ◌++◌, Bool, true, false, length, cond, get_or, set, refl, ap, arith, sym, subst, Option, Some, None, slice_get, Result, Ok, Err}
 use Rattle.std.proofs.lemmas.List.{map-set, map-append, drop-map, take-map}
 use Rattle.std.specs.Prelude.{OnOk}
-use Rattle.std.proofs.lemmas.Option.{slice_get-map}
+use Rattle.std.proofs.lemmas.Option.{none-some, same_Some, slice_get-map}
 use Rattle.std.specs.List.{count_by, filter, remove}
 use Rattle.std.proofs.lemmas.List.Sums.{length-filter}
 use Rattle.std.specs.Option.{option_map}
@@ -172,19 +172,28 @@ trims_empty : (test : Bool) (state : State) → trimmed_by test [] state ≡ sta
 trims_empty true state = refl
 trims_empty false state = refl
 
+no-first : (numbers : List ℕ) → slice_get numbers 0 ≡ None → numbers ≡ []
+no-first [] none = refl
+no-first (number ∷ later) none = absurd (none-some number (sym none))
+
 -- none is spare
-pub trims_none : (state : State) → state.spares ≡ [] → trimmed state ≡ state
-trims_none state none = ap (λ (spares : List ℕ). trimmed_by (is_crowded state) spares state) none ∙ trims_empty (is_crowded state) state
+pub trims_none : (state : State) → slice_get state.spares 0 ≡ None → trimmed state ≡ state
+trims_none state none =
+    ap (λ (spares : List ℕ). trimmed_by (is_crowded state) spares state) (no-first state.spares none) ∙ trims_empty (is_crowded state) state
 
 -- not too many are
 pub trims_not : (state : State) → is_crowded state ≡ false → trimmed state ≡ state
 trims_not state few = ap (λ (test : Bool). trimmed_by test state.spares state) few
 
 -- too many are
-pub trims_one : (state : State) (oldest : ℕ) (later : List ℕ) → state.spares ≡ oldest ∷ later → is_crowded state ≡ true
+pub trims_one : (state : State) (oldest : ℕ) → slice_get state.spares 0 ≡ Some oldest → is_crowded state ≡ true
     → trimmed state ≡ record state { pairs = unlinked_in oldest state.pairs; spares = without oldest state.spares; parts = state.parts ++ oldest ∷ [] }
-trims_one state oldest later spares crowded =
-    ap (λ (test : Bool). trimmed_by test state.spares state) crowded ∙ ap (λ (l : List ℕ). trimmed_by true l state) spares
+trims_one state oldest first crowded = ap (λ (test : Bool). trimmed_by test state.spares state) crowded ∙ by_spares state.spares first
+  where
+    by_spares : (spares : List ℕ) → slice_get spares 0 ≡ Some oldest
+        → trimmed_by true spares state ≡ record state { pairs = unlinked_in oldest state.pairs; spares = without oldest state.spares; parts = state.parts ++ oldest ∷ [] }
+    by_spares [] is = absurd (none-some oldest is)
+    by_spares (number ∷ later) is = ap (λ (l : ℕ). trimmed_by true (l ∷ later) state) (same_Some number oldest is)
 
 -- what follows where memory sufficed
 pub after_ok : {T E : Type 0} {P Q : Type 0} (result : Result T E) → (P → Q) → OnOk result P → OnOk result Q

@@ -2,7 +2,7 @@
 
 ghost use Rattle.std.specs.Prelude.{◌≡◌, ◌↔◌, ◌-◌, ◌^◌, ◌<◌, ◌≤◌, [], ◌∷◌, ◌++◌, IsSome, IsTrue, MatchOption, None, OnOk, Some, count_by, false, length, slice_get, true};
 ghost use Rattle.std.specs.List.{remove};
-ghost use Rattle.filter_model.specs.Filters.{Fits, Joined, at_pair, can_send, find_pair, first_state, happened, has_place, is_crowded, is_reached, joined, links, owed_of, parted, spares_if, step, trimmed, unlinked_in, wants, without};
+ghost use Rattle.filter_model.specs.Filters.{Fits, Joined, at_pair, can_send, find_pair, first_state, happened, has_number, has_place, is_crowded, is_reached, joined, links, owed_of, parted, spares_if, step, trimmed, unlinked_in, wants, without};
 ghost use Rattle.filter_model.specs.Pairs.{Pair, is_spare};
 ghost use Rattle.filter_core.specs.Happenings.{happening};
 ghost use Rattle.filter_core.specs.Slots.{FitsPair, listed_of, pair_of, pairs_of};
@@ -34,7 +34,7 @@ pub struct Filter {
     // By their numbers, which rise.
     slots: Vec<Slot>,
     last: u64,
-    // The pairs with a spare connection to the agent behind, the one first whose last event is the longest ago.
+    // The pairs whose connection to the agent behind is spare, the one first of which it is so longest.
     spares: Vec<u64>,
     closed: Vec<u64>,
     parted: Vec<u64>,
@@ -223,10 +223,13 @@ impl Filter {
     fn trim(&mut self) -> Result<(), AllocError>
         ensures { OnOk result (self.new ≡ trimmed self.old) }
     {
-        match self.spares.first() {
-            Some(oldest) if self.is_crowded() => self.part(*oldest),
-            _ => Ok(()),
+        let Some(oldest) = first_of(&self.spares) else {
+            return Ok(());
+        };
+        if self.is_crowded() {
+            return self.part(oldest);
         }
+        Ok(())
     }
 
     // Gives the connection of this pair back.
@@ -328,14 +331,43 @@ fn drop_spare(spares: &mut Vec<u64>, number: u64)
     spares.retain(|other| number != *other);
 }
 
-// Notes whether the pair of this number has a spare connection, behind all others.
+// The first of these numbers.
+fn first_of(numbers: &[u64]) -> Option<u64>
+    ensures { result ≡ slice_get numbers.now 0 }
+{
+    numbers.first().copied()
+}
+
+// Whether the number is one of these.
+fn has_number(numbers: &[u64], number: u64) -> bool
+    ensures { result ≡ has_number number numbers.now }
+{
+    'others: for other in numbers {
+        if number == *other {
+            return true;
+        }
+    }
+    false
+}
+
+// The pair of this number has a spare connection: behind the others, where that is new.
+fn add_spare(spares: &mut Vec<u64>, number: u64) -> Result<(), AllocError>
+    ensures { OnOk result (spares.new.items ≡ spares_if true number spares.old.items) }
+{
+    if !has_number(spares, number) {
+        spares.push(number)?;
+    }
+    Ok(())
+}
+
+// Notes whether the pair of this number has a spare connection.
 fn note_spare(spares: &mut Vec<u64>, number: u64, is_spare: bool) -> Result<(), AllocError>
     ensures { OnOk result (spares.new.items ≡ spares_if is_spare number spares.old.items) }
 {
-    drop_spare(spares, number);
     if is_spare {
-        spares.push(number)?;
+        return add_spare(spares, number);
     }
+    drop_spare(spares, number);
     Ok(())
 }
 

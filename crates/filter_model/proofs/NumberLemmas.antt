@@ -100,16 +100,21 @@ has-pushed number new numbers =
 
 -- a pair's own event tells whether it has a spare connection
 pub spares-own : (is : Bool) (number : ℕ) (spares : List ℕ) → has_number number (spares_if is number spares) ≡ is
-spares-own true number spares =
-    has-pushed number number (without number spares) ∙ ap (λ b. has_number number (without number spares) || b) (same-number number)
-    ∙ or-some (has_number number (without number spares))
+spares-own true number spares = by_here (has_number number spares) refl
+  where
+    by_here : (here : Bool) → has_number number spares ≡ here → has_number number (if here then spares else spares ++ number ∷ []) ≡ true
+    by_here true is = is
+    by_here false is =
+        has-pushed number number spares ∙ ap (λ b. has_number number spares || b) (same-number number) ∙ or-some (has_number number spares)
 spares-own false number spares = gone-without number spares
 
 -- and tells nothing of the others
 pub spares-other : (is : Bool) (number other : ℕ) (spares : List ℕ) → (number == other) ≡ false → has_number number (spares_if is other spares) ≡ has_number number spares
-spares-other true number other spares apart =
-    has-pushed number other (without other spares) ∙ ap (λ b. has_number number (without other spares) || b) apart
-    ∙ or-none (has_number number (without other spares)) ∙ kept-without number other spares apart
+spares-other true number other spares apart = by_here (has_number other spares)
+  where
+    by_here : (here : Bool) → has_number number (if here then spares else spares ++ other ∷ []) ≡ has_number number spares
+    by_here true = refl
+    by_here false = has-pushed number other spares ∙ ap (λ b. has_number number spares || b) apart ∙ or-none (has_number number spares)
 spares-other false number other spares apart = kept-without number other spares apart
 
 -- ---- how many
@@ -132,10 +137,11 @@ length-tail number numbers =
     omega (arith, less, equal)
 
 pub length-spares : (is : Bool) (number : ℕ) (spares : List ℕ) → length (spares_if is number spares) ≤ suc (length spares)
-length-spares true number spares =
-    let less = length-without number spares in
-    let one = length-append (without number spares) (number ∷ []) in
-    omega (arith, less, one)
+length-spares true number spares = by_here (has_number number spares)
+  where
+    by_here : (here : Bool) → length (if here then spares else spares ++ number ∷ []) ≤ suc (length spares)
+    by_here true = omega arith
+    by_here false = let one = length-append spares (number ∷ []) in omega (arith, one)
 length-spares false number spares =
     let less = length-without number spares in
     omega (arith, less)

@@ -21,9 +21,9 @@ pub record Numbered : Type 0 where
   pub number : ℕ
   pub pair : Pair
 
--- what may be used, the open pairs by rising numbers, the number of the last pair that joined, the pairs that have a
--- spare connection to the agent behind, the one first whose last event is the longest ago, the pairs that the last event
--- closed, and those whose connection to the agent behind it gave back
+-- what may be used, the open pairs by rising numbers, the number of the last pair that joined, the pairs whose connection
+-- to the agent behind is spare, the one first of which it is so longest, the pairs that the last event closed, and those
+-- whose connection to the agent behind it gave back
 pub record State : Type 0 where
   pub listed : Listed
   pub pairs : List Numbered
@@ -155,9 +155,9 @@ Fits (Ended number) state = IsSome (find_pair number state.pairs)
 abbrev pub parted : ℕ → Bool → Bool → List ℕ
 parted number was_linked is_linked = if was_linked && not is_linked then number ∷ [] else []
 
--- the pairs with a spare connection, that of this number last where it has one
+-- the pairs with a spare connection, that of this number among them or not, and behind the others where it is new
 abbrev pub spares_if : Bool → ℕ → List ℕ → List ℕ
-spares_if true number spares = without number spares ++ number ∷ []
+spares_if true number spares = if has_number number spares then spares else spares ++ number ∷ []
 spares_if false number spares = without number spares
 
 -- the pair stays as it was left, or is closed

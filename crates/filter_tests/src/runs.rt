@@ -12,8 +12,8 @@ use std::test::*;
 /// A request for the list arrives upstream.
 const ASKED: &str = "connect 1\n1 upstream 000000010b\n";
 
-/// And the client is told of the first key alone, when the connection was given back.
-const ANSWERED: &str = "connect 1\n1 upstream 000000010b\npart 1\n\
+/// And the client is told of the first key alone.
+const ANSWERED: &str = "connect 1\n1 upstream 000000010b\n\
     1 client 000000500c00000001\
     00000040000000186b657965642d736861323536406578616d706c652e636f6d\
     000000201111111111111111111111111111111111111111111111111111111111111111000000036f6e65\n";
@@ -44,11 +44,13 @@ fn a_list_is_cut_to_the_listed_keys(rt: HostRuntime) -> Result<(), Fail> {
 }
 
 // The calls of that run are a bind, a wait, an accept, a read and an accept that find nothing; a wait, the read of the
-// request, the connect, a read that finds nothing, the write of the request; a wait, the read of the answer, its write; and
-// the last wait.
+// request, the connect, a read that finds nothing, the write of the request; a wait, the read of the answer, its write, a
+// read that finds nothing; and the last wait.
 #[test]
 fn each_failing_call_has_its_end(rt: HostRuntime) -> Result<(), Fail> {
     let alloc = rt.alloc();
+    let connected_twice = format!(in alloc; "connect 1\npart 1\n{}", ANSWERED)?;
+    let given_back = format!(in alloc; "{}part 1\n", ANSWERED)?;
     let cases = [
         (1, FilterStatus::BindFault, ""),
         (2, FilterStatus::PollFault, ""),
@@ -59,7 +61,7 @@ fn each_failing_call_has_its_end(rt: HostRuntime) -> Result<(), Fail> {
         (7, FilterStatus::Done, "close 1\n"),
         (8, FilterStatus::Done, "close 1\n"),
         (9, FilterStatus::Done, "connect 1\nclose 1\n"),
-        (10, FilterStatus::Done, "connect 1\nclose 1\n"),
+        (10, FilterStatus::Done, connected_twice.as_str()),
         (11, FilterStatus::PollFault, ASKED),
         (
             12,
@@ -69,9 +71,10 @@ fn each_failing_call_has_its_end(rt: HostRuntime) -> Result<(), Fail> {
         (
             13,
             FilterStatus::Done,
-            "connect 1\n1 upstream 000000010b\npart 1\nclose 1\n",
+            "connect 1\n1 upstream 000000010b\nclose 1\n",
         ),
-        (14, FilterStatus::PollFault, ANSWERED),
+        (14, FilterStatus::Done, given_back.as_str()),
+        (15, FilterStatus::PollFault, ANSWERED),
     ];
     for (failing, status, deeds) in cases {
         let run = Run {
@@ -122,7 +125,7 @@ fn other_keys_are_refused_and_nothing_overtakes(rt: HostRuntime) -> Result<(), F
         deeds: "1 client 0000000105\n1 client 0000000105\nconnect 1\n\
             1 upstream 000000500d00000040000000186b657965642d736861323536406578616d706c652e636f6d\
             0000002011111111111111111111111111111111111111111111111111111111111111110000000361626300000000\n\
-            part 1\n1 client 000000070e000000027367\n",
+            1 client 000000070e000000027367\n",
         label: "three requests in a piece",
     };
     plays(&rt, alloc, turns, &run);
@@ -155,6 +158,29 @@ fn a_pair_is_closed_where_its_agent_leaves(rt: HostRuntime) -> Result<(), Fail> 
     Ok(())
 }
 
+// The agent behind ends, is there again, and the client asks once more.
+#[test]
+fn a_connection_that_ends_idle_is_made_anew(rt: HostRuntime) -> Result<(), Fail> {
+    let alloc = rt.alloc();
+    let mut turns = a_list(alloc)?;
+    let ends = PairCue::Shut {
+        pair: 1,
+        side: Side::Upstream,
+    };
+    turns.push(vec![in alloc; ends]?)?;
+    turns.push(vec![in alloc; sends(alloc, 1, Side::Client, LIST)?]?)?;
+    let deeds = format!(in alloc; "{}part 1\n{}", ANSWERED, ASKED)?;
+    let run = Run {
+        words: PLAIN,
+        failing: 0,
+        status: FilterStatus::Done,
+        deeds: deeds.as_str(),
+        label: "an agent that ends between two requests",
+    };
+    plays(&rt, alloc, turns, &run);
+    Ok(())
+}
+
 // The third pair's agent answers first.
 #[test]
 fn pairs_are_served_in_their_turn(rt: HostRuntime) -> Result<(), Fail> {
@@ -178,8 +204,8 @@ fn pairs_are_served_in_their_turn(rt: HostRuntime) -> Result<(), Fail> {
         deeds: "connect 1\n2 client 0000000105\nconnect 3\n1 upstream 000000010b\n\
             3 upstream 000000500d00000040000000186b657965642d736861323536406578616d706c652e636f6d\
             0000002011111111111111111111111111111111111111111111111111111111111111110000000361626300000000\n\
-            part 3\n3 client 000000070e000000027367\n\
-            part 1\n1 client 0000000105\n",
+            3 client 000000070e000000027367\n\
+            1 client 0000000105\n",
         label: "three pairs",
     };
     plays(&rt, alloc, turns, &run);

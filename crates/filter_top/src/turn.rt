@@ -3,7 +3,7 @@
 ghost use Rattle.std.specs.Prelude.{◌≡◌, ◌≤◌, [], OnOk, Some, false, length, take, true};
 ghost use Rattle.filter_model.specs.Filters.{Fits, is_reached, step};
 ghost use Rattle.filter_model.specs.declared.thing.Thing.TheVariants.{Accept, Read, Write};
-ghost use Rattle.filter_model.specs.Answered.{Free, after_event, at, due_of};
+ghost use Rattle.filter_model.specs.Answered.{Free, after_event, at, due_of, end_of};
 ghost use Rattle.pair_ports.specs.declared.side.Side.TheVariants.{Upstream};
 ghost use Rattle.world_ports.specs.Worlds.{read_room};
 ghost use Rattle.filter_model.specs.Lines.{first_servable, is_idle};
@@ -100,6 +100,27 @@ fn happen<P: Pairs>(
     settle(line, filter, pairs)
 }
 
+// A side of a pair has ended: the client's end is that of the pair.
+fn end<P: Pairs>(
+    line: &mut Line,
+    filter: &mut Filter,
+    pairs: &mut P,
+    pair: u64,
+    side: Side,
+) -> Result<(), AllocError>
+    requires reached { is_reached pair side filter.old ≡ true }
+    requires pairs { P.last_pair pairs.old ≡ filter.old.last_pair }
+    ensures legal { Goes result (after_event (end_of side pair) filter.old line.old)
+        (P.journal pairs.old) (P.journal pairs.new) (at filter.new line.new Free) }
+    ensures pairs { OnOk result (P.last_pair pairs.new ≡ filter.new.last_pair) }
+    ensures later { P.faults pairs.old ≤ P.faults pairs.new }
+{
+    match side {
+        Side::Client => happen(line, filter, pairs, &FilterEvent::Ended { pair }),
+        Side::Upstream => happen(line, filter, pairs, &FilterEvent::Lost { pair }),
+    }
+}
+
 // Accepts a client, which is ready in both directions.
 fn accept<P: Pairs>(line: &mut Line, filter: &mut Filter, pairs: &mut P) -> Result<(), AllocError>
     requires next { first_servable filter.old line.old ≡ Some Accept }
@@ -172,7 +193,7 @@ fn read<P: Pairs>(
         }
         Ok(Got::End) => {
             line.remove(Thing::Read(pair, side));
-            happen(line, filter, pairs, &FilterEvent::Ended { pair })
+            end(line, filter, pairs, pair, side)
         }
         Ok(Got::NotNow) => {
             line.remove(Thing::Read(pair, side));
@@ -180,7 +201,7 @@ fn read<P: Pairs>(
         }
         Err(WorldFault::Failed) => {
             line.remove(Thing::Read(pair, side));
-            happen(line, filter, pairs, &FilterEvent::Ended { pair })
+            end(line, filter, pairs, pair, side)
         }
         Err(WorldFault::Memory) => Err(AllocError),
     }
@@ -255,7 +276,7 @@ fn write<P: Pairs>(
         }
         Err(WorldFault::Failed) => {
             line.remove(Thing::Write(pair, side));
-            happen(line, filter, pairs, &FilterEvent::Ended { pair })
+            end(line, filter, pairs, pair, side)
         }
         Err(WorldFault::Memory) => Err(AllocError),
     }

@@ -9,9 +9,9 @@ use Rattle.world_ports.specs.declared.answers.WorldFault.{WorldFault}
 use Rattle.world_ports.specs.declared.answers.WorldFault.TheVariants.{Failed, Memory}
 use Rattle.pair_ports.specs.declared.entry.PairEntry.TheVariants as entry
 use Rattle.filter_model.specs.declared.thing.Thing.{Thing}
-use Rattle.filter_model.specs.Filters.{Ended, Heard}
-use Rattle.filter_model.specs.Answered.{Free, after_event, after_read, at}
-use Rattle.filter_top.proofs.CallLemmas.{got_is, read_any, read_open, read_reached}
+use Rattle.filter_model.specs.Filters.{Heard}
+use Rattle.filter_model.specs.Answered.{Free, after_event, after_read, at, end_of}
+use Rattle.filter_top.proofs.CallLemmas.{got_is, read_any, read_reached}
 use Rattle.filter_top.proofs.MoveLemmas.{call_then, first_call, one_call, stops_short, stops_there, told_at}
 use Rattle.filter_top.proofs.turn.read.Goals as goal
 
@@ -22,11 +22,11 @@ happen-heard-requires-clause-fits g c =
       rw c.front_of-piece.ensures.front (omega (arith, length-take c.in-Ok-Bytes.n c.read.new.room, within.0, within.1)),
     )
 
-pub happen-requires-clause-fits : goal.happen-requires-clause-fits
-happen-requires-clause-fits g c = read_open c.args.filter.now c.args.line.now c.args.pair c.args.side c.requires.next
+pub end-requires-clause-reached : goal.end-requires-clause-reached
+end-requires-clause-reached g c = read_reached c.args.filter.now c.args.line.now c.args.pair c.args.side c.requires.next
 
-pub happen-requires-in-Err-Failed-clause-fits : goal.happen-requires-in-Err-Failed-clause-fits
-happen-requires-in-Err-Failed-clause-fits g c = read_open c.args.filter.now c.args.line.now c.args.pair c.args.side c.requires.next
+pub end-requires-in-Err-Failed-clause-reached : goal.end-requires-in-Err-Failed-clause-reached
+end-requires-in-Err-Failed-clause-reached g c = read_reached c.args.filter.now c.args.line.now c.args.pair c.args.side c.requires.next
 
 pub returns-in_default-clause-legal : goal.returns-in_default-clause-legal
 returns-in_default-clause-legal g c =
@@ -62,24 +62,24 @@ returns-in-Ok-End-clause-legal g c =
     let state = c.args.filter.now in
     let line = c.args.line.now in
     let answer : Result Got WorldFault = Ok got.End in
-    call_then c.happen.result (at state line Free) (after_event (Ended c.args.pair) state c.remove.new.self) (at c.happen.new.filter c.happen.new.line Free)
-    (g.P.Pairs.journal c.args.pairs.now) (g.P.Pairs.journal c.read.new.self) (g.P.Pairs.journal c.happen.new.pairs) (entry.Read c.args.pair c.args.side (length c.args.room.now) [] answer)
-    (read_any state line c.args.pair c.args.side (length c.args.room.now) [] answer c.requires.next c.requires.room refl ∙ ap (λ (l : List Thing). Some (after_event (Ended c.args.pair) state l)) (sym c.remove.ensures))
+    call_then c.end.result (at state line Free) (after_event (end_of c.args.side c.args.pair) state c.remove.new.self) (at c.end.new.filter c.end.new.line Free)
+    (g.P.Pairs.journal c.args.pairs.now) (g.P.Pairs.journal c.read.new.self) (g.P.Pairs.journal c.end.new.pairs) (entry.Read c.args.pair c.args.side (length c.args.room.now) [] answer)
+    (read_any state line c.args.pair c.args.side (length c.args.room.now) [] answer c.requires.next c.requires.room refl ∙ ap (λ (l : List Thing). Some (after_event (end_of c.args.side c.args.pair) state l)) (sym c.remove.ensures))
     (told_at (λ r. entry.Read c.args.pair c.args.side (length c.args.room.now) (got_of r c.read.new.room) r) (g.P.Pairs.journal c.args.pairs.now) (g.P.Pairs.journal c.read.new.self)
     (c.in-Ok-End.is ∙ ap Ok c.in-Ok-End.field-0-is) c.read.ensures.told)
-    c.happen.ensures.legal
+    c.end.ensures.legal
 
 pub returns-in-Err-Failed-clause-legal : goal.returns-in-Err-Failed-clause-legal
 returns-in-Err-Failed-clause-legal g c =
     let state = c.args.filter.now in
     let line = c.args.line.now in
     let answer : Result Got WorldFault = Err Failed in
-    call_then c.happen-in-Err-Failed.result (at state line Free) (after_event (Ended c.args.pair) state c.remove-in-Err-Failed.new.self) (at c.happen-in-Err-Failed.new.filter c.happen-in-Err-Failed.new.line Free)
-    (g.P.Pairs.journal c.args.pairs.now) (g.P.Pairs.journal c.read.new.self) (g.P.Pairs.journal c.happen-in-Err-Failed.new.pairs) (entry.Read c.args.pair c.args.side (length c.args.room.now) [] answer)
-    (read_any state line c.args.pair c.args.side (length c.args.room.now) [] answer c.requires.next c.requires.room refl ∙ ap (λ (l : List Thing). Some (after_event (Ended c.args.pair) state l)) (sym c.remove-in-Err-Failed.ensures))
+    call_then c.end-in-Err-Failed.result (at state line Free) (after_event (end_of c.args.side c.args.pair) state c.remove-in-Err-Failed.new.self) (at c.end-in-Err-Failed.new.filter c.end-in-Err-Failed.new.line Free)
+    (g.P.Pairs.journal c.args.pairs.now) (g.P.Pairs.journal c.read.new.self) (g.P.Pairs.journal c.end-in-Err-Failed.new.pairs) (entry.Read c.args.pair c.args.side (length c.args.room.now) [] answer)
+    (read_any state line c.args.pair c.args.side (length c.args.room.now) [] answer c.requires.next c.requires.room refl ∙ ap (λ (l : List Thing). Some (after_event (end_of c.args.side c.args.pair) state l)) (sym c.remove-in-Err-Failed.ensures))
     (told_at (λ r. entry.Read c.args.pair c.args.side (length c.args.room.now) (got_of r c.read.new.room) r) (g.P.Pairs.journal c.args.pairs.now) (g.P.Pairs.journal c.read.new.self)
     (c.in-Err-Failed.is ∙ ap Err c.in-Err-Failed.field-0-is) c.read.ensures.told)
-    c.happen-in-Err-Failed.ensures.legal
+    c.end-in-Err-Failed.ensures.legal
 
 pub returns-in-Ok-NotNow-clause-legal : goal.returns-in-Ok-NotNow-clause-legal
 returns-in-Ok-NotNow-clause-legal g c =

@@ -6,9 +6,9 @@ use Rattle.world_ports.specs.declared.answers.WorldFault.{WorldFault}
 use Rattle.world_ports.specs.declared.answers.WorldFault.TheVariants.{Failed, Memory}
 use Rattle.pair_ports.specs.declared.entry.PairEntry.TheVariants as entry
 use Rattle.filter_model.specs.declared.thing.Thing.{Thing}
-use Rattle.filter_model.specs.Filters.{Ended, Took}
-use Rattle.filter_model.specs.Answered.{Free, after_event, after_write, at}
-use Rattle.filter_top.proofs.CallLemmas.{taken_is, write_any, write_open, write_some}
+use Rattle.filter_model.specs.Filters.{Took}
+use Rattle.filter_model.specs.Answered.{Free, after_event, after_write, at, end_of}
+use Rattle.filter_top.proofs.CallLemmas.{taken_is, write_any, write_some}
 use Rattle.filter_top.proofs.MoveLemmas.{call_then, first_call, one_call, stops_short, stops_there, told_at}
 use Rattle.filter_top.proofs.turn.write.Goals as goal
 
@@ -19,9 +19,6 @@ pub happen-requires-clause-fits : goal.happen-requires-clause-fits
 happen-requires-clause-fits g c =
     let within = subst (λ r. TookWithin r (length c.owed.result.now)) (c.in-Ok-Took.is ∙ ap Ok c.in-Ok-Took.field-0-is) c.write.ensures.within in
     (c.requires.reached, (within.0, rw (← c.owed.ensures) within.1))
-
-pub happen-requires-in-Err-Failed-clause-fits : goal.happen-requires-in-Err-Failed-clause-fits
-happen-requires-in-Err-Failed-clause-fits g c = write_open c.args.filter.now c.args.line.now c.args.pair c.args.side c.requires.next
 
 pub returns-in_default-clause-legal : goal.returns-in_default-clause-legal
 returns-in_default-clause-legal g c =
@@ -62,12 +59,12 @@ returns-in-Err-Failed-clause-legal g c =
     let state = c.args.filter.now in
     let line = c.args.line.now in
     let answer : Result Wrote WorldFault = Err Failed in
-    call_then c.happen-in-Err-Failed.result (at state line Free) (after_event (Ended c.args.pair) state c.remove-in-Err-Failed.new.self) (at c.happen-in-Err-Failed.new.filter c.happen-in-Err-Failed.new.line Free)
-    (g.P.Pairs.journal c.args.pairs.now) (g.P.Pairs.journal c.write.new.self) (g.P.Pairs.journal c.happen-in-Err-Failed.new.pairs) (entry.Write c.args.pair c.args.side c.owed.result.now answer)
-    (write_any state line c.args.pair c.args.side c.owed.result.now answer c.requires.next c.requires.reached c.owed.ensures refl ∙ ap (λ (l : List Thing). Some (after_event (Ended c.args.pair) state l)) (sym c.remove-in-Err-Failed.ensures))
+    call_then c.end.result (at state line Free) (after_event (end_of c.args.side c.args.pair) state c.remove-in-Err-Failed.new.self) (at c.end.new.filter c.end.new.line Free)
+    (g.P.Pairs.journal c.args.pairs.now) (g.P.Pairs.journal c.write.new.self) (g.P.Pairs.journal c.end.new.pairs) (entry.Write c.args.pair c.args.side c.owed.result.now answer)
+    (write_any state line c.args.pair c.args.side c.owed.result.now answer c.requires.next c.requires.reached c.owed.ensures refl ∙ ap (λ (l : List Thing). Some (after_event (end_of c.args.side c.args.pair) state l)) (sym c.remove-in-Err-Failed.ensures))
     (told_at (λ r. entry.Write c.args.pair c.args.side c.owed.result.now r) (g.P.Pairs.journal c.args.pairs.now) (g.P.Pairs.journal c.write.new.self)
     (c.in-Err-Failed.is ∙ ap Err c.in-Err-Failed.field-0-is) c.write.ensures.told)
-    c.happen-in-Err-Failed.ensures.legal
+    c.end.ensures.legal
 
 pub returns-in-Err-Memory-clause-legal : goal.returns-in-Err-Memory-clause-legal
 returns-in-Err-Memory-clause-legal g c =
