@@ -168,6 +168,14 @@ unlinks_slot slots number place old slot is here same left =
 pub unlinks_none : (pairs : List Numbered) (number : ℕ) → find_pair number pairs ≡ None → pairs ≡ unlinked_in number pairs
 unlinks_none pairs number none = sym (ap (λ (found : Option Pair). unlinked_by found number pairs) none)
 
+kept-by : (found : Option Pair) (pairs : List Numbered) (last number : ℕ) → IsKept pairs last → IsKept (unlinked_by found number pairs) last
+kept-by None pairs last number kept = kept
+kept-by (Some pair) pairs last number kept = kept-put pairs last number (unlinked pair) kept
+
+pub kept_unlinked : (pairs left : List Numbered) (last number : ℕ) → IsKept pairs last → left ≡ unlinked_in number pairs → IsKept left last
+kept_unlinked pairs left last number kept is =
+    subst (λ (l : List Numbered). IsKept l last) (sym is) (kept-by (find_pair number pairs) pairs last number kept)
+
 trims_empty : (test : Bool) (state : State) → trimmed_by test [] state ≡ state
 trims_empty true state = refl
 trims_empty false state = refl

@@ -5,7 +5,7 @@ ghost use Rattle.std.specs.List.{remove};
 ghost use Rattle.filter_model.specs.Filters.{Fits, Joined, at_pair, can_send, find_pair, first_state, happened, has_number, has_place, is_crowded, is_reached, joined, links, owed_of, parted, spares_if, step, trimmed, unlinked_in, wants, without};
 ghost use Rattle.filter_model.specs.Pairs.{Pair, is_spare};
 ghost use Rattle.filter_core.specs.Happenings.{happening};
-ghost use Rattle.filter_core.specs.Slots.{FitsPair, listed_of, pair_of, pairs_of};
+ghost use Rattle.filter_core.specs.Slots.{FitsPair, IsRising, listed_of, pair_of, pairs_of};
 ghost use Rattle.filter_core.specs.declared.slot.Slot.{Slot};
 
 use crate::FilterEvent;
@@ -233,6 +233,7 @@ impl Filter {
     }
 
     // Gives the connection of this pair back.
+    #[tactic(auto, using(crate::proofs::SlotLemmas::kept_rising, crate::proofs::SlotLemmas::kept_unlinked))]
     fn part(&mut self, number: u64) -> Result<(), AllocError>
         ensures { OnOk result (self.new ≡ record self.old {
           pairs = unlinked_in number self.old.pairs;
@@ -240,9 +241,7 @@ impl Filter {
           parts = self.old.parts ++ number ∷ [];
         }) }
     {
-        if let Some(place) = place_of(&self.slots, number) {
-            slot::unlink(&mut self.slots[place]);
-        }
+        unlink(&mut self.slots, number);
         drop_spare(&mut self.spares, number);
         self.parted.push(number)?;
         Ok(())
@@ -307,6 +306,18 @@ impl Filter {
             }
             None => Ok(()),
         }
+    }
+}
+
+// Takes the connection to the agent behind from the pair of this number.
+#[tactic(auto, using(crate::proofs::SlotLemmas::unlinks_slot, crate::proofs::SlotLemmas::unlinks_none))]
+fn unlink(slots: &mut Vec<Slot>, number: u64)
+    requires { IsRising 0 (2 ^ 64) (pairs_of slots.old.items) }
+    ensures { pairs_of slots.new.items ≡ unlinked_in number (pairs_of slots.old.items) }
+{
+    match place_of(slots, number) {
+        Some(place) => slot::unlink(&mut slots[place]),
+        None => {}
     }
 }
 
