@@ -1,7 +1,7 @@
 -- What each call leaves of a reading, by its answer.
 use Rattle.std.proofs.Common.{◌≡◌, ◌∙◌, ℕ, suc, All, nat_lt, ◌≤◌, ◌+◌, ◌-◌, ◌^◌, ◌<◌, Bool, true, false, List, [], ◌∷◌, length, drop, get_or, Option, Some, None, Result, Ok, refl, sym, ap, not, ◌&&◌, ◌==◌, if◌then◌else◌, add-one, arith}
 use Rattle.std.proofs.Math.Seq.{drop-cons}
-use Rattle.std.specs.Prelude.{IsSome, IsTrue, ◌||◌, is_some}
+use Rattle.std.specs.Prelude.{IsSome, ◌||◌, is_some}
 use Rattle.std.specs.declared.alloc.AllocError.{AllocError}
 use Rattle.std.specs.Str.{bytes_eq}
 use Rattle.std.specs.Cmp.Lexicographic.{bytes_decides}
@@ -19,7 +19,7 @@ use Rattle.pair_ports.specs.declared.side.Side.TheVariants.{Client, Upstream}
 use Rattle.filter_model.specs.declared.thing.Thing.{Thing}
 use Rattle.filter_model.specs.declared.thing.Thing.TheVariants.{Accept, Read, Write}
 use Rattle.filter_model.specs.Pairs.{Pair, half_of, is_some_bytes, reaches, wants_half}
-use Rattle.filter_model.specs.Filters.{Connected, Fits, Heard, Joined, State, can_send, find_pair, has_place, is_reached, owed_by, owed_of, reached_by, sends_by, step, wants_by}
+use Rattle.filter_model.specs.Filters.{Connected, Fits, Heard, Joined, State, find_pair, happened, has_place, is_crowded, is_reached, most_pairs, owed_by, owed_of, reached_by, sends_by, step, trimmed, trimmed_by, wants_by}
 use Rattle.filter_model.specs.Lines.{first_servable, is_idle, is_next, is_servable, is_thing, same_side, same_thing}
 use Rattle.filter_model.specs.Answered.{Binding, Closing, Free, Parting, after_accept, after_bind, after_close, after_connect, after_disconnect, after_poll, after_read, after_write, at, due_of, only_if}
 use Rattle.filter_model.specs.LegalPairs.{allowed}
@@ -116,11 +116,22 @@ unreached_upstream state line pair Client found apart = by_found (find_pair pair
 
 -- ---- the number of the last pair
 
+trimmed_last : (test : Bool) (spares : List ℕ) (state : State) → (trimmed_by test spares state).last_pair ≡ state.last_pair
+trimmed_last true [] state = refl
+trimmed_last true (oldest ∷ later) state = refl
+trimmed_last false spares state = refl
+
+-- to give a connection back makes no pair
+last_trimmed : (state : State) → (trimmed state).last_pair ≡ state.last_pair
+last_trimmed state = trimmed_last (is_crowded state) state.spares state
+
 pub last_joined : (state : State) → (step state Joined).last_pair ≡ state.last_pair + 1
-last_joined state = last-joined _ state ∙ sym (add-one state.last_pair)
+last_joined state =
+    last_trimmed (happened state Joined) ∙ last-joined (nat_lt (length state.pairs) most_pairs) state ∙ sym (add-one state.last_pair)
 
 pub last_heard : (state : State) (pair : ℕ) (side : Side) (piece : List ℕ) → (step state (Heard pair side piece)).last_pair ≡ state.last_pair
-last_heard state pair side piece = last-at (find_pair pair state.pairs) pair (Heard pair side piece) state
+last_heard state pair side piece =
+    last_trimmed (happened state (Heard pair side piece)) ∙ last-at (find_pair pair state.pairs) pair (Heard pair side piece) state
 
 -- ---- answers that may come
 

@@ -1,4 +1,4 @@
-use Rattle.std.proofs.Common.{Ok, Err, Result, List, ap, subst, sym, ◌∙◌, true, Some}
+use Rattle.std.proofs.Common.{Ok, Err, Result, List, ap, sym, ◌∙◌, true, Some}
 use Rattle.world_ports.specs.declared.answers.WorldFault.{WorldFault}
 use Rattle.world_ports.specs.declared.answers.WorldFault.TheVariants.{Failed, Memory}
 use Rattle.pair_ports.specs.declared.entry.Linked.{Linked}
