@@ -1,7 +1,7 @@
 #!/usr/bin/env python3
 """Random clients and agents on both sides of the built filter, over sockets, beside the model: each side is sent the same
 bytes, a connection to the agent behind is made and given back at the same piece, and a pair is closed at the same one.
-More pairs are open than may keep a connection that they don't need.
+More pairs are open than may keep a connection over which nothing is owed.
 
     model/differential_filter.py FILTER [RUNS [SEED]]
     model/differential_filter.py --wrong [RUNS [SEED]]
@@ -289,7 +289,7 @@ WRONG = {
     "keeps one more": ("len(self.spares) > MOST_SPARES", "len(self.spares) > MOST_SPARES + 1"),
     "keeps none": ("len(self.spares) > MOST_SPARES", "len(self.spares) > 0"),
     "gives the newest one back": ("self.spares.pop(0)", "self.spares.pop()"),
-    "exchanges a bound connection": ('if side == "client" or self.waits or self.is_bound:', 'if side == "client" or self.waits:'),
+    "exchanges a bound connection": ("or self.waits or self.is_bound:", "or self.waits:"),
     "ends where an idle connection does": ('if side == "client" or self.waits or self.is_bound:', "if True:"),
     "takes no bind for one": ("self.is_bound = self.is_bound or is_bind(body)", "pass"),
     "connects for what it refuses": ("        if self.waits:\n            self.link(True)", "        self.link(True)"),

@@ -385,7 +385,7 @@ def refused_bind(key):
 
 def through(agents, null):
     """What a list of 100 keys and a signature take through a filter that lets them all pass, beside the agent alone: of
-    clients that bind, as ssh does, and of others, for each of whose requests the filter connects to the agent anew."""
+    clients that bind, as ssh does, and of others, whose connections to the agent are spare between requests."""
     if not (rig.BUILT / "filter_proxy").exists():
         print("serve: no filter: bin/filter_proxy isn't built")
         return
