@@ -2,12 +2,13 @@
 """Random peers of a running agent: clients that send what real ones sent, changed and cut anywhere, and helpers, relays
 and other children that answer twice, in reverse, wrongly, in pieces or never.
 
-    tests/fuzz.py [--seconds N] [--seed SEED] [--checked] [--case SEED/BATCH]
+    tests/fuzz.py [--seconds N] [--seed SEED] [--checked] [--case SEED/BATCH] [--write]
 
 Batches of peers go on for so many seconds, each with an agent of its own; before them go those that failed once, which
 tests/seeds/ names. The agent must not end, must keep below 32 MB, and must serve a quiet client within a second at the
-end of each batch. With --checked it is the one that `rt try` links with AddressSanitizer, whose memory isn't judged.
-Ends with 1 where something failed, and keeps its seed in tests/seeds/."""
+end of each batch. With --checked it is the one that `rt try` links with AddressSanitizer, which must keep below 64 MB.
+With --write generated/FUZZ.md says what a run was that failed nowhere. Ends with 1 where something failed, and keeps its
+seed in tests/seeds/."""
 
 import argparse
 import collections
@@ -31,7 +32,8 @@ from frames import Ended, string
 from recordings import recordings
 
 SEEDS = pathlib.Path(__file__).parent / "seeds"
-MOST_MEMORY = 32 << 20
+FIGURES = pathlib.Path(__file__).parent.parent / "generated" / "FUZZ.md"
+MOST_MEMORY, MOST_CHECKED = 32 << 20, 64 << 20
 PEERS, STEPS = 24, 3000
 SIGN, VERIFY, CONFIRM = 1, 2, 3
 SIGNED, REFUSED, TRUE, FALSE, GRANTED, DENIED = range(101, 107)
@@ -235,7 +237,7 @@ class Batch:
                     return f"the quiet client waited {waited:.1f} s"
                 most = watch.memory(agent.process.pid, "VmHWM")
                 self.counts["kB at the most"] = max(self.counts["kB at the most"], most >> 10)
-                if most > MOST_MEMORY and not is_checked:
+                if most > (MOST_CHECKED if is_checked else MOST_MEMORY):
                     return f"the agent took {most} bytes"
                 agent.process.send_signal(signal.SIGKILL)
                 agent.process.wait()
@@ -248,12 +250,21 @@ def play(program, seed, counts, is_checked):
         return Batch(program, seed, pathlib.Path(folder), counts).play(is_checked)
 
 
+def figures(counts, seconds, is_checked):
+    """What a run was, as a page."""
+    built = "linked with AddressSanitizer" if is_checked else "as it is built"
+    page = ["# A run of random peers", "", "Written by `tests/fuzz.py --write`, of a run in which nothing failed.", ""]
+    page += [f"- the agent: {built}", f"- seconds: {seconds:.0f}"]
+    return "\n".join([*page, *[f"- {name}: {count}" for name, count in sorted(counts.items())], ""])
+
+
 def main():
     parser = argparse.ArgumentParser(prog="tests/fuzz.py")
     parser.add_argument("--seconds", type=float, default=60)
     parser.add_argument("--seed", default=str(int.from_bytes(os.urandom(4), "big")))
     parser.add_argument("--checked", action="store_true", help="the agent that `rt try` links")
     parser.add_argument("--case", help="one batch, by its seed and number")
+    parser.add_argument("--write", action="store_true", help="writes generated/FUZZ.md")
     words = parser.parse_args()
     program = watch.checked_agent() if words.checked else rig.there(rig.agent_program())
     counts, began = collections.Counter(), time.monotonic()
@@ -273,6 +284,8 @@ def main():
                 file.write_text(f"{seed}\n{(summary or fault.splitlines())[0]}\n")
             return 1
         counts["batches"] += 1
+    if words.write:
+        FIGURES.write_text(figures(counts, time.monotonic() - began, words.checked))
     told = ", ".join(f"{name} {count}" for name, count in counts.items())
     print(f"fuzz: nothing failed in {time.monotonic() - began:.0f} s: {told}; {watch.load()}")
     return 0
