@@ -46,9 +46,9 @@ const CLIENTS: Token = Token(usize::MAX);
 /// Unix sockets over epoll, child processes, the system's clocks.
 ///
 /// A connection is registered for reading; for writing only once a write found no room. Between two polls each port is
-/// read once and written 16 times, and once where these last for more than 10 milliseconds; the listener gives a bounded
-/// number of connections. Where that may leave something waiting, the next poll tells of it and doesn't wait. The clocks are read at the first look behind a poll, and again
-/// after 64 looks or 10 milliseconds, which is looked at with every other one.
+/// read once and written 16 times, or once where these take 10 milliseconds; the listener gives a bounded number of
+/// connections. What that may leave is told of by the next poll, which doesn't wait. The clocks are read at the first look
+/// behind a poll, and again after 64 looks or 10 milliseconds, which is looked at with every other one.
 ///
 /// A child process's standard input is its connection, the other end of which is there to be accepted from its start on;
 /// nothing else connects at the children's door. Where the connection ends before the hello, or brings anything else, or
