@@ -1,6 +1,7 @@
 #!/usr/bin/env python3
-"""`log_prog` and `mortarleek log` over literal records and over one that `agent_prog serve --record` made with OpenSSH's
-clients: a login and signatures for files are told with their keys, host and fates, and a refusal too."""
+"""`log_prog` and `mortarleek log` over literal records and over some that `agent_prog serve --record` made with OpenSSH's
+clients and git: logins, also over two hosts, and signatures for files and commits are told with their keys, hosts and
+fates, and a refusal too."""
 
 import base64
 import json
@@ -138,6 +139,72 @@ def names_are_those_of_known_hosts(folder, printed, hosts):
     run(["ssh-keygen", "-q", "-H", "-f", known])
     assert " (" not in front.told(folder / "record")[0]
     assert f"{host} (gate.example.org)  key" in front.told("--host", "gate.example.org", folder / "record")[0]
+
+
+def recorded(folder, key):
+    """An agent that has this key, which is hidden from its clients, and writes a record."""
+    with open(folder / "record", "wb") as file:
+        agent = our_agent(AGENT, folder, "--record", stdout=file)
+    agent.run("ssh-add", "-q", key)
+    os.rename(key, f"{key}.hidden")
+    return agent
+
+
+def told_of(folder, agent):
+    """The lines of a record's log behind their seconds, once its agent has ended."""
+    agent.end()
+    printed, status, said = logged(folder / "record")
+    assert (status, said) == (0, ""), (status, said)
+    return without_times(printed.splitlines())
+
+
+@check
+def commits_and_tags_of_git_are_told(folder):
+    key, place = keygen(folder / "id"), folder / "place"
+    place.mkdir()
+    (folder / "allowed").write_text(f"me@example.org {pathlib.Path(f'{key}.pub').read_text()}")
+    git = ["git", "-C", place]
+    for setting in ("user.name=me", "user.email=me@example.org", "gpg.format=ssh", f"user.signingkey={key}.pub"):
+        git += ["-c", setting]
+    git += ["-c", f"gpg.ssh.allowedSignersFile={folder}/allowed"]
+    with recorded(folder, key) as agent:
+        agent.run(*git, "init", "-q")
+        for message in ("first", "second"):
+            agent.run(*git, "commit", "-q", "-S", "--allow-empty", "-m", message)
+            assert "Good" in agent.run(*git, "verify-commit", "HEAD")
+        agent.run(*git, "tag", "-s", "-m", "signed", "v1")
+        assert "Good" in agent.run(*git, "verify-tag", "v1")
+        # A commit that isn't signed asks the agent for nothing, and so does one whose key it has no more.
+        agent.run(*git, "commit", "-q", "--no-gpg-sign", "--allow-empty", "-m", "third")
+        agent.run("ssh-add", "-q", "-D")
+        unsigned = [str(word) for word in git] + ["commit", "-q", "-S", "--allow-empty", "-m", "fourth"]
+        refused = subprocess.run(
+            unsigned, env=agent.environment, stdin=subprocess.DEVNULL, stderr=subprocess.DEVNULL, start_new_session=True
+        )
+        assert refused.returncode != 0
+        told = told_of(folder, agent)
+    assert told == [f'  file in namespace "git"  key "id" {shown(key)}  signed'] * 3, told
+
+
+@check
+def what_is_signed_over_two_hosts_is_told(folder):
+    if not os.path.exists(SSHD):
+        return
+    key = keygen(folder / "id")
+    (folder / "text").write_text("a text to be signed\n")
+    with Hosts(folder, "one", "two") as hosts:
+        hosts.allow(key)
+        with recorded(folder, key) as agent:
+            over = f"ssh -F {hosts.config} -A two"
+            assert hosts.ssh(agent, "-A", "one", f"{over} true") == (0, "")
+            sign = f"ssh-keygen -q -Y sign -n git -f {key}.pub {folder}/text"
+            assert hosts.ssh(agent, "-A", "one", f"{over} {sign}") == (0, "")
+            # Nothing is forwarded to the first host, so that nobody there asks for a signature.
+            assert hosts.ssh(agent, "-a", "one", f"{over} true")[0] != 0
+            told = told_of(folder, agent)
+    logins = [f'  login as "{USER}" to {shown(folder / f"host_{name}")}' for name in ("one", "two")]
+    ways = [*logins, *logins, '  file in namespace "git"', logins[0]]
+    assert told == [f'{way}  key "id" {shown(key)}  signed' for way in ways], told
 
 
 @check
