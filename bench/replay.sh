@@ -166,8 +166,8 @@ for shape in $shapes; do
         -v files="$(cat "$file" "$work/deeds" | wc -c)" 'BEGIN {
         printf "%s: audited in %.1f times the time of replay; %d kB resident, of which both files are %d kB\n",
             shape, audited / ours, kept, files / 1024 }'
-    awk -v shape="$shape" -v ours="$ours" -v logged="$(least "$file" "$log" "$file")" \
-        -v kept="$(resident "$file" "$log" "$file")" -v bytes="$bytes" 'BEGIN {
-        printf "%s: its log in %.1f times the time of replay; %d kB resident, of which the file is %d kB\n",
+    awk -v shape="$shape" -v ours="$ours" -v logged="$(least "$file" "$log")" \
+        -v kept="$(resident "$file" "$log")" -v bytes="$bytes" 'BEGIN {
+        printf "%s: its log in %.1f times the time of replay; %d kB resident, where the file is %d kB\n",
             shape, logged / ours, kept, bytes / 1024 }'
 done

@@ -1,4 +1,4 @@
-"""Random records, of which a program and the model have to write the same log, from the top:
+"""Random records, of which a program that reads them and the model have to write the same log, from the top:
 
     python3 -m model.differential_log PROGRAM N [SEED]
     python3 -m model.differential_log --wrong N [SEED]    tries the wrong ones of wrong_logs.txt
@@ -9,6 +9,7 @@ PROGRAM may be several words, as 'python3 -m model.log'. .ci/differential_log do
 from __future__ import annotations
 
 import os
+import subprocess
 import sys
 import tempfile
 from collections import Counter
@@ -17,14 +18,13 @@ from pathlib import Path
 from random import Random
 
 from . import log
-from .audit import BAD_RECORD, FILE_FAULT, USAGE, WRITE_FAULT
+from .audit import BAD_RECORD, USAGE, WRITE_FAULT
 from .differential import rows_agree, wrong_module
 from .differential_audit import with_comments, written
 from .generate import garbled_text
-from .log import WHOLE
-from .over_files import edge_holds, found_by, run, run_program, show_difference, try_cases
+from .log import READ_FAULT, WHOLE
+from .over_files import ENVIRONMENT, found_by, run, run_over_input, show_difference, try_cases
 from .pool import KEYS
-from .replay import LONGEST_SCHEDULE
 from .replays import try_each
 from .rows_log import ROWS
 from .wire import string, uint32
@@ -33,7 +33,7 @@ WRONG = "wrong_logs.txt"
 
 
 class Case:
-    """The words, of which `r` names a file; that file; what was changed; what is right."""
+    """The words, of which the first names the record; that file; what was changed; what is right."""
 
     def __init__(self, seed: str) -> None:
         random = Random(seed)
@@ -51,11 +51,8 @@ class Case:
         self.wanted = log.log(self.words, self.files.get)
 
     def other_words(self, random: Random) -> str:
-        """Words that are no form, or a file that isn't there."""
-        if random.random() < 0.5:
-            del self.files["r"]
-            return "a file is missing"
-        self.words = random.choice([[], ["r", "5", "5"], ["r", random.choice(["", "x", "1y"])]])
+        """Words that are no form."""
+        self.words = random.choice([["r", "5", "5"], ["r", random.choice(["", "x", "1y"])]])
         return "other words"
 
 
@@ -104,35 +101,44 @@ def try_rows(program: list[str]) -> bool:
         ROWS,
         {
             "the model": lambda row: log.log(row.words, row.files.get),
-            "the program": lambda row: run_program(program, row.words, row.files),
+            "the program": lambda row: run_over_input(program, row.words, row.files),
         },
     )
 
 
 def try_edges(program: list[str]) -> bool:
-    """Files at the bound and above it, and an output that can't be written."""
+    """Inputs that can't be read, and outputs that can't be written."""
     good = True
     with tempfile.TemporaryDirectory() as folder:
         told = next(row for row in ROWS if row.printed)
-        files = {"record": told.files["r"], "longest": b"", "longer": b"", "bad": b"x\n"}
-        for name, some in files.items():
-            Path(folder, name).write_bytes(some)
-        for name, size in (("longest", LONGEST_SCHEDULE), ("longer", LONGEST_SCHEDULE + 1)):
-            os.truncate(f"{folder}/{name}", size)
-        for words, place, wanted in [
-            ("record", None, (told.printed, WHOLE)),
-            ("longest", None, (b"", WHOLE)),
-            ("longer", None, (b"", FILE_FAULT)),
-            ("longer x", None, (b"", USAGE)),
-            (".", None, (b"", FILE_FAULT)),
-            ("bad", "/dev/full", (b"", BAD_RECORD)),
-            ("record", "/dev/full", (b"", WRITE_FAULT)),
-            ("none", "/dev/full", (b"", FILE_FAULT)),
-            ("record record record", "/dev/full", (b"", USAGE)),
+        for name, text in {"record": told.files["r"], "bad": b"x\n", "none": b""}.items():
+            Path(folder, name).write_bytes(text)
+        for name, words, place, wanted in [
+            ("record", [], None, (told.printed, WHOLE)),
+            (None, [], None, (b"", READ_FAULT)),
+            (None, ["x"], None, (b"", USAGE)),
+            ("none", [], "/dev/full", (b"", WHOLE)),
+            ("bad", [], "/dev/full", (b"", BAD_RECORD)),
+            ("record", [], "/dev/full", (b"", WRITE_FAULT)),
+            ("record", ["5", "5"], "/dev/full", (b"", USAGE)),
         ]:
-            good = edge_holds(program, folder, "log", words, place, wanted) and good
-    print("files at the bound and above it, and outputs that can't be written, by the program")
+            good = edge_holds(program, name and f"{folder}/{name}", words, place or f"{folder}/output", wanted) and good
+    print("inputs that can't be read and outputs that can't be written, by the program")
     return good
+
+
+def edge_holds(program: list[str], record: str | None, words: list[str], place: str, wanted: tuple[bytes, int]) -> bool:
+    """Whether a program ends as it should that reads a record, or nothing that can be read, and writes to a place."""
+    source = os.open(record, os.O_RDONLY) if record else os.open(os.devnull, os.O_WRONLY)
+    with open(place, "wb") as output:
+        done = subprocess.run(
+            [*program, *words], stdin=source, stdout=output, stderr=subprocess.DEVNULL, env=ENVIRONMENT
+        )
+    os.close(source)
+    result = (b"" if place == "/dev/full" else Path(place).read_bytes(), done.returncode)
+    if result != wanted:
+        print(f"log {record} {words}, into {place}: {result}, not {wanted}")
+    return result == wanted
 
 
 # The ends of lines that the records are to reach, and what is signed
@@ -153,15 +159,15 @@ def try_one(program: list[str], seed: str) -> tuple[bool, Counter[str]]:
         told[parts[-2]] += parts[-2] in CONSENTS
         told["to a host"] += " to SHA256:" in line
         told["without a comment"] += '  key "' not in line
-    return not program or run_program(program, case.words, case.files) == case.wanted, told
+    return not program or run_over_input(program, case.words, case.files) == case.wanted, told
 
 
-GOALS = [f"status {status}" for status in (WHOLE, USAGE, FILE_FAULT, BAD_RECORD)]
+GOALS = [f"status {status}" for status in (WHOLE, USAGE, BAD_RECORD)]
 GOALS += [*FATES, *CONSENTS, *KINDS, "to a host", "without a comment", "cut: status 0"]
 
 
 def try_records(program: list[str], count: int, seed: str) -> bool:
-    mismatch = lambda each: show_difference(program, Case(each), f"record {each}")
+    mismatch = lambda each: show_difference(program, Case(each), f"record {each}", run_over_input)
     return try_cases("records", partial(try_one, program), mismatch, GOALS, count, seed)
 
 

@@ -1,6 +1,6 @@
 """The log of a record: a line for each request for a signature that its agent read, with its fate.
 
-    python3 -m model.log RECORD [LIFE]
+    python3 -m model.log [LIFE] < RECORD
 
 RECORD is a schedule, LIFE the default lifetime of its keys. The agent itself says when it reads a
 request, asks the user, asks its helper and was rid of a reply: no byte is read a second time.
@@ -18,11 +18,11 @@ from datetime import datetime, timedelta, timezone
 from . import formats
 from .add_tool import read_life
 from .agent import Agent, Identity, Port
-from .audit import BAD_RECORD, FILE_FAULT, USAGE, Result, read_file, written
-from .replay import Run
+from .audit import BAD_RECORD, USAGE, Result, written
+from .replay import LONGEST_LINE, LONGEST_SCHEDULE, Run
 from .wire import Fault, Reader, demand
 
-WHOLE = 0
+WHOLE, READ_FAULT = 0, 3
 DIGESTS = {b"sha256": 32, b"sha512": 64}
 
 
@@ -185,21 +185,31 @@ class LogRun(Run):
 
 
 def log_of(record: bytes, life: int | None) -> Result:
-    """The log of a record's whole lines, and the status."""
+    """The log of a record's whole lines, and the status: a line that isn't whole is refused where it is too long."""
     run = LogRun(life)
     run.text(record[: record.rfind(b"\n") + 1])
+    rest = len(record) - record.rfind(b"\n") - 1
+    is_long = rest > LONGEST_LINE or run.size + rest > LONGEST_SCHEDULE
     run.agent.end_all()
-    return b"".join(run.agent.lines), BAD_RECORD if run.status else WHOLE
+    return b"".join(run.agent.lines), BAD_RECORD if run.status or is_long else WHOLE
 
 
 def log(words: list[str], read: Callable[[str], bytes | None]) -> Result:
-    """The log of these words. A file that can't be read, or is too long, is read as none."""
-    life = read_life(words[1]) if len(words) == 2 else 0
-    if len(words) not in (1, 2) or life is None:
+    """The log of the record that the first word names, by the others. One that can't be read is read as none."""
+    name, *others = words
+    life = read_life(others[0]) if others else 0
+    if len(others) > 1 or life is None:
         return b"", USAGE
-    record = read(words[0])
-    return (b"", FILE_FAULT) if record is None else log_of(record, life)
+    record = read(name)
+    return (b"", READ_FAULT) if record is None else log_of(record, life)
+
+
+def read_input(_: str) -> bytes | None:
+    try:
+        return sys.stdin.buffer.read()
+    except OSError:
+        return None
 
 
 if __name__ == "__main__":
-    sys.exit(written(*log(sys.argv[1:], read_file)))
+    sys.exit(written(*log(["-", *sys.argv[1:]], read_input)))

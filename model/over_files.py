@@ -44,6 +44,9 @@ class FileCase(Protocol):
     wanted: Result
 
 
+# What a program prints for words and files.
+Runner = Callable[[list[str], list[str], dict[str, bytes]], Result]
+
 # What a model prints for words, where a call reads the files that they name.
 Model = Callable[[list[str], Callable[[str], bytes | None]], Result]
 
@@ -56,6 +59,15 @@ def run_program(program: list[str], words: list[str], files: dict[str, bytes]) -
         done = subprocess.run(
             [*program, *paths], stdout=subprocess.PIPE, stderr=subprocess.DEVNULL, env=ENVIRONMENT
         )
+    return done.stdout, done.returncode
+
+
+def run_over_input(program: list[str], words: list[str], files: dict[str, bytes]) -> Result:
+    """The same of a program that reads the file which the first word names from its standard input."""
+    name, *others = words
+    done = subprocess.run(
+        [*program, *others], input=files[name], stdout=subprocess.PIPE, stderr=subprocess.DEVNULL, env=ENVIRONMENT
+    )
     return done.stdout, done.returncode
 
 
@@ -98,9 +110,9 @@ def try_cases(
     return not missed or count < 2000
 
 
-def show_difference(program: list[str], case: FileCase, heading: str) -> None:
+def show_difference(program: list[str], case: FileCase, heading: str, run: Runner = run_program) -> None:
     """Says what program and model make of a case, whose files are left in bin/."""
-    output, status = run_program(program, case.words, case.files)
+    output, status = run(program, case.words, case.files)
     print(f"{heading}, {case.kind}, words {case.words}; bin/mismatch.* are its files")
     for name, text in case.files.items():
         Path(f"bin/mismatch.{name}").write_bytes(text)

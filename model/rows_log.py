@@ -166,6 +166,9 @@ row(
     [f"{ZERO}  {ABC}  {KEY1}  signed", f"{ZERO}  {ABC}  {KEY1}  no answer yet"],
     status=4,
 )
-ROWS.append(FileRow("no words", [], {}, b"", 2))
 ROWS.append(FileRow("a lifetime that is none", ["r", "1y"], {"r": b""}, b"", 2))
-ROWS.append(FileRow("a file that isn't there", ["none"], {}, b"", 3))
+ROWS.append(FileRow("two lifetimes", ["r", "5", "5"], {"r": lines(RECORD)}, b"", 2))
+# A line that isn't whole waits while it may still be run, and is refused once it is too long.
+WAITING = lines([f"{ZERO}  {ABC}  {KEY1}  no answer yet"])
+ROWS.append(FileRow("the longest line, cut", ["r"], {"r": lines(RECORD) + b"#" * 65536}, WAITING, 0))
+ROWS.append(FileRow("a line that is too long already", ["r"], {"r": lines(RECORD) + b"#" * 65537}, WAITING, 4))

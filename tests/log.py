@@ -26,11 +26,12 @@ AGENT = rig.agent_program()
 LOG = pathlib.Path(os.environ.get("LOG", rig.BUILT / "log_prog"))
 
 
-def logged(*words):
-    """What a log prints, its status, and what it says on standard error."""
-    done = subprocess.run(
-        [str(rig.there(LOG)), *map(str, words)], stdout=subprocess.PIPE, stderr=subprocess.PIPE, timeout=120
-    )
+def logged(record, *words):
+    """What a log of a record prints, its status, and what it says on standard error."""
+    with open(record, "rb") as file:
+        done = subprocess.run(
+            [str(rig.there(LOG)), *words], stdin=file, stdout=subprocess.PIPE, stderr=subprocess.PIPE, timeout=120
+        )
     return done.stdout.decode(), done.returncode, done.stderr.decode()
 
 
@@ -64,8 +65,7 @@ def literal_records_are_told(folder):
         place.mkdir()
         for name, text in row.files.items():
             (place / name).write_bytes(text)
-        words = [place / word if word in ("r", "none") else word for word in row.words]
-        printed, status, said = logged(*words)
+        printed, status, said = logged(place / row.words[0], *row.words[1:])
         assert (printed, status) == (row.printed.decode(), row.status), row.name
         is_cut = any(text and not text.endswith(b"\n") for text in row.files.values())
         assert len(said.splitlines()) == (status != 0 or is_cut), (row.name, said)
@@ -261,6 +261,27 @@ def a_record_that_grows_is_followed(folder):
     finally:
         process.kill()
         process.wait()
+
+
+def replaced(path):
+    path.rename(f"{path}.1")
+    path.write_bytes(b"")
+
+
+@check
+def a_record_that_is_cut_or_replaced_is_not_followed(folder):
+    front = Front(folder)
+    row = next(row for row in ROWS if row.name == "a signature")
+    for change in (lambda path: os.truncate(path, 10), replaced, pathlib.Path.unlink):
+        (folder / "r").write_bytes(row.files["r"])
+        process = subprocess.Popen(
+            [*front.words, "-f", folder / "r"], env=front.env, stdout=subprocess.PIPE, stderr=subprocess.PIPE, text=True
+        )
+        time.sleep(2)
+        change(folder / "r")
+        told, said = process.communicate(timeout=20)
+        assert process.returncode == 3 and told.endswith("  signed\n") and told.count("\n") == 1, (told, said)
+        assert said.endswith("the record was cut, or another file took its place\n"), said
 
 
 if __name__ == "__main__":

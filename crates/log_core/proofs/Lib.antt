@@ -2,5 +2,6 @@ pub mod LineLemmas
 pub mod RaisedLemmas
 pub mod SightLemmas
 pub mod LogLemmas
-pub mod WritingLemmas
+pub mod LoggingLemmas
 pub mod EndLemmas
+pub mod PieceLemmas

@@ -1,10 +1,9 @@
 -- What is seen of a record line by line, and what is told of that.
-use Rattle.std.proofs.Common.{◌≡◌, ℕ, ◌<◌, ◌≤◌, List, [], ◌∷◌, ◌++◌, length, drop, refl, ap, sym, ◌∙◌, append_assoc, Option, None, Some, OnOk, Result, Ok, Err, true}
+use Rattle.std.proofs.Common.{◌≡◌, ℕ, List, [], ◌∷◌, ◌++◌, refl, ap, sym, ◌∙◌, append_assoc, Option, true}
 use Rattle.std.proofs.lemmas.Grind.{flat_map-append}
 use Rattle.std.specs.List.{flat_map}
 use Rattle.agent_model.specs.State.{State, first_state}
 use Rattle.agent_model.specs.Step.{step}
-use Rattle.audit_core.specs.Passes.{Notes}
 use Rattle.log_book.specs.Books.{Book, Seen, new_book, open_in, see, see_all, then_seen, told_of}
 use Rattle.log_book.specs.Lines.{told_line}
 use Rattle.log_book.specs.declared.sight.Sight.{Sight}
@@ -12,15 +11,9 @@ use Rattle.log_book.specs.declared.told.Told.{Told as Request}
 use Rattle.log_core.specs.Lines.{whole_lines}
 use Rattle.log_core.specs.Logs.{lines_of, log_of, logged, requests_of, sights_from, sights_in, sights_of}
 use Rattle.log_laws.specs.Sights.{event_sights, run_sights, told_in}
-use Rattle.replay_run.specs.Counts.{IsCounted}
-use Rattle.replay_run.specs.Replay.{Run, Turned, course, events_of, parts_of, ran, run_of, settings_of, start_run}
+use Rattle.replay_run.specs.Replay.{course, events_of, parts_of, run_of, settings_of, start_run}
 use Rattle.replay_run.specs.Told.{Told, Barred, Came, events_in}
 use Rattle.replay_run.proofs.BroughtLemmas.{IsCourse, schedule-course}
-
--- what holds, also where a call succeeded
-pub on_ok : {T E P : Type 0} (result : Result T E) → P → OnOk result P
-on_ok (Ok done) holds = holds
-on_ok (Err fault) holds = tt
 
 -- ---- what is told
 
@@ -48,55 +41,17 @@ logged-append sights later book =
     ∙ ap (λ (lines : List ℕ). lines ++ lines_of (open_in then.book)) (lines_of-append now.told then.told)
     ∙ append_assoc (lines_of now.told) (lines_of then.told) (lines_of (open_in then.book))
 
+-- nothing more is seen
+pub logged-nil : (book : Book) → logged [] book ≡ lines_of (open_in book)
+unfolding logged see_all
+logged-nil book = refl
+
 -- all of them are the log
 pub logged-all : (life : Option ℕ) (text : List ℕ) → logged (sights_of life (whole_lines text)) new_book ≡ log_of life text
 unfolding logged
 logged-all life text =
     let all = see_all (sights_of life (whole_lines text)) new_book in
     sym (lines_of-append all.told (open_in all.book))
-
--- ---- what is seen
-
--- a line of so many bytes was run, of which this was seen, and the rest goes on from there
-pub record SeesOn (run : Run) (left : List ℕ) (new : Run) (size : ℕ) (sights : List Sight) : Type 0 where
-  pub some : 0 < size
-  pub within : size ≤ length left
-  pub sights_are : sights_from run (parts_of left) ≡ sights ++ sights_from new (parts_of (drop size left))
-  pub ran_is : ran true run (parts_of left) ≡ ran true new (parts_of (drop size left))
-  pub counted : IsCounted new
-
-pub sees_on : (run : Run) (left : List ℕ) (new : Run) (size : ℕ) (before sights : List Sight) → Notes Sight sights_in (Some size) run left new before sights
-    → before ≡ [] → SeesOn run left new size sights
-unfolding sights_from
-sees_on run left new size before sights notes nothing =
-    let later = course true new (parts_of (drop size left)) in
-    record {
-      some = notes.turns.some;
-      within = notes.turns.within;
-      sights_are =
-          ap (λ (t : Turned). flat_map sights_in t.told) notes.turns.turned
-          ∙ flat_map-append sights_in notes.told later.told
-          ∙ ap (λ b. (b ++ flat_map sights_in notes.told) ++ flat_map sights_in later.told) (sym nothing)
-          ∙ ap (λ s. s ++ flat_map sights_in later.told) (sym notes.noted);
-      ran_is = ap (λ (t : Turned). t.run) notes.turns.turned;
-      counted = notes.turns.counted;
-    }
-
--- or it was the last one
-pub record SeesLast (run : Run) (left : List ℕ) (new : Run) (sights : List Sight) : Type 0 where
-  pub sights_are : sights_from run (parts_of left) ≡ sights
-  pub ran_is : ran true run (parts_of left) ≡ new
-
-pub sees_last : (run : Run) (left : List ℕ) (new : Run) (before sights : List Sight) → Notes Sight sights_in None run left new before sights
-    → before ≡ [] → SeesLast run left new sights
-unfolding sights_from
-sees_last run left new before sights notes nothing = record {
-  sights_are =
-      ap (λ (t : Turned). flat_map sights_in t.told) notes.turns
-      ∙ ap (λ b. b ++ flat_map sights_in notes.told) (sym nothing)
-      ∙ sym notes.noted;
-  ran_is = ap (λ (t : Turned). t.run) notes.turns;
-}
 
 -- ---- the run that is seen
 

@@ -3,8 +3,9 @@
 pub mod Lines
 pub mod Logs
 pub mod Seeing
-pub mod Writing
 pub mod Words
 pub mod Program
+-- of private functions
+pub mod Logging
 -- of the laws
 pub mod Rows

@@ -3,7 +3,7 @@
 -- specs/Books.antt of log_book.
 use Rattle.std.specs.Prelude.{ℕ, true, List, [], ◌++◌, Option}
 use Rattle.std.specs.List.{flat_map}
-use Rattle.log_book.specs.Books.{Book, open_in, see_all, told_of}
+use Rattle.log_book.specs.Books.{Book, new_book, open_in, see_all, told_of}
 use Rattle.log_book.specs.Lines.{told_line}
 use Rattle.log_book.specs.declared.sight.Sight.{Sight}
 use Rattle.log_book.specs.declared.told.Told.{Told as Request}
@@ -37,6 +37,10 @@ lines_of requests = flat_map told_line requests
 -- a line for each of a record's, and no other
 abbrev pub log_of : Option ℕ → List ℕ → List ℕ
 log_of life text = lines_of (requests_of life text)
+
+-- the lines of those alone whose fate the whole lines of the front of a record tell
+abbrev pub log_so_far : Option ℕ → List ℕ → List ℕ
+log_so_far life text = lines_of (see_all (sights_of life (whole_lines text)) new_book).told
 
 -- the lines of what is still to be seen, and of what is open behind it
 unfoldable pub logged : List Sight → Book → List ℕ

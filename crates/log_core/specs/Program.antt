@@ -1,18 +1,18 @@
 -- What the program does (ours): `Logs`, a line a status. The file is read from its end; a record's log is in
 -- specs/Logs.antt.
-use Rattle.std.specs.Prelude.{◌≡◌, ◌==◌, ◌⊎◌, ℕ, Bool, true, false, List, Option, Some, None, Result, Ok, Err, length}
-use Rattle.audit_core.specs.Program.{IsTextOf}
-use Rattle.audit_core.specs.Writing.{Stops}
+use Rattle.std.specs.Prelude.{◌≡◌, ◌==◌, ℕ, Bool, true, false, List, Option, Some, None, Result, Ok, Err, length}
+use Rattle.std.specs.Io.KnownBytes.{Appends, IsAtEnd}
 use Rattle.audit_core.specs.declared.writing.Stop.{Stop}
 use Rattle.audit_core.specs.declared.writing.Stop.TheVariants as stops
 use Rattle.log_core.specs.Lines.{whole_lines}
-use Rattle.log_core.specs.Logs.{log_of}
-use Rattle.log_core.specs.Words.{Asked}
+use Rattle.log_core.specs.Logs.{log_of, log_so_far}
 use Rattle.log_core.specs.declared.status.LogStatus.{LogStatus}
 use Rattle.log_core.specs.declared.status.LogStatus.TheVariants as status
+use Rattle.replay_run.specs.Claims.{HasRead, HoldsOfInput, IsFront, Seen}
 use Rattle.replay_run.specs.Feeding.{Wrote}
-use Rattle.replay_run.specs.Replay.{Run, run_of}
+use Rattle.replay_run.specs.Replay.{Run, parts_of, ran, start_run}
 use Rattle.schedule_text.specs.declared.fault.LineFault.{LineFault}
+use Rattle.world_ports.specs.Causes.{Rose}
 use Rattle.world_ports.specs.Streams.{StreamView}
 
 -- ---- statuses
@@ -22,7 +22,7 @@ abbrev pub code_of : LogStatus → ℕ
 code_of status.Whole = 0
 code_of status.Waits = 0
 code_of status.Usage = 2
-code_of status.FileFault = 3
+code_of status.ReadFault = 3
 code_of (status.BadRecord line) = 4
 code_of status.Memory = 5
 code_of status.WriteFault = 6
@@ -37,9 +37,9 @@ ended_by None line false = status.Waits
 abbrev pub ended_in : Run → List ℕ → LogStatus
 ended_in run text = ended_by run.refused run.line (length (whole_lines text) == length text)
 
--- what is said of a record
+-- what is said of a record: a line that isn't whole is refused as soon as it is too long, however it goes on
 abbrev pub ended_of : Option ℕ → List ℕ → LogStatus
-ended_of life text = ended_in (run_of life (whole_lines text)) text
+ended_of life text = ended_in (ran false (start_run life) (parts_of text)) text
 
 -- by why not all was written
 abbrev pub status_at : Stop → LogStatus
@@ -51,50 +51,69 @@ abbrev pub status_by : {T : Type 0} → LogStatus → Result T Stop → LogStatu
 status_by ended (Ok done) = ended
 status_by ended (Err stop) = status_at stop
 
--- ---- the log of a text
+-- ---- what is said of a record: `Of P` says that P holds of it
 
--- this is said of the record, and its log was written
-pub record IsLogged (ended : LogStatus) (life : Option ℕ) (text : List ℕ) (before after : StreamView) : Type 0 where
-  pub is : ended_of life text ≡ ended
-  pub wrote : Wrote before after (log_of life text)
+-- this is said of the record, and this is its log
+pub record IsLogged (ended : LogStatus) (life : Option ℕ) (log text : List ℕ) : Type 0 where
+  pub ended_is : ended_of life text ≡ ended
+  pub log_is : log_of life text ≡ log
 
--- what the end of a log says of its record and of the sink
-abbrev pub EndsLog : Option ℕ → List ℕ → LogStatus → StreamView → StreamView → Type 0
-EndsLog life text status.Whole before after = IsLogged status.Whole life text before after
-EndsLog life text status.Waits before after = IsLogged status.Waits life text before after
-EndsLog life text status.Usage before after = ⊥
-EndsLog life text status.FileFault before after = ⊥
-EndsLog life text (status.BadRecord line) before after = IsLogged (status.BadRecord line) life text before after
--- want of memory says nothing of the text: a front of the log is written
-EndsLog life text status.Memory before after = Stops stops.Memory (log_of life text) before after
-EndsLog life text status.WriteFault before after = Stops stops.Write (log_of life text) before after
-
--- ---- files
-
--- so a file may end the program, whatever is held
-abbrev pub IsFileEnd : LogStatus → Type 0
-IsFileEnd status.Whole = ⊥
-IsFileEnd status.Waits = ⊥
-IsFileEnd status.Usage = ⊥
-IsFileEnd status.FileFault = Unit {0}
-IsFileEnd (status.BadRecord line) = ⊥
-IsFileEnd status.Memory = Unit {0}
-IsFileEnd status.WriteFault = ⊥
-
--- the record was read, and its log ended so
-pub record HasLogged (held : List ℕ → Option (List ℕ)) (asked : Asked) (result : LogStatus)
+-- all of its log was written
+pub record SaysAll (Of : (List ℕ → Type 0) → Type 0) (ended : LogStatus) (life : Option ℕ)
     (before after : StreamView) : Type 0 where
-  pub text : List ℕ
-  pub text_is : IsTextOf (held asked.recording) text
-  pub ends : EndsLog asked.life text result before after
+  pub log : List ℕ
+  pub wrote : Wrote before after log
+  pub is : Of (IsLogged ended life log)
 
--- by how the program ended, where the words are of a form and the files tell what they hold: nothing was written before
--- the record was read
-abbrev pub Logs : (List ℕ → Option (List ℕ)) → Asked → LogStatus → StreamView → StreamView → Type 0
-Logs held asked status.Whole before after = HasLogged held asked status.Whole before after
-Logs held asked status.Waits before after = HasLogged held asked status.Waits before after
-Logs held asked status.Usage before after = ⊥
-Logs held asked status.FileFault before after = after ≡ before
-Logs held asked (status.BadRecord line) before after = HasLogged held asked (status.BadRecord line) before after
-Logs held asked status.Memory before after = (after ≡ before) ⊎ HasLogged held asked status.Memory before after
-Logs held asked status.WriteFault before after = HasLogged held asked status.WriteFault before after
+-- a front of its log was written
+pub record SaysFront (Of : (List ℕ → Type 0) → Type 0) (life : Option ℕ) (before after : StreamView) : Type 0 where
+  pub log : List ℕ
+  pub wrote : Appends before.written after.written log
+  pub is : Of (λ text. IsFront log (log_of life text))
+
+-- the same, and a write failed
+pub record SaysFault (Of : (List ℕ → Type 0) → Type 0) (life : Option ℕ) (before after : StreamView) : Type 0 where
+  pub front : SaysFront Of life before after
+  pub cause : Rose before.write_faults after.write_faults
+
+-- what the end of a log says of its record and of the sink, where no read failed
+abbrev pub Says : ((List ℕ → Type 0) → Type 0) → LogStatus → Option ℕ → StreamView → StreamView → Type 0
+Says Of status.Whole life before after = SaysAll Of status.Whole life before after
+Says Of status.Waits life before after = SaysAll Of status.Waits life before after
+Says Of status.Usage life before after = ⊥
+Says Of status.ReadFault life before after = ⊥
+Says Of (status.BadRecord line) life before after = SaysAll Of (status.BadRecord line) life before after
+-- want of memory says nothing of the record
+Says Of status.Memory life before after = SaysFront Of life before after
+Says Of status.WriteFault life before after = SaysFault Of life before after
+
+-- ---- the input
+
+-- what was read is a record's front, and this is said of it and of the whole input, where that is told
+pub record HasLogged (life : Option ℕ) (ended : LogStatus) (old new : Seen) : Type 0 where
+  pub bytes : List ℕ
+  pub read : HasRead old new bytes
+  pub reads : new.input.read_faults ≡ old.input.read_faults
+  pub says : Says (HoldsOfInput new.input.left bytes) ended life old.output new.output
+
+-- the same, and the input was read to its end
+pub record HasLoggedAll (life : Option ℕ) (ended : LogStatus) (old new : Seen) : Type 0 where
+  pub logged : HasLogged life ended old new
+  pub end : IsAtEnd new.input.left
+
+-- a read failed, and the lines of the requests whose fate the whole lines before tell are written
+pub record EndsAtReadFault (life : Option ℕ) (old new : Seen) : Type 0 where
+  pub bytes : List ℕ
+  pub read : HasRead old new bytes
+  pub wrote : Wrote old.output new.output (log_so_far life bytes)
+  pub cause : Rose old.input.read_faults new.input.read_faults
+
+-- by how the program ended, where its words ask for a log
+abbrev pub Logs : Option ℕ → LogStatus → Seen → Seen → Type 0
+Logs life status.Whole old new = HasLoggedAll life status.Whole old new
+Logs life status.Waits old new = HasLoggedAll life status.Waits old new
+Logs life status.Usage old new = ⊥
+Logs life status.ReadFault old new = EndsAtReadFault life old new
+Logs life (status.BadRecord line) old new = HasLogged life (status.BadRecord line) old new
+Logs life status.Memory old new = HasLogged life status.Memory old new
+Logs life status.WriteFault old new = HasLogged life status.WriteFault old new

@@ -1,10 +1,9 @@
 //! How a log ends, and the exit status that says so.
 
-ghost use Rattle.std.specs.Prelude.{◌≡◌, ◌==◌};
-ghost use Rattle.log_core.specs.Program.{code_of, ended_by, status_by};
+ghost use Rattle.std.specs.Prelude.{◌≡◌};
+ghost use Rattle.log_core.specs.Program.{code_of, status_by};
 
 use audit_core::Stop;
-use replay_run::Replay;
 use thiserror::Error;
 
 /// How a log ended, in words for whoever started it.
@@ -17,15 +16,15 @@ pub enum LogStatus {
     #[error("the record's last line is not whole: it is left out")]
     Waits,
     /// The words are none that the program takes.
-    #[error("usage: log_prog RECORD [LIFE]")]
+    #[error("usage: log_prog [LIFE]")]
     Usage,
-    /// The file could not be read, or it is too long.
-    #[error("the record could not be read, or has more than 268435456 bytes")]
-    FileFault,
+    /// The record could not be read.
+    #[error("the record could not be read")]
+    ReadFault,
     /// This line of the record, counted from 1, is refused. The log of the lines before it is written.
     #[error("line {line} of the record is refused")]
     BadRecord { line: u64 },
-    /// Memory ran out. Says nothing of the file.
+    /// Memory ran out. Says nothing of the record.
     #[error("out of memory")]
     Memory,
     /// The output could not be written.
@@ -41,22 +40,11 @@ impl LogStatus {
         match self {
             LogStatus::Whole | LogStatus::Waits => 0,
             LogStatus::Usage => 2,
-            LogStatus::FileFault => 3,
+            LogStatus::ReadFault => 3,
             LogStatus::BadRecord { .. } => 4,
             LogStatus::Memory => 5,
             LogStatus::WriteFault => 6,
         }
-    }
-}
-
-// What is said of a record whose whole lines were run, `size` bytes of so many.
-pub fn ended(run: &Replay, size: usize, all: usize) -> LogStatus
-    ensures { result ≡ ended_by run.now.refused run.now.line (size == all) }
-{
-    match run.refused() {
-        Some(_) => LogStatus::BadRecord { line: run.line() },
-        None if size == all => LogStatus::Whole,
-        None => LogStatus::Waits,
     }
 }
 

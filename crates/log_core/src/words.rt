@@ -2,35 +2,26 @@
 
 ghost use Rattle.std.specs.Prelude.{◌≡◌, option_map};
 ghost use Rattle.audit_core.specs.Words.{some_life, texts_of};
-ghost use Rattle.log_core.specs.Words.{asked_in, asked_of};
+ghost use Rattle.log_core.specs.Words.{asked_in, life_in};
 
 use world_ports::read_life;
 
 /// What the words say.
 #[derive(Clone, Copy)]
-pub struct Words<'a> {
-    /// The file of the record.
-    pub recording: &'a str,
+pub struct Words {
     /// The lifetime, in seconds, of identities that are added without one.
     pub life: Option<u32>,
 }
 
-// Reads `RECORD` or `RECORD LIFE`, where a lifetime of 0 stands for none.
-pub fn read_words(words: &[String]) -> Option<Words<'_>>
-    ensures { option_map asked_of result ≡ asked_in (texts_of words.now) }
+// Reads no words or `LIFE`, where a lifetime of 0 stands for none.
+pub fn read_words(words: &[String]) -> Option<Words>
+    ensures { option_map life_in result ≡ asked_in (texts_of words.now) }
 {
     match words {
-        [recording] => Some(Words {
-            recording: recording.as_str(),
-            life: None,
+        [] => Some(Words { life: None }),
+        [life] => Some(Words {
+            life: default_life(read_life(life.as_bytes())?),
         }),
-        [recording, life] => {
-            let life = default_life(read_life(life.as_bytes())?);
-            Some(Words {
-                recording: recording.as_str(),
-                life,
-            })
-        }
         _ => None,
     }
 }

@@ -1,61 +1,53 @@
-//! Logs over files in memory. What owns the files and the output has no exit: at each their drops would be proved once
+//! Logs of records in memory. What owns the input and the output has no exit: at each their drops would be proved once
 //! more.
 use crate::fixtures::{AGREED, ASKED, BAD, LATER, LEFT, SIGNED, WAITING};
 use log_core::{LogStatus, log_main};
 use std::alloc::{AllocError, Global};
 use std::process::Abort;
 use std::test::*;
-use world_ports::{MapFiles, VecSink};
+use world_ports::{SliceSource, VecSink};
 
-/// A log by these words. A write takes at most `cut` bytes. The calls with the numbers `failing_file` and
-/// `failing_write` fail; none has the number 0.
+/// A log of the record with this name by these words. A read gives at most `piece` bytes, and a write takes at most
+/// `cut`. The calls with the numbers `failing_read` and `failing_write` fail; none has the number 0.
 #[derive(Clone, Copy)]
 pub struct Run<'a> {
+    pub record: &'a str,
     pub words: &'a str,
-    pub failing_file: u64,
+    pub piece: u32,
+    pub failing_read: u64,
     pub cut: u32,
     pub failing_write: u64,
 }
 
 /// One in which nothing fails.
-pub fn whole(words: &str) -> Run<'_> {
+pub fn whole<'a>(record: &'a str, words: &'a str) -> Run<'a> {
     Run {
+        record,
         words,
-        failing_file: 0,
+        piece: u32::MAX,
+        failing_read: 0,
         cut: u32::MAX,
         failing_write: 0,
     }
 }
 
-fn file(alloc: Global, path: &str, text: &str) -> Result<(String, Vec<u8>), AllocError> {
-    Ok((
-        String::from_str(alloc, path)?,
-        Vec::from_slice(alloc, text.as_bytes())?,
-    ))
-}
-
-// A file whose last line isn't whole.
-fn cut_file(alloc: Global, path: &str, text: &str) -> Result<(String, Vec<u8>), AllocError> {
-    let (path, mut text) = file(alloc, path, text)?;
-    text.extend_from_slice(b"at 7 18")?;
-    Ok((path, text))
-}
-
-// Records by their names.
-fn files(alloc: Global, failing: u64) -> Result<MapFiles, AllocError> {
-    let held = vec![in alloc;
-        file(alloc, "signed", SIGNED)?,
-        cut_file(alloc, "cut", SIGNED)?,
-        file(alloc, "waiting", WAITING)?,
-        file(alloc, "left", LEFT)?,
-        file(alloc, "later", LATER)?,
-        file(alloc, "asked", ASKED)?,
-        file(alloc, "agreed", AGREED)?,
-        file(alloc, "bad", BAD)?,
-        file(alloc, "none", "")?,
-        file(alloc, "begun", "join cl")?,
-    ]?;
-    Ok(MapFiles::new(held, [failing].to_vec(alloc)?))
+// The text of a record, and the front of a line behind it.
+fn text_of(alloc: Global, record: &str) -> Result<Vec<u8>, AllocError> {
+    let (lines, front) = match record {
+        "signed" => (SIGNED, ""),
+        "cut" => (SIGNED, "at 7 18"),
+        "waiting" => (WAITING, ""),
+        "left" => (LEFT, ""),
+        "later" => (LATER, ""),
+        "asked" => (ASKED, ""),
+        "agreed" => (AGREED, ""),
+        "bad" => (BAD, ""),
+        "begun" => ("", "join cl"),
+        _ => ("", ""),
+    };
+    let mut text = Vec::from_slice(alloc, lines.as_bytes())?;
+    text.extend_from_slice(front.as_bytes())?;
+    Ok(text)
 }
 
 // Words with single spaces between them.
@@ -79,11 +71,14 @@ pub fn logs(
     label: &str,
 ) {
     assert!(rt; run.cut > 0, "{label}");
+    assert!(rt; run.piece > 0, "{label}");
     let words = words(rt, alloc, run.words);
-    let mut files = files(alloc, run.failing_file).expect(rt, "the files");
+    let text = text_of(alloc, run.record).expect(rt, "the record");
+    let failing = [run.failing_read].to_vec(alloc).expect(rt, "a number");
+    let mut input = SliceSource::new(&text, run.piece, failing);
     let failing = [run.failing_write].to_vec(alloc).expect(rt, "a number");
     let mut output = VecSink::with_cut(alloc, 4096, run.cut, failing).expect(rt, "a sink");
-    let ended = log_main(alloc, &words, &mut files, &mut output);
+    let ended = log_main(alloc, &words, &mut input, &mut output);
     assert_eq!(rt; ended, status, "{label}");
     assert_eq!(rt; output.written(), written.as_bytes(), "{label}");
 }

@@ -10,23 +10,24 @@ use std::test::*;
 fn each_request_is_a_line_with_its_fate(rt: HostRuntime) {
     let alloc = rt.alloc();
     let cases = [
-        ("signed", LogStatus::Whole, SIGNED_LINE),
-        ("waiting", LogStatus::Whole, WAITING_LINE),
-        ("left", LogStatus::Whole, LEFT_LINE),
-        ("later 5", LogStatus::Whole, REFUSED_LINE),
-        ("later 6", LogStatus::Whole, WAITING_LINE),
-        ("later 0", LogStatus::Whole, WAITING_LINE),
-        ("asked", LogStatus::Whole, ASKED_LINE),
-        ("agreed", LogStatus::Whole, AGREED_LINE),
-        ("none", LogStatus::Whole, ""),
+        ("signed", "", LogStatus::Whole, SIGNED_LINE),
+        ("waiting", "", LogStatus::Whole, WAITING_LINE),
+        ("left", "", LogStatus::Whole, LEFT_LINE),
+        ("later", "5", LogStatus::Whole, REFUSED_LINE),
+        ("later", "6", LogStatus::Whole, WAITING_LINE),
+        ("later", "0", LogStatus::Whole, WAITING_LINE),
+        ("asked", "", LogStatus::Whole, ASKED_LINE),
+        ("agreed", "", LogStatus::Whole, AGREED_LINE),
+        ("none", "", LogStatus::Whole, ""),
     ];
-    for (words, status, written) in cases {
-        for cut in [1, 7, u32::MAX] {
+    for (record, words, status, written) in cases {
+        for (piece, cut) in [(1, 1), (7, u32::MAX), (u32::MAX, 7)] {
             let run = Run {
+                piece,
                 cut,
-                ..whole(words)
+                ..whole(record, words)
             };
-            logs(&rt, alloc, &run, status, written, words);
+            logs(&rt, alloc, &run, status, written, record);
         }
     }
 }
@@ -39,38 +40,47 @@ fn a_cut_line_waits_and_a_bad_one_is_named(rt: HostRuntime) {
         ("begun", LogStatus::Waits, ""),
         ("bad", LogStatus::BadRecord { line: 3 }, ""),
     ];
-    for (words, status, written) in cases {
-        logs(&rt, alloc, &whole(words), status, written, words);
+    for (record, status, written) in cases {
+        logs(&rt, alloc, &whole(record, ""), status, written, record);
     }
 }
 
 #[test]
 fn other_words_are_refused(rt: HostRuntime) {
     let alloc = rt.alloc();
-    for words in ["", "signed 1y", "signed x", "signed 5 5", "missing x"] {
-        logs(&rt, alloc, &whole(words), LogStatus::Usage, "", words);
+    for words in ["1y", "x", "5 5", "5 x"] {
+        logs(
+            &rt,
+            alloc,
+            &whole("signed", words),
+            LogStatus::Usage,
+            "",
+            words,
+        );
     }
 }
 
 #[test]
-fn files_and_writes_that_fail_end_it(rt: HostRuntime) {
+fn reads_and_writes_that_fail_end_it(rt: HostRuntime) {
     let alloc = rt.alloc();
+    // A record is one read, and its end another.
     let cases = [
-        ("signed", 1, 0, LogStatus::FileFault, ""),
-        ("signed", 2, 0, LogStatus::Whole, SIGNED_LINE),
-        ("missing", 0, 0, LogStatus::FileFault, ""),
+        ("signed", 1, 0, LogStatus::ReadFault, ""),
+        ("signed", 2, 0, LogStatus::ReadFault, SIGNED_LINE),
+        ("waiting", 2, 0, LogStatus::ReadFault, ""),
+        ("signed", 3, 0, LogStatus::Whole, SIGNED_LINE),
         ("signed", 0, 1, LogStatus::WriteFault, ""),
         ("waiting", 0, 1, LogStatus::WriteFault, ""),
         ("cut", 0, 1, LogStatus::WriteFault, ""),
         ("none", 0, 1, LogStatus::Whole, ""),
         ("signed", 0, 2, LogStatus::Whole, SIGNED_LINE),
     ];
-    for (words, failing_file, failing_write, status, written) in cases {
+    for (record, failing_read, failing_write, status, written) in cases {
         let run = Run {
-            failing_file,
+            failing_read,
             failing_write,
-            ..whole(words)
+            ..whole(record, "")
         };
-        logs(&rt, alloc, &run, status, written, words);
+        logs(&rt, alloc, &run, status, written, record);
     }
 }

@@ -1,0 +1,20 @@
+use Rattle.std.proofs.Common.{◌-◌}
+use Rattle.world_ports.specs.Streams.{OnlyReads, OnlyWrites}
+use Rattle.log_core.specs.Logging.{IsUnderWay, read_so_far}
+use Rattle.replay_run.specs.Replay.{longest_schedule}
+use Rattle.log_core.proofs.rounds.run_rounds.Given as goal
+
+-- the log is under way, and nothing else changed
+abbrev pub invariant-rounds : goal.invariant-rounds
+invariant-rounds g l = record {
+  under : IsUnderWay l.fn.life
+      (record { input = g.I.Stream.seen l.fn.input; output = g.O.Stream.seen l.fn.output })
+      (record { input = g.I.Stream.seen l.input; output = g.O.Stream.seen l.output })
+      l.log;
+  input_only : OnlyReads (g.I.Stream.seen l.fn.input) (g.I.Stream.seen l.input);
+  output_only : OnlyWrites (g.O.Stream.seen l.fn.output) (g.O.Stream.seen l.output);
+}
+
+-- the bytes that the record may still have
+abbrev pub decreases-rounds : goal.decreases-rounds
+decreases-rounds g l = longest_schedule - read_so_far l.log
