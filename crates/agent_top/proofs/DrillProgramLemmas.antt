@@ -13,7 +13,7 @@ use Rattle.replay_run.specs.declared.run_end.RunEnd.{RunEnd}
 use Rattle.replay_run.specs.declared.run_end.RunEnd.TheVariants.{Done, Refused, Memory, ReadFault, WriteFault}
 use Rattle.agent_top.specs.DrillProgram.{DrillCompletes, DrillsExactly, DrillsLawfully}
 use Rattle.agent_top.specs.Program.{status_of}
-use Rattle.agent_top.specs.Words.{Drilling, drill_words, drilling, if_few, most_rounds, replay_life, rounds_in}
+use Rattle.agent_top.specs.Words.{Drilling, drill_words, drilling, replay_life, rounds_in}
 use Rattle.agent_top.proofs.LawfulRunLemmas.{lawful_run}
 
 -- each end says what its status says
@@ -41,15 +41,17 @@ drill_completes_by rounds seed WriteFault old new ends = λ none. absurd (none e
 -- ---- words
 
 -- the words ask for few rounds
-few_if : (test : Bool) (rounds found : ℕ) → nat_le rounds most_rounds ≡ test
+few_if : (test : Bool) (rounds found : ℕ) → nat_le rounds 100000 ≡ test
     → (if test then Some rounds else None) ≡ Some found → found ≤ 100000
 few_if true rounds found few is =
     let same : rounds ≡ found = cc in grind (arith, nat_tests)
 few_if false rounds found few is = absurd (cc)
 
-few_in : (number : Option ℕ) (found : ℕ) → option_and_then if_few number ≡ Some found → found ≤ 100000
+few_in : (number : Option ℕ) (found : ℕ)
+    → option_and_then (λ rounds. if nat_le rounds 100000 then Some rounds else None) number ≡ Some found
+    → found ≤ 100000
 few_in None found is = absurd (cc)
-few_in (Some rounds) found is = few_if (nat_le rounds most_rounds) rounds found refl is
+few_in (Some rounds) found is = few_if (nat_le rounds 100000) rounds found refl is
 
 rounds_of : (rounds seed : Option ℕ) (asked : Drilling) → drilling rounds seed ≡ Some asked
     → rounds ≡ Some asked.rounds

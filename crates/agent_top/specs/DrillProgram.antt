@@ -16,20 +16,12 @@ use Rattle.replay_run.specs.Feeding.{Wrote}
 abbrev pub DrillsExactly : Drilling → Status → StreamView → StreamView → Type 0
 -- the summary is written, and no write failed
 DrillsExactly asked status.Done old new = Wrote old new (summary asked.rounds asked.seed)
--- no schedule is read
-DrillsExactly asked (status.ScheduleRefused line fault) old new = ⊥
--- the words were those of `drill`
-DrillsExactly asked status.Usage old new = ⊥
--- no socket is bound
-DrillsExactly asked status.BindFault old new = ⊥
--- nothing is waited for
-DrillsExactly asked status.PollFault old new = ⊥
 -- a front of the summary is written
 DrillsExactly asked status.Memory old new = WritesPart (summary asked.rounds asked.seed) old new
--- nothing is read
-DrillsExactly asked status.ReadFault old new = ⊥
 -- a write failed, and a front of the summary is written
 DrillsExactly asked status.WriteFault old new = DrillEndsAtWriteFault asked.rounds asked.seed old new
+-- the words were those of `drill`, no schedule and nothing else is read, no socket is bound, and nothing is waited for
+DrillsExactly asked other old new = ⊥
 
 -- where no write failed, the drill was run to its end, unless memory ran out
 abbrev pub DrillCompletes : Status → StreamView → StreamView → Type 0

@@ -33,29 +33,21 @@ abbrev pub ReplaysExactly : Option ℕ → Status → Seen → Seen → Type 0
 ReplaysExactly life status.Done old new = EndsDone life old new
 -- the first refused line of the input is this one, and all that the input prints is written
 ReplaysExactly life (status.ScheduleRefused line fault) old new = EndsRefused life line fault old new
--- the words were those of `replay`
-ReplaysExactly life status.Usage old new = ⊥
--- no socket is bound: the words weren't those of `serve`
-ReplaysExactly life status.BindFault old new = ⊥
--- nothing is waited for
-ReplaysExactly life status.PollFault old new = ⊥
 -- a front of what the input prints is written
 ReplaysExactly life status.Memory old new = EndsEarly life old new
 -- a read failed, and all that the whole lines before it print is written
 ReplaysExactly life status.ReadFault old new = EndsAtReadFault life old new
 -- a write failed, and a front of what the input prints is written
 ReplaysExactly life status.WriteFault old new = EndsAtWriteFault life old new
+-- the words were those of `replay`, no socket is bound, and nothing is waited for
+ReplaysExactly life other old new = ⊥
 
 -- the input was run to its end or to its first refused line, unless memory ran out
 abbrev pub IsComplete : Status → Type 0
 IsComplete status.Done = Unit {0}
 IsComplete (status.ScheduleRefused line fault) = Unit {0}
-IsComplete status.Usage = ⊥
-IsComplete status.BindFault = ⊥
-IsComplete status.PollFault = ⊥
 IsComplete status.Memory = Unit {0}
-IsComplete status.ReadFault = ⊥
-IsComplete status.WriteFault = ⊥
+IsComplete other = ⊥
 
 -- it was run to its end, unless memory ran out
 abbrev pub IsFinished : Status → Type 0

@@ -9,13 +9,14 @@ use Rattle.world_ports.specs.Journal.{Grows}
 use Rattle.world_ports.specs.Streams.{StreamView}
 use Rattle.world_ports.specs.declared.entry.Entry.{Entry}
 use Rattle.record_world.specs.Leads.{IsFront}
-use Rattle.record_world.specs.Recording.{first_recording, is_full, record_of, recording_after}
+use Rattle.redact_core.specs.Redaction.{is_over}
+use Rattle.record_world.specs.Recording.{first_recording, record_of, recording_after}
 use Rattle.agent_top.specs.declared.status.Status.{Status}
 use Rattle.agent_top.specs.declared.status.Status.TheVariants as status
 
 -- the passphrases of these calls take more room than they may
 abbrev pub HaveNoRoom : List Entry → Type 0
-HaveNoRoom calls = is_full (recording_after first_recording calls) ≡ true
+HaveNoRoom calls = is_over (recording_after first_recording calls).passphrases ≡ true
 
 -- the record of the calls was written: all of it, or a front where a write failed, the passphrases have no room or memory
 -- ran out; and the status tells no fault only where they have room

@@ -5,7 +5,7 @@
 --   order things are served
 --   agent_model, specs/Step.antt: one step of the abstract agent
 --   agent_model, specs/Dispatch.antt: the table of requests
-use Rattle.std.specs.Prelude.{◌≡◌, Bool, true, false, List, Option, ◌⊎◌, Ok, Err}
+use Rattle.std.specs.Prelude.{◌≡◌, Bool, true, false, List, Option, ◌⊎◌, Ok, Err, if◌then◌else◌}
 use Rattle.world_ports.specs.declared.entry.Entry.{Entry}
 use Rattle.world_ports.specs.declared.answers.Polled.TheVariants as polled
 use Rattle.world_ports.specs.declared.answers.WorldFault.TheVariants as fault
@@ -23,30 +23,22 @@ status_of_serving ends.BindFault = status.BindFault
 status_of_serving ends.PollFault = status.PollFault
 status_of_serving ends.Memory = status.Memory
 
--- the status of a recorded loop that came to its end, by whether its record broke
-abbrev pub done_by : Bool → Status
-done_by true = status.WriteFault
-done_by false = status.Done
-
 -- the status of a recorded loop with this end, by whether memory ran out for the record and
 -- whether that broke
 abbrev pub status_of_recorded : Bool → Bool → ServeEnd → Status
 status_of_recorded true failed end = status.Memory
-status_of_recorded false failed ends.Over = done_by failed
-status_of_recorded false failed ends.Idle = done_by failed
+status_of_recorded false failed ends.Over = if failed then status.WriteFault else status.Done
+status_of_recorded false failed ends.Idle = if failed then status.WriteFault else status.Done
 status_of_recorded false failed ends.BindFault = status.BindFault
 status_of_recorded false failed ends.PollFault = status.PollFault
 status_of_recorded false failed ends.Memory = status.Memory
 
--- the world told that nothing will become ready any more, or the loop was to end as soon as it is idle, and is
-abbrev pub RunsToItsEnd : Setting → Option (List Entry) → Option (List Entry) → Type 0
-RunsToItsEnd setting old new =
-    RunsUpToPoll setting Unbound old new (Ok polled.Over) ⊎ RunsUntilIdle setting Unbound old new
-
 -- the calls are those that the abstract agent's loop may make, up to the end that the status names; they are recorded
 -- where the words say so
 abbrev pub ServesExactly : Bool → Setting → Status → Option (List Entry) → Option (List Entry) → Type 0
-ServesExactly is_recorded setting status.Done old new = RunsToItsEnd setting old new
+-- the world told that nothing will become ready any more, or the loop was to end as soon as it is idle, and is
+ServesExactly is_recorded setting status.Done old new =
+    RunsUpToPoll setting Unbound old new (Ok polled.Over) ⊎ RunsUntilIdle setting Unbound old new
 -- there is no schedule
 ServesExactly is_recorded setting (status.ScheduleRefused line fault) old new = ⊥
 -- the words were those of `serve`
@@ -59,5 +51,6 @@ ServesExactly is_recorded setting status.PollFault old new = RunsUpToPoll settin
 ServesExactly is_recorded setting status.Memory old new = RunsOut setting Unbound old new
 -- nothing is read
 ServesExactly is_recorded setting status.ReadFault old new = ⊥
--- the record couldn't be written to its end
-ServesExactly is_recorded setting status.WriteFault old new = (is_recorded ≡ true) × RunsToItsEnd setting old new
+-- the same, but that the record couldn't be written to its end
+ServesExactly is_recorded setting status.WriteFault old new =
+    (is_recorded ≡ true) × ServesExactly is_recorded setting status.Done old new

@@ -8,7 +8,7 @@ use Rattle.world_ports.specs.Life.{life_of}
 use Rattle.agent_model.specs.State.{Settings, first_state, usual_limits}
 use Rattle.ready_loop.specs.Serving.{Setting}
 use Rattle.schedule_text.specs.Numbers.{number_of}
-use Rattle.serve_words.specs.Serve.{begins, is_set, is_usage, life_in, some_life, value_of}
+use Rattle.serve_words.specs.Serve.{is_set, is_usage, life_in, some_life, value_of}
 
 -- the words, as text
 abbrev pub texts_of : List (String Global) → List (List ℕ)
@@ -26,17 +26,9 @@ pub record Drilling : Type 0 where
   pub rounds : ℕ
   pub seed : ℕ
 
--- a number of rounds: a number as those of a schedule, and at most 100000
-abbrev pub most_rounds : ℕ
-most_rounds = 100000
-
--- the number of rounds, where it is at most the bound
-abbrev pub if_few : ℕ → Option ℕ
-if_few rounds = if nat_le rounds most_rounds then Some rounds else None
-
--- the number of rounds that a word says
+-- the number of rounds that a word says: a number as those of a schedule, and at most 100000
 abbrev pub rounds_in : List ℕ → Option ℕ
-rounds_in text = option_and_then if_few (number_of text)
+rounds_in text = option_and_then (λ rounds. if nat_le rounds 100000 then Some rounds else None) (number_of text)
 
 -- both numbers, where there are both
 abbrev pub drilling : Option ℕ → Option ℕ → Option Drilling
@@ -69,10 +61,6 @@ pub record IsServe (words : List (String Global)) (setting : Setting) : Type 0 w
   pub path : value_of (codes "path") (texts_of words) ≡ Some setting.path
   pub until_idle : setting.until_idle ≡ is_set (value_of (codes "until-idle") (texts_of words))
   pub state : setting.state ≡ first_state (served_with (life_in (texts_of words)))
-
--- the first word is `serve`
-abbrev pub BeginsServe : List (String Global) → Type 0
-BeginsServe words = begins (texts_of words) ≡ true
 
 -- the words are none of the forms
 pub record IsUsage (words : List (String Global)) : Type 0 where

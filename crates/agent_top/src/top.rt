@@ -7,10 +7,10 @@ ghost use Rattle.agent_top.specs.RecordProgram.{AddedHaveNoRoom, RecordsExactly}
 ghost use Rattle.agent_top.specs.ServeFair.{ServesFairly};
 ghost use Rattle.agent_top.specs.ServeLaw.{ServesLawfully};
 ghost use Rattle.agent_top.specs.ServeProgram.{ServesExactly};
-ghost use Rattle.agent_top.specs.Words.{BeginsServe, Drilling, IsDrill, IsReplay, IsServe, IsUsage, drill_words, replay_life, texts_of};
+ghost use Rattle.agent_top.specs.Words.{Drilling, IsDrill, IsReplay, IsServe, IsUsage, drill_words, replay_life, texts_of};
 ghost use Rattle.ready_loop.specs.Serving.{Setting};
 ghost use Rattle.replay_run.specs.Claims.{Seen};
-ghost use Rattle.serve_words.specs.Serve.{is_recorded, life_in};
+ghost use Rattle.serve_words.specs.Serve.{begins, is_recorded, life_in};
 ghost use Rattle.world_ports.specs.Causes.{Rose};
 ghost use Rattle.world_ports.specs.Streams.{OnlyReads, OnlyWrites};
 
@@ -88,7 +88,7 @@ pub fn agent_main<R: Wait, W: World, I: Source, O: Sink>(
     // of other words
     ensures usage { result ≡ Status.Usage → IsUsage words.now }
     ensures refused { IsUsage words.now
-        → (result ≡ Status.Usage) ⊎ ((result ≡ Status.Memory) × BeginsServe words.now) }
+        → (result ≡ Status.Usage) ⊎ ((result ≡ Status.Memory) × (begins (texts_of words.now) ≡ true)) }
     ensures unused { IsUsage words.now
         → (input.new ≡ input.old) × (output.new ≡ output.old) × (world.new ≡ world.old) }
     // of each object, whatever the words

@@ -18,7 +18,8 @@ use Rattle.world_ports.specs.declared.entry.Entry.{Entry}
 use Rattle.world_ports.specs.declared.entry.Entry.TheVariants as entry
 use Rattle.wire_text.specs.Bounds.{longest_body}
 use Rattle.wire_text.specs.Frames.{Bad, Front, More, Whole, front, split}
-use Rattle.redact_core.specs.Redaction.{Redacted, kept_len, redacted_all}
+use Rattle.redact_core.specs.Places.{kept_len}
+use Rattle.redact_core.specs.Redaction.{Redacted, redacted_all}
 use Rattle.redact_core.proofs.GrowLemmas.{all_more, over_more}
 use Rattle.record_world.specs.Recording.{Port, Recording, after, at_accept, at_read, at_start, at_write, client_taken, find_port, heard, is_full, record_from, recording_after, rest_taken, taken_by, text_of}
 use Rattle.record_world.specs.Leads.{BreaksFor, IsFront, IsWritten, Leads, Stays, Taped, Writes, is_stopped}

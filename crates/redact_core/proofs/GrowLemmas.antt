@@ -8,7 +8,8 @@ use Rattle.std.proofs.lemmas.List.Sums.{sum_by_push}
 use Rattle.agent_msg.specs.Reading.{request_of}
 use Rattle.agent_msg.specs.Requests.{ClientRequest, ListIdentities, Sign, Add, Remove, RemoveAll, Lock, Unlock, Bind, OtherExtension, Unsupported}
 use Rattle.agent_msg.specs.declared.fault.MsgFault.{MsgFault}
-use Rattle.redact_core.specs.Redaction.{is_over, kept_len, most_kept, noted_by, numbered, redacted, redacted_all, redacted_as, room_of}
+use Rattle.redact_core.specs.Places.{kept_len, most_kept, room_of}
+use Rattle.redact_core.specs.Redaction.{is_over, noted_by, numbered, redacted, redacted_all, redacted_as}
 
 noted_more : (place : Option ℕ) (passphrase : List ℕ) (early : List (List ℕ))
     → kept_len early ≤ kept_len (noted_by place passphrase early)

@@ -15,8 +15,8 @@ use Rattle.std.proofs.lemmas.List.FromFn.{map-range_with_len_more, length-map-ra
 use Rattle.std.proofs.lemmas.List.Sums.{sum_by-cons, sum_by_push}
 use Rattle.std.proofs.lemmas.Map.Text.{is_eq-slice_cmp}
 use Rattle.std.proofs.lemmas.Slice.Eq.{bytes_eq-Decides}
-use Rattle.redact_core.specs.Places.{AreBelow, IsPlaced, passphrase_at, place_in, placed}
-use Rattle.redact_core.specs.Redaction.{is_over, kept_len, most_kept, noted, noted_by, number_by, number_of, room_of}
+use Rattle.redact_core.specs.Places.{AreBelow, IsPlaced, kept_len, most_kept, passphrase_at, place_in, placed, room_of}
+use Rattle.redact_core.specs.Redaction.{is_over, noted, noted_by, number_by, number_of}
 
 -- ---- positions
 

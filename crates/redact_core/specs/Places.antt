@@ -1,12 +1,23 @@
 -- Passphrases in an ordered index, each with the place at which it first came (ours).
-use Rattle.std.specs.Prelude.{◌≡◌, ◌==◌, ◌<◌, ◌≤◌, ℕ, List, [], ◌∷◌, length, map, cond, Option}
+use Rattle.std.specs.Prelude.{◌≡◌, ◌==◌, ◌+◌, ◌<◌, ◌≤◌, ℕ, List, [], ◌∷◌, length, map, cond, Option}
 use Rattle.std.specs.Cmp.Lexicographic.{slice_cmp}
-use Rattle.std.specs.List.{position, range_with_len}
+use Rattle.std.specs.List.{position, range_with_len, sum_by}
 use Rattle.std.specs.Map.{lookup}
 use Rattle.std.specs.BTreeMap.{is_at}
 use Rattle.std.specs.Ordering.{nat_cmp}
 use Rattle.std.specs.Str.{bytes_eq}
-use Rattle.redact_core.specs.Redaction.{kept_len, most_kept}
+
+-- the room that a passphrase takes: its bytes, and 64 for its place (ours)
+abbrev pub room_of : List ℕ → ℕ
+room_of passphrase = length passphrase + 64
+
+-- the room that passphrases take
+abbrev pub kept_len : List (List ℕ) → ℕ
+kept_len passphrases = sum_by room_of passphrases
+
+-- the most room that they may take: 4 MiB (ours)
+abbrev pub most_kept : ℕ
+most_kept = 4194304
 
 -- the passphrase at a place
 abbrev pub passphrase_at : ℕ → List (List ℕ × ℕ) → List ℕ

@@ -52,21 +52,9 @@ abbrev pub noted : List ℕ → List (List ℕ) → List (List ℕ)
 noted passphrase passphrases =
     noted_by (position (bytes_eq passphrase) passphrases) passphrase passphrases
 
--- the room that a passphrase takes: its bytes, and 64 for its place (ours)
-abbrev pub room_of : List ℕ → ℕ
-room_of passphrase = length passphrase + 64
-
--- the room that passphrases take
-abbrev pub kept_len : List (List ℕ) → ℕ
-kept_len passphrases = sum_by room_of passphrases
-
--- the most room that they may take: 4 MiB (ours)
-abbrev pub most_kept : ℕ
-most_kept = 4194304
-
--- they take more
+-- they take more room than 4 MiB, each its bytes and 64 for its place (ours)
 abbrev pub is_over : List (List ℕ) → Bool
-is_over passphrases = nat_lt most_kept (kept_len passphrases)
+is_over passphrases = nat_lt 4194304 (sum_by (λ passphrase. length passphrase + 64) passphrases)
 
 -- a body without its secrets, and the passphrases that came, in order
 pub record Redacted : Type 0 where

@@ -1,6 +1,6 @@
 use Rattle.std.proofs.Common.{◌≡◌, ◌+◌, ◌≤◌, ◌∙◌, ℕ, None, length, ap, arith, subst, sym}
-use Rattle.redact_core.specs.Places.{IsPlaced, place_in}
-use Rattle.redact_core.specs.Redaction.{most_kept, noted}
+use Rattle.redact_core.specs.Places.{IsPlaced, most_kept, place_in}
+use Rattle.redact_core.specs.Redaction.{noted}
 use Rattle.redact_core.proofs.PlaceLemmas.{none_of, noted_then, placed_then}
 use Rattle.redact_core.proofs.passphrases.Passphrases.note.Goals as goal
 use Rattle.redact_core.proofs.passphrases.Passphrases.note.Goals.{in-Err, in-Ok}
