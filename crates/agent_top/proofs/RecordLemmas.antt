@@ -49,9 +49,10 @@ records_as : (short failed : Bool) (end : ServeEnd) (after : Recording) (calls :
     → IsFront text (record_of calls)
     × (¬ (Rose old.write_faults new.write_faults) → ¬ (HaveNoRoom calls) → ¬ (status_of_recorded short failed end ≡ status.Memory) → text ≡ record_of calls)
     × (status_of_recorded short failed end ≡ status.Done → ¬ (HaveNoRoom calls))
+unfolding tells_done
 records_as short true end after calls old new text cause front = (
   front,
-  λ none fine memory. elim cause [ | inl rose ↦ absurd (none rose) | inr full ↦ absurd (fine full) ],
+  λ none fine memory. elim cause [ inl rose ↦ absurd (none rose) | inr full ↦ absurd (fine full) ],
   λ finished full. (let both : true ≡ false = whole_by short true end finished in absurd cc),
 )
 records_as true false end after calls old new text cause front =
@@ -73,7 +74,7 @@ records_by short failed end after (Some before) later old new leads = λ calls g
     let parts = records_as short failed end after calls old new leads.writes.text
     (subst (λ (c : List Entry). BreaksFor false false failed old.write_faults new.write_faults (is_full (recording_after first_recording c))) same leads.writes.cause)
     (subst (λ (c : List Entry). IsWritten false (failed || short) first_recording after c leads.writes.text) same leads.writes.lines) in
-    record { text = leads.writes.text; written = leads.writes.written; front = parts.0; whole = parts.1.0; room = parts.1.1 }
+    record { text = leads.writes.text; written = leads.writes.written; front = parts.0; whole = parts.1; room = parts.2 }
 
 -- what a recorder wrote since it was made
 pub since_made : (journal begun later : Option (List Entry)) (old : StreamView) (first last : Taped)

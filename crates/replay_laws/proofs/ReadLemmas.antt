@@ -1,7 +1,6 @@
 -- A body that is told is read as the body itself, but for its secrets.
 use Rattle.std.proofs.Common.{◌≡◌, ℕ, ◌≤◌, List, [], ◌∷◌, ◌++◌, length, drop, map, refl, sym, ap, ◌∙◌, arith, inl, inr, Bool, true, false, Result, Ok, Err}
-use Rattle.std.specs.Prelude.{◌⊎◌, ◌==◌, ◌≢◌, ◌&&◌}
-use Rattle.std.specs.Cmp.Lexicographic.{pointwise}
+use Rattle.std.specs.Prelude.{◌⊎◌, ◌==◌, ◌≢◌}
 use Rattle.std.proofs.lemmas.Bool.{cases_eq}
 use Rattle.std.proofs.lemmas.Bool.Decides.{nat_tests}
 use Rattle.std.proofs.lemmas.List.{drop_at, length-replicate}
@@ -10,7 +9,7 @@ use Rattle.wire_text.specs.Wire.{IsBytes, string}
 use Rattle.wire_text.proofs.WireLemmas.{length-string}
 use Rattle.wire_core.specs.Fields.{string_at, string_len}
 use Rattle.key_blob.specs.AddedKeys.{IsAddedKey, added_key_at}
-use Rattle.key_blob.specs.KeyTypes.{text, type_of}
+use Rattle.key_blob.specs.KeyTypes.{type_of}
 use Rattle.key_blob.specs.PublicKeys.{KeyParts, public_key_of}
 use Rattle.key_blob.specs.Reading.{form_at, strings}
 use Rattle.key_blob.specs.declared.added.AddedKey.{AddedKey}
@@ -19,7 +18,7 @@ use Rattle.key_blob.specs.declared.fault.KeyFault.TheVariants as key_faults
 use Rattle.agent_msg.specs.declared.fault.MsgFault.{MsgFault}
 use Rattle.agent_msg.specs.declared.fault.MsgFault.TheVariants as fault
 use Rattle.agent_msg.specs.Reading.{request_of, request_of_number}
-use Rattle.agent_msg.specs.Requests.{Addition, BindRequest, ClientRequest, IsConstrainedAddition, IsOfOtherNumber, IsPlainAddition, IsText, ListIdentities, Sign, Add, Remove, RemoveAll, Lock, Unlock, Bind, OtherExtension, Unsupported, bind_front, names_bind, session_bind}
+use Rattle.agent_msg.specs.Requests.{Addition, BindRequest, ClientRequest, IsConstrainedAddition, IsOfOtherNumber, IsPlainAddition, IsText, ListIdentities, Sign, Add, Remove, RemoveAll, Lock, Unlock, Bind, OtherExtension, Unsupported, bind_front, names_bind}
 use Rattle.agent_msg.proofs.FoundLemmas.{request_is_found}
 use Rattle.agent_msg.proofs.ReadLemmas.{request_is_read}
 use Rattle.redact_core.specs.Blanks.{blanked}
@@ -148,7 +147,7 @@ alone_read number other bytes shown =
     (record { contents = []; printed = ap (λ (n : ℕ). n ∷ []) same; other = shown.other })
 
 -- it is no extension's
-no_extension : (number other : ℕ) (bytes : List ℕ) → IsOfOtherNumber (number ∷ bytes) other → (number == 27) ≡ false
+no_extension : (number other : ℕ) (bytes : List ℕ) → IsOfOtherNumber (number ∷ bytes) other → (27 == number) ≡ false
 no_extension number other bytes shown =
     let same : number ≡ other = (let printed : number ∷ bytes ≡ other ∷ shown.contents = shown.printed in cc) in
     let apart : other ≢ 27 = shown.other 8 27 (omega arith) in
@@ -156,7 +155,7 @@ no_extension number other bytes shown =
     grind (arith, nat_tests)
 
 -- such a body begins no request to bind
-names_nothing : (number : ℕ) (bytes : List ℕ) → (number == 27) ≡ false → names_bind (number ∷ bytes) ≡ false
+names_nothing : (number : ℕ) (bytes : List ℕ) → (27 == number) ≡ false → names_bind (number ∷ bytes) ≡ false
 unfolding names_bind bind_front
 names_nothing number bytes apart = rw apart refl
 

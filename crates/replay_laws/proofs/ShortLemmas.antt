@@ -89,7 +89,7 @@ module _ (all : List (List ℕ)) (few : length all < 2 ^ 64) where
       named_length passphrase number early front
   length_by (Ok (Bind bind)) number bytes early is each within front = within
   length_by (Ok (OtherExtension name)) number bytes early is each within front = within
-  length_by (Ok (Unsupported other)) number bytes early is each within front = within
+  length_by (Ok (Unsupported other)) number bytes early is each within front = omega arith
   length_by (Err what) number bytes early is each within front =
       unread_length (holds_secrets number) number bytes within
 

@@ -58,6 +58,10 @@ listed = Joined Clients ∷ Heard 1 (take 10 (add 17)) ∷ Heard 1 (drop 10 (add
 abbrev pub refused : List Happening
 refused = Joined Clients ∷ Heard 1 (0 ∷ 0 ∷ 0 ∷ 3 ∷ 22 ∷ 112 ∷ 119 ∷ [] ++ 0 ∷ 0 ∷ 0 ∷ 0 ∷ 1 ∷ 2 ∷ []) ∷ Took 1 5 ∷ []
 
+-- a client names a smartcard and its PIN
+abbrev pub carded : List Happening
+carded = Joined Clients ∷ Heard 1 (0 ∷ 0 ∷ 0 ∷ 6 ∷ 20 ∷ 1 ∷ 2 ∷ 3 ∷ 4 ∷ 5 ∷ []) ∷ []
+
 -- a client asks for a list
 abbrev pub asked : List Happening
 asked = Joined Clients ∷ Heard 1 list ∷ []

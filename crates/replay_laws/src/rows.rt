@@ -9,7 +9,7 @@ ghost use Rattle.agent_model.specs.State.{first_state, no_settings};
 ghost use Rattle.agent_model.specs.TimeRows.{limited};
 ghost use Rattle.replay_laws.specs.Replaying.{AreRead, IsRecorded, first_replay, recording_of};
 ghost use Rattle.agent_model.specs.Runs.{AllFit, AreInRange};
-ghost use Rattle.replay_laws.specs.Rows.{all_at_5, asked, late, listed, locked, refused};
+ghost use Rattle.replay_laws.specs.Rows.{all_at_5, asked, carded, late, listed, locked, refused};
 ghost use Rattle.replay_laws.specs.Rows.{seen, seen_again, told, unlocked};
 
 /// Passphrases are told by their numbers, and unlock as they did.
@@ -35,6 +35,14 @@ pub fn what_is_refused_is_replayed()
         ∷ (Heard 1 (0 ∷ 0 ∷ 0 ∷ 1 ∷ 22 ∷ 0 ∷ 0 ∷ 0 ∷ 0 ∷ []) ∷ []) ∷ (Took 1 5 ∷ []) ∷ [] }
     ensures seen { seen no_settings (all_at_5 refused) ≡ [] ∷ [] ∷ [] }
     ensures again { seen_again no_settings (all_at_5 refused) ≡ [] ∷ [] ∷ [] }
+{}
+
+/// What isn't served is told by its number, and refused as it was.
+pub fn what_is_not_served_is_replayed()
+    ensures told { told no_settings (all_at_5 carded) ≡ (Joined Clients ∷ [])
+        ∷ (Heard 1 (0 ∷ 0 ∷ 0 ∷ 1 ∷ 20 ∷ []) ∷ []) ∷ [] }
+    ensures seen { seen no_settings (all_at_5 carded) ≡ (1 ∷ []) ∷ failed ∷ [] }
+    ensures again { seen_again no_settings (all_at_5 carded) ≡ (1 ∷ []) ∷ failed ∷ [] }
 {}
 
 /// Such a run meets what the law asks for.
