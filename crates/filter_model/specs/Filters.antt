@@ -21,9 +21,9 @@ pub record Numbered : Type 0 where
   pub number : ℕ
   pub pair : Pair
 
--- what may be used, the open pairs by rising numbers, the number of the last pair that joined, the pairs whose connection
--- to the agent behind is spare, the one first of which it is so longest, the pairs that the last event closed, and those
--- whose connection to the agent behind it gave back
+-- what may be used, the open pairs by rising numbers, the number of the last pair that joined, the pairs whose
+-- connection to the agent behind is spare, the one first of which it is so longest, the pairs that the last event
+-- closed, and those whose connection to the agent behind it gave back
 pub record State : Type 0 where
   pub listed : Listed
   pub pairs : List Numbered

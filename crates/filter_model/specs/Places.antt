@@ -6,11 +6,11 @@ use Rattle.filter_model.specs.Pairs.{Pair}
 use Rattle.filter_model.specs.Lists.{Listed}
 use Rattle.filter_model.specs.Filters.{AllFit, Happening, State, find_pair, first_state, has_number, has_place, links, most_links, most_spares, run}
 
--- the pair of this number has a connection to the agent behind only while something is under way there, where a bind was
--- forwarded, or as one of the spare ones
+-- the pair of this number has a connection to the agent behind only while something is under way there, where a bind
+-- was forwarded, or as one of the spare ones
 abbrev pub IsNeeded : ℕ → List ℕ → Pair → Type 0
-IsNeeded number spares pair = pair.waits ≡ Nothing → pair.upstream.heard ≡ [] → pair.upstream.owed ≡ [] → pair.is_linked ≡ true
-    → (pair.is_bound || has_number number spares) ≡ true
+IsNeeded number spares pair = pair.waits ≡ Nothing → pair.upstream.heard ≡ [] → pair.upstream.owed ≡ []
+    → pair.is_linked ≡ true → (pair.is_bound || has_number number spares) ≡ true
 
 -- the pair has a connection to the agent behind on which nothing is under way, and no bind was ever forwarded
 pub record IsIdle (pair : Pair) : Type 0 where

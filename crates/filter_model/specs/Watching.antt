@@ -225,16 +225,16 @@ answers exchanges = flat_map (λ exchange. exchange.answers) exchanges
 abbrev pub replies : List Exchange → List ℕ
 replies exchanges = flat_map (λ exchange. exchange.reply) exchanges
 
--- what holds while a pair's connection to the agent behind isn't used, or there is none: a body that waits for its reply
--- is owed whole, none that was sent is unanswered, and no bind was ever sent
+-- what holds while a pair's connection to the agent behind isn't used, or there is none: a body that waits for its
+-- reply is owed whole, none that was sent is unanswered, and no bind was ever sent
 pub record IsApart (pair : Pair) (exchanges : List Exchange) (pending : List (List ℕ)) : Type 0 where
   pub unheard : pair.upstream.heard ≡ []
   pub whole : pair.upstream.owed ≡ frames pending
   pub unbound : list_any is_bind (bodies exchanges) ≡ false
 
 -- what a pair sent and is owed: upstream the frames of the taken bodies that are forwarded, and the client a reply to
--- each body in order, but for the last at most. A connection to the agent behind begins and is given back or lost between
--- two frames, and once a bind was sent on it, no other one is made
+-- each body in order, but for the last at most. A connection to the agent behind begins and is given back or lost
+-- between two frames, and once a bind was sent on it, no other one is made
 pub record IsExact (listed : Listed) (watched : Watched) : Type 0 where
   pub taken : List (List ℕ)
   pub exchanges : List Exchange

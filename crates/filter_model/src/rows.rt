@@ -50,9 +50,9 @@ pub fn others_are_kept_in_order()
     ensures whole { wants 1 Client (after (Heard 1 Client (list ++ list) ∷ [])) ≡ false }
 {}
 
-/// A pair keeps its connection to the agent behind, and asks again over it, unless more than 16 that owe nothing keep one,
-/// or no place is left for another. Who lost one gets another, unless a bind was sent on it, or a request that isn't
-/// answered. There are 64 at most.
+/// A pair keeps its connection to the agent behind, and asks again over it, unless more than 16 that owe nothing keep
+/// one, or no place is left for another. Who lost one gets another, unless a bind was sent on it, or a request that
+/// isn't answered. There are 64 at most.
 pub fn connections_are_few()
     ensures waiting { can_send 1 Upstream (after (Heard 1 Client list ∷ [])) ≡ true }
     ensures refused { can_send 1 Upstream (after (Heard 1 Client remove_all ∷ [])) ≡ false }
@@ -77,8 +77,8 @@ pub fn connections_are_few()
     ensures lost_bound { (after (answered bind (Lost 1 ∷ []))).closes ≡ 1 ∷ [] }
 {}
 
-/// Journals: what is ready is served in its turn and before a poll, pairs are closed at once, and so are connections that
-/// ended.
+/// Journals: what is ready is served in its turn and before a poll, pairs are closed at once, and so are connections
+/// that ended.
 pub fn journals_are_legal()
     ensures unbound { is_legal (poll_door ∷ []) ≡ false }
     ensures joined { is_legal (joins (read_none Client ∷ accept_none ∷ poll_nothing ∷ [])) ≡ true }

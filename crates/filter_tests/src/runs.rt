@@ -44,8 +44,8 @@ fn a_list_is_cut_to_the_listed_keys(rt: HostRuntime) -> Result<(), Fail> {
 }
 
 // The calls of that run are a bind, a wait, an accept, a read and an accept that find nothing; a wait, the read of the
-// request, the connect, a read that finds nothing, the write of the request; a wait, the read of the answer, its write, a
-// read that finds nothing; and the last wait.
+// request, the connect, a read that finds nothing, the write of the request; a wait, the read of the answer, its write,
+// a read that finds nothing; and the last wait.
 #[test]
 fn each_failing_call_has_its_end(rt: HostRuntime) -> Result<(), Fail> {
     let alloc = rt.alloc();
