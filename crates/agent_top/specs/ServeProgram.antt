@@ -53,4 +53,4 @@ ServesExactly is_recorded setting status.Memory old new = RunsOut setting Unboun
 ServesExactly is_recorded setting status.ReadFault old new = ⊥
 -- the same, but that the record couldn't be written to its end
 ServesExactly is_recorded setting status.WriteFault old new =
-    (is_recorded ≡ true) × ServesExactly is_recorded setting status.Done old new
+    (is_recorded ≡ true) × (RunsUpToPoll setting Unbound old new (Ok polled.Over) ⊎ RunsUntilIdle setting Unbound old new)
