@@ -172,10 +172,13 @@ def what_is_not_served_is_told_by_its_number(folder):
     with agent.peer() as peer:
         for number in (20, 21, 26, 7, 24, 3, 255):
             assert peer.ask(number, string(b"reader"), string(pin))[0] == FAILURE
+        # What the last of them took is told before the next is heard.
+        assert peer.ask(LIST)[0] == IDENTITIES
     agent.end()
     record = (folder / "record").read_bytes()
     assert not is_in(pin, record) and b"hear 1 0000000114\n" in record, record
-    assert replayed(record)[1] == (b"\0\0\0\1" + bytes([FAILURE])) * 7
+    refusals = (b"\0\0\0\1" + bytes([FAILURE])) * 7
+    assert replayed(record)[1][: len(refusals)] == refusals
 
 
 @check
