@@ -81,7 +81,7 @@ def identities(body: bytes) -> list[tuple[bytes, bytes]] | None:
 
 class Links:
     """The connections of a filter's pairs to the agent behind: how many there are, and the pairs that owe nothing over
-    theirs and never bound it, the one first to which something happened longest ago."""
+    theirs and never bound it, the one first of which it is so longest."""
 
     def __init__(self) -> None:
         self.count = 0
@@ -89,8 +89,9 @@ class Links:
 
     def tell(self, pair: Pair) -> None:
         """Something happened to this pair."""
-        self.spares = [other for other in self.spares if other is not pair]
-        if pair.is_spare():
+        if not pair.is_spare():
+            self.spares = [other for other in self.spares if other is not pair]
+        elif pair not in self.spares:
             self.spares.append(pair)
         if self.spares and (len(self.spares) > MOST_SPARES or self.count >= MOST_LINKS):
             self.spares.pop(0).link(False)
