@@ -68,7 +68,7 @@ OWN := $(if $(DESTDIR),,$(filter $(HOME)/%,$(PREFIX)) $(filter-out 0,$(shell id 
 UNITS := $(if $(strip $(OWN)),$(or $(XDG_DATA_HOME),$(HOME)/.local/share)/systemd/user,$(DESTDIR)$(PREFIX)/lib/systemd/user)
 UNIT := contrib/systemd/mortarleek-agent$(if $(strip $(OWN)),.own).service
 COMPLETIONS := $(SHARE)/bash-completion/completions $(SHARE)/zsh/site-functions $(SHARE)/fish/vendor_completions.d
-HELPERS := mortarleek_signer mortarleek-helper standin_helper confirm_relay add_tool filter_proxy audit_prog log_prog
+HELPERS := mortarleek_signer mortarleek-helper standin_helper confirm_relay add_tool terms_relay filter_proxy audit_prog log_prog
 SCRIPTS := $(notdir $(wildcard front/mortarleek front/mortarleek-*))
 # What these start and source beside the programs.
 PARTS := agent_guard front_end.sh version

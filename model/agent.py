@@ -9,15 +9,16 @@ from collections.abc import Callable
 from dataclasses import dataclass, field
 
 from . import formats
-from .rules import Binding, Chain, Rules, may_sign, room, visible
+from .rules import Binding, Chain, Purposes, Rules, are_for, may_sign, principals, room, visible
 from .wire import Fault, demand, string, take_frame, uint32, within
 
 # "client" and "child" are open ports, of children those that haven't said hello.
 LIMITS = {"body of a client": 262144, "body of a child": 262144, "list": 262144}
 LIMITS |= {"client": 128, "child": 32, "asks": 256, "confirmations": 16}
 LIMITS |= {"bindings": 16, "session": 128}
-# Bytes of all private strings and rules, and of the host keys of one connection.
+# Bytes of all private strings and rules, and of the host keys of one connection and what they name.
 LIMITS |= {"room": 8388608, "host keys": 262144}
+LIMITS |= {"principals": 1024}
 # The seconds for which an ask may stay unanswered, and a confirmation open.
 WAITS = {"ask": 60, "confirmation": 300}
 
@@ -35,6 +36,7 @@ class Identity:
     confirm: bool
     uses: int | None
     rules: Rules | None
+    purposes: Purposes
 
 
 @dataclass
@@ -230,7 +232,7 @@ class Agent:
     def sign(self, number: int, client: Port, blob: bytes, message: bytes, flags: int) -> None:
         demand(blob in self.identities, "sign: not held")
         identity, signing = self.identities[blob], (blob, message, flags)
-        self.test_rules(client, identity, blob, message)
+        self.may_sign(client, identity, blob, message)
         if not identity.confirm:
             return self.put_signing(number, identity, signing)
         demand(not self.above("confirmations", len(self.confirmations) + 1), "confirmations")
@@ -241,7 +243,10 @@ class Agent:
             number, self.mono, identity.addition, signing, frame
         )
 
-    def test_rules(self, client: Port, identity: Identity, blob: bytes, message: bytes) -> None:
+    def may_sign(self, client: Port, identity: Identity, blob: bytes, message: bytes) -> None:
+        """Raises why a key isn't to sign a message: what it is for, or where to."""
+        demand(are_for(identity.purposes, blob, message), "other purpose")
+        self.seen["purpose: one of the key's"] += bool(identity.purposes)
         within("rules", may_sign, identity.rules, blob, client.chain, message, self.wall)
         self.seen["rules: permit"] += bool(identity.rules)
 
@@ -256,15 +261,16 @@ class Agent:
         size = 5 + sum(8 + len(each) + len(text) for each, text in comments.items())
         demand(not self.above("list", size), "add: list is full")
         others = [each for held_blob, each in self.identities.items() if held_blob != blob]
-        taken = sum(room(each.private, each.rules) for each in others)
-        taken += room(private, terms.get("rules"))
+        purposes = terms.get("purposes", frozenset())
+        taken = sum(room(each.private, each.rules, each.purposes) for each in others)
+        taken += room(private, terms.get("rules"), purposes)
         demand(not self.above("room", taken), "add: no room")
         self.seen["add: replaced"] += held is not None
         life = terms.get("life", self.default_life)
         death = None if life is None else self.mono + life
         number, confirm = self.next_number("addition"), "confirm" in terms
         uses, rules = terms.get("uses"), terms.get("rules")
-        key = Identity(number, private, comment, death, confirm, uses, rules)
+        key = Identity(number, private, comment, death, confirm, uses, rules, purposes)
         self.identities[blob] = key
         return SUCCESS
 
@@ -308,6 +314,8 @@ class Agent:
         demand(not self.above("bindings", len(chain) + 1), "bind: full")
         size = len(host_key) + sum(len(binding.host_key) for binding in chain)
         demand(not self.above("host keys", size), "bind: host keys")
+        named = principals(host_key) + sum(principals(binding.host_key) for binding in chain)
+        demand(not self.above("principals", named), "bind: principals")
         return True
 
     def put(self, ask: Ask, frame: Callable[..., bytes], *fields: object) -> None:
@@ -364,7 +372,7 @@ class Agent:
         try:
             demand(self.passphrase is None, "locked")
             demand(identity is not None and identity.addition == told.addition, "not held")
-            self.test_rules(self.ports[told.asker], identity, *told.signing[:2])
+            self.may_sign(self.ports[told.asker], identity, *told.signing[:2])
             self.put_signing(told.asker, identity, told.signing)
             self.seen["confirmation: granted"] += 1
         except Fault as cause:

@@ -1,8 +1,9 @@
 """An audit: which signatures a helper was asked for in a run, if its record and its deeds fit.
 
-    python3 -m model.audit RECORD DEEDS [LIFE]
+    python3 -m model.audit RECORD DEEDS [LIFE] [--confirm-limit SECONDS]
 
-RECORD is a schedule, DEEDS what some agent printed for it, LIFE the default lifetime of its keys.
+RECORD is a schedule, DEEDS what some agent printed for it, LIFE the default lifetime of its keys,
+SECONDS the limit of questions to the user.
 """
 
 from __future__ import annotations
@@ -15,8 +16,9 @@ from itertools import zip_longest
 
 from .add_tool import read_life
 from .agent import Agent, Ask
-from .replay import LONGEST_SCHEDULE, Run
+from .replay import Run
 
+LONGEST_FILE = 268435456
 YES, DIFFERS, USAGE, FILE_FAULT, BAD_RECORD, WRITE_FAULT = 0, 1, 2, 3, 4, 6
 Result = tuple[bytes, int]
 
@@ -41,8 +43,8 @@ class Watched(Agent):
 class WatchedRun(Run):
     """The run of a schedule by such an agent, which knows the line of an event and its settling."""
 
-    def __init__(self, default_life: int | None) -> None:
-        super().__init__(default_life)
+    def __init__(self, default_life: int | None, confirm_limit: int | None = None) -> None:
+        super().__init__(default_life, confirm_limit)
         self.agent: Watched = Watched(default_life)
 
     def line(self, line: bytes, ended: bool = True) -> None:
@@ -63,9 +65,9 @@ def first_difference(one: bytes, other: bytes) -> int | None:
     return None
 
 
-def verdict(record: bytes, deeds: bytes, life: int | None) -> Result:
+def verdict(record: bytes, deeds: bytes, *chosen: int | None) -> Result:
     """What is printed of a record and its deeds, and the status."""
-    run = WatchedRun(life)
+    run = WatchedRun(*chosen)
     run.text(record)
     if run.status:
         return b"bad %d\n" % run.lines, BAD_RECORD
@@ -77,24 +79,36 @@ def verdict(record: bytes, deeds: bytes, life: int | None) -> Result:
     return "".join(line + "\n" for line in lines).encode(), YES
 
 
+def choices(words: list[str]) -> tuple[int, int | None] | None:
+    """The default lifetime, and the limit of questions: `[LIFE] [--confirm-limit SECONDS]`."""
+    words, limit = list(words), None
+    if words[-2:-1] == ["--confirm-limit"]:
+        limit = read_life(words.pop())
+        words.pop()
+        if not limit:
+            return None
+    life = read_life(words[0]) if words else 0
+    return None if len(words) > 1 or life is None else (life, limit)
+
+
 def audit(words: list[str], read: Callable[[str], bytes | None]) -> Result:
     """The audit of these words. A file that can't be read, or is too long, is read as none."""
-    life = read_life(words[2]) if len(words) == 3 else 0
-    if len(words) not in (2, 3) or life is None:
+    chosen = choices(words[2:])
+    if len(words) < 2 or chosen is None:
         return b"", USAGE
     record, deeds = read(words[0]), read(words[1])
     if record is None or deeds is None:
         return b"", FILE_FAULT
-    return verdict(record, deeds, life)
+    return verdict(record, deeds, *chosen)
 
 
 def read_file(path: str) -> bytes | None:
     try:
         with open(path, "rb") as file:
-            text = file.read(LONGEST_SCHEDULE + 1)
+            text = file.read(LONGEST_FILE + 1)
     except (OSError, ValueError):
         return None
-    return text if len(text) <= LONGEST_SCHEDULE else None
+    return text if len(text) <= LONGEST_FILE else None
 
 
 def written(output: bytes, status: int) -> int:

@@ -121,6 +121,24 @@ class ChildMoves(Moves):
         if self.chance(0.7):
             self.tend()
 
+    def purposes(self) -> None:
+        """A key for some purposes is to sign for several, maybe after a question; it may be added again meanwhile."""
+        random, port, key = self.random, self.client(fresh=0.3), self.pick(self.keys)
+        extra = random.choice([b"", b"", b"\x02", pool.uses(2)])
+        add = b"\x19" + key.added + string(b"c") + pool.some_purposes(random) + extra
+        self.send(port, add, cut=0)
+        for _ in range(random.choice([1, 2, 3])):
+            if port not in self.agent.ports or self.agent.ports[port].waits:
+                return
+            messages = [self.login(port, key), pool.file_data(random), b"m", pool.login(random, key, b"s", b"u", None)]
+            self.send(port, b"\x0d" + string(key.blob) + string(random.choice(messages)) + uint32(0), cut=0.03)
+            if self.chance(0.15):
+                other = self.client(fresh=0.3)
+                if other in self.agent.ports:
+                    self.send(other, b"\x19" + key.added + string(b"d") + pool.some_purposes(random), cut=0)
+            if self.chance(0.8):
+                self.tend(well=0.95)
+
     def bind(self, port: int, host_key: bytes, session: bytes, forwarding: int) -> None:
         """Binds a client, where the helper says so."""
         if port in self.agent.ports:

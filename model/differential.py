@@ -19,15 +19,18 @@ from types import ModuleType
 
 from .drill import drill
 from .generate import GOALS, Case, Schedule
-from .replay import LONGEST_LINE, LONGEST_SCHEDULE, replay
+from .replay import LONGEST_LINE, replay
 from .rows_secrets import EVERY_ROW
 
 HERE = Path(__file__).parent
 Result = tuple[bytes, int]
 
 
-def run_program(program: str, text: bytes, life: int | None = None) -> Result:
+def run_program(
+    program: str, text: bytes, life: int | None = None, limit: int | None = None
+) -> Result:
     words = [program, "replay"] + ([] if life is None else ["-t", str(life)])
+    words += [] if limit is None else ["--confirm-limit", str(limit)]
     done = subprocess.run(words, input=text, stdout=subprocess.PIPE, stderr=subprocess.DEVNULL)
     return done.stdout, done.returncode
 
@@ -79,17 +82,18 @@ def show(title: str, text: bytes) -> None:
         print("   ", line if len(line) <= 300 else f"{line[:300]}.. ({len(line)} characters)")
 
 
-def show_mismatch(program: str, text: bytes, life: int | None) -> None:
+def show_mismatch(program: str, text: bytes, life: int | None, limit: int | None) -> None:
     def differs(some: bytes) -> bool:
-        return run_program(program, some, life) != replay(some, life)
+        return run_program(program, some, life, limit) != replay(some, life, limit)
 
     short = shorten(text, differs)
     place = Path("bin/mismatch.schedule")
     place.write_bytes(short)
-    show(f"a mismatch, with a default lifetime of {life} ({place} has it whole)", short)
+    chosen = f"a default lifetime of {life} and a limit of questions of {limit}"
+    show(f"a mismatch, with {chosen} ({place} has it whole)", short)
     for name, (output, status) in [
-        ("the program", run_program(program, short, life)),
-        ("the model", replay(short, life)),
+        ("the program", run_program(program, short, life, limit)),
+        ("the model", replay(short, life, limit)),
     ]:
         show(f"{name}, with status {status}", output)
 
@@ -113,8 +117,8 @@ def try_rows(program: str) -> bool:
     return rows_agree(
         EVERY_ROW,
         {
-            "the model": lambda row: replay(row.schedule, row.life),
-            "the program": lambda row: run_program(program, row.schedule, row.life),
+            "the model": lambda row: replay(row.schedule, row.life, row.limit),
+            "the program": lambda row: run_program(program, row.schedule, row.life, row.limit),
         },
     )
 
@@ -138,20 +142,15 @@ def run_long(program: str, line: bytes, count: int, last: bytes) -> Result:
     return output, child.returncode
 
 
-def try_longest(program: str) -> bool:
-    """A schedule of the longest length, and one with a byte more in its last line."""
+def try_long(program: str) -> bool:
+    """A schedule of 300 MB, with a last line that counts and one that is refused."""
     line, last = b"#" * (LONGEST_LINE - 1) + b"\n", b"join client\n"
-    count = LONGEST_SCHEDULE // len(line) - 1
-    for more, wanted in [(0, (b"end\n", 0)), (1, (b"refused %d long\n" % (count + 2), 1))]:
-        padding = b"#" * (LONGEST_LINE - 1 - len(last) + more) + b"\n"
-        size = count * len(line) + len(padding) + len(last)
-        if (
-            size != LONGEST_SCHEDULE + more
-            or run_long(program, line, count, padding + last) != wanted
-        ):
-            print(f"a schedule of {size} bytes: the program prints something else")
+    count = 300_000_000 // len(line)
+    for more, wanted in [(b"", (b"end\n", 0)), (b"x\n", (b"refused %d word\n" % (count + 2), 1))]:
+        if run_long(program, line, count, last + more) != wanted:
+            print("a schedule of 300 MB: the program prints something else")
             return False
-    print(f"schedules of {LONGEST_SCHEDULE} bytes and one more, by the program")
+    print("schedules of 300 MB, by the program")
     return True
 
 
@@ -217,7 +216,8 @@ def try_one(task: tuple[str, str]) -> tuple[bool, Counter[str], int]:
     program, seed = task
     writer = Schedule(seed)
     text, life, wanted = writer.case()
-    return run_program(program, text, life) == wanted, writer.seen(), text.count(b"\n")
+    done = run_program(program, text, life, writer.limit)
+    return done == wanted, writer.seen(), text.count(b"\n")
 
 
 def try_schedules(program: str, count: int, seed: str) -> bool:
@@ -227,9 +227,10 @@ def try_schedules(program: str, count: int, seed: str) -> bool:
         for task, (same, reached, length) in zip(tasks, pool.imap(try_one, tasks, 8)):
             if not same:
                 pool.terminate()
-                text, life, _ = Schedule(task[1]).case()
+                writer = Schedule(task[1])
+                text, life, _ = writer.case()
                 print(f"schedule {task[1]}:")
-                show_mismatch(program, text, life)
+                show_mismatch(program, text, life, writer.limit)
                 return False
             seen += reached
             lines += length
@@ -279,8 +280,9 @@ def tell_found(kind: str, edits: list[dict[str, str]], found: list[tuple[int, st
     return missed == 0
 
 
-def write_case(seed: str) -> Case:
-    return Schedule(seed).case()
+def write_case(seed: str) -> tuple[Case, int | None]:
+    writer = Schedule(seed)
+    return writer.case(), writer.limit
 
 
 MODELS = ("wire", "formats", "rules", "agent", "replay", "add_tool", "record", "audit", "log")
@@ -302,9 +304,9 @@ def wrong_module(edit: dict[str, str], wanted: str) -> ModuleType:
 def first_found(edit: dict[str, str]) -> int | None:
     """The number of the first schedule that tells this wrong model from the right one."""
     wrong = wrong_module(edit, "replay")
-    for place, (text, life, wanted) in enumerate(CASES, 1):
+    for place, ((text, life, wanted), limit) in enumerate(CASES, 1):
         try:
-            if wrong.replay(text, life) != wanted:
+            if wrong.replay(text, life, limit) != wanted:
                 return place
         except Exception:
             return place
@@ -337,7 +339,7 @@ def main() -> int:
         return int(not try_wrong(words.count, words.seed))
     good = (
         try_rows(words.program)
-        and try_longest(words.program)
+        and try_long(words.program)
         and try_examples(words.program)
         and try_drills(words.program, max(20, words.count // 100), words.seed)
         and try_schedules(words.program, words.count, words.seed)

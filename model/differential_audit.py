@@ -18,14 +18,15 @@ from pathlib import Path
 from random import Random
 
 from . import audit
-from .audit import BAD_RECORD, DIFFERS, FILE_FAULT, USAGE, WRITE_FAULT, YES
+from .audit import BAD_RECORD, DIFFERS, FILE_FAULT, LONGEST_FILE, USAGE, WRITE_FAULT, YES
 from .differential import Result, rows_agree, wrong_module
 from .generate import Schedule, garbled_text
 from .over_files import edge_holds, found_by, run, run_program, show_difference, try_cases
 from .record import record
-from .replay import LONGEST_SCHEDULE, replay
+from .replay import replay
 from .replays import Played, try_each
 from .rows_audit import ROWS
+from .writer import limit_by
 
 WRONG = "wrong_audits.txt"
 
@@ -44,11 +45,13 @@ class Case:
         text, life = written(random, seed)
         if random.random() < 0.3:
             text = with_comments(random, text)
-        deeds = replay(text, life)[0]
-        self.kind, text, deeds = changed(random, text, deeds, life)
+        limit = limit_by(seed)
+        deeds = replay(text, life, limit)[0]
+        self.kind, text, deeds = changed(random, text, deeds, life, limit)
         self.words, self.files = ["r", "d"], {"r": text, "d": deeds}
         if life or random.random() < 0.1:
             self.words.append(f"{life or 0}{random.choice(['', '', 's', 'S'])}")
+        self.words += [] if limit is None else ["--confirm-limit", str(limit)]
         if random.random() < 0.06:
             self.kind = self.other_words(random)
         self.wanted = audit.audit(self.words, self.files.get)
@@ -83,7 +86,7 @@ def with_comments(random: Random, text: bytes) -> bytes:
 
 
 def changed(
-    random: Random, text: bytes, deeds: bytes, life: int | None
+    random: Random, text: bytes, deeds: bytes, life: int | None, limit: int | None
 ) -> tuple[str, bytes, bytes]:
     """What was changed, the schedule, and the deeds."""
     lines = deeds.split(b"\n")[:-1]
@@ -116,7 +119,7 @@ def changed(
     elif kind == "another byte":
         return kind, text, deeds[:at] + bytes([random.randrange(256)]) + deeds[at + 1 :]
     elif kind == "another lifetime":
-        return kind, text, replay(text, random.choice([1, 2, 3, 30]) + (life or 0))[0]
+        return kind, text, replay(text, random.choice([1, 2, 3, 30]) + (life or 0), limit)[0]
     elif kind == "the record":
         return kind, garbled_text(random, text), deeds
     elif kind == "the record's format":
@@ -149,7 +152,7 @@ def try_edges(program: list[str]) -> bool:
         files = {"record": text, "deeds": deeds, "longest": b"", "longer": b"", "bad": b"x\n"}
         for name, some in files.items():
             Path(folder, name).write_bytes(some)
-        for name, size in (("longest", LONGEST_SCHEDULE), ("longer", LONGEST_SCHEDULE + 1)):
+        for name, size in (("longest", LONGEST_FILE), ("longer", LONGEST_FILE + 1)):
             os.truncate(f"{folder}/{name}", size)
         for words, place, wanted in [
             ("record deeds", None, (b"yes 0\n", YES)),

@@ -30,9 +30,8 @@ if not __package__:
 from model.filter import BIND, Links, Pair
 from model.wire import string, uint32
 
-# Beside the program so few that none of their connections is given back for another: which goes first is up to moments
-# that only the program sees (tests/filter.py has the seventeenth of quiet clients).
-BESIDE, PAIRS, PIECES, PATIENCE = 16, 48, 1200, 20.0
+# More pairs than may keep a spare connection, and fewer than may have one at once, so that nobody waits for a place.
+PAIRS, PIECES, PATIENCE = 48, 1200, 20.0
 
 # What a filter that waits for an answer leaves in the socket has to fit there. Python's own time limit would wait until
 # three quarters of the socket are free, and a piece counts until all of it was read: so the kernel's limit is used.
@@ -144,7 +143,8 @@ class Played:
     def send(self, side: str, piece: bytes) -> None:
         """A side sends a piece, or ends where it is empty."""
         if not piece:
-            self.ends[side].shutdown(socket.SHUT_RDWR)
+            # What the agent behind ended is read to its end, so that nothing else happens before the filter noticed.
+            self.ends[side].shutdown(socket.SHUT_RDWR if side == "client" else socket.SHUT_WR)
             self.model.end(side)
             return
         self.model.hear(side, piece)
@@ -234,9 +234,9 @@ def play(
 ) -> None:
     """Pairs beside each other, of which one after another gets a piece."""
     links = Links()
-    played = [(Played(path, listener, purposes, links), Script()) for _ in range(BESIDE)]
+    played = [(Played(path, listener, purposes, links), Script()) for _ in range(PAIRS)]
     for _ in range(PIECES):
-        number = dice.randrange(BESIDE)
+        number = dice.randrange(PAIRS)
         pair, script = played[number]
         if not pair.model.is_open:
             seen["closed"] += 1
@@ -282,12 +282,16 @@ WRONG = {
     "leaves the count of all": ("uint32(len(kept))", "uint32(len(entries))"),
     "lists nothing for a failure": ("            return FAILURE\n", "            return b'\\x0c' + uint32(0)\n"),
     "keeps what nobody asked for": ('raise Fault("unasked")', "return False"),
-    "keeps what stands behind an answer": ("self.answer() or self.request()", "self.request() or self.answer()"),
+    "keeps what stands behind an answer": ('raise Fault("behind an answer")', "pass"),
     "takes a request before the answer": ("        if self.waits:\n            return False\n", ""),
     "passes on what is no list": ('raise Fault("no list")', "return body"),
     "refuses without an answer": ("string(body if self.waits else FAILURE)", "(string(body) if self.waits else b'')"),
     "gives a bound connection back": ("self.is_linked and not self.is_bound and not", "self.is_linked and not"),
     "gives one back that owes": ("not self.is_bound and not self.waits", "not self.is_bound"),
+    "sees nothing between an answer and a request": (
+        "self.answer():\n                    self.links.tell(self)",
+        "self.answer():\n                    pass",
+    ),
     "keeps one more": ("len(self.spares) > MOST_SPARES", "len(self.spares) > MOST_SPARES + 1"),
     "keeps none": ("len(self.spares) > MOST_SPARES", "len(self.spares) > 0"),
     "gives the newest one back": ("self.spares.pop(0)", "self.spares.pop()"),

@@ -28,6 +28,7 @@ from .pool import KEYS
 from .replays import try_each
 from .rows_log import ROWS
 from .wire import string, uint32
+from .writer import limit_by
 
 WRONG = "wrong_logs.txt"
 
@@ -41,11 +42,13 @@ class Case:
         if random.random() < 0.3:
             text = with_comments(random, text)
         if random.random() < 0.3:
-            text = with_files(random, text, life)
+            text = with_files(random, text, life, limit_by(seed))
         self.kind, text = changed(random, text)
         self.words, self.files = ["r"], {"r": text}
         if life or random.random() < 0.1:
             self.words.append(f"{life or 0}{random.choice(['', '', 's', 'S'])}")
+        limit = limit_by(seed)
+        self.words += [] if limit is None else ["--confirm-limit", str(limit)]
         if random.random() < 0.04:
             self.kind = self.other_words(random)
         self.wanted = log.log(self.words, self.files.get)
@@ -56,9 +59,9 @@ class Case:
         return "other words"
 
 
-def with_files(random: Random, text: bytes, life: int | None) -> bytes:
+def with_files(random: Random, text: bytes, *chosen: int | None) -> bytes:
     """The schedule, and a client behind it that has keys sign for files, or nearly so."""
-    run = log.LogRun(life)
+    run = log.LogRun(*chosen)
     run.text(text)
     port = run.agent.last["port"] + 1
     lines = [b"join client"]

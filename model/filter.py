@@ -3,14 +3,13 @@ side is sent, and when the pair is closed."""
 
 from __future__ import annotations
 
-from .formats import login
+from .purposes import purposes_of
 from .wire import Fault, Reader, string, take_frame, uint32
 
 LONGEST = 262144
 MOST_LINKS, MOST_SPARES = 64, 16
 FAILURE = b"\x05"
 BIND = b"session-bind@openssh.com"
-DIGESTS = {b"sha256": 32, b"sha512": 64}
 
 
 def reads(body: bytes, number: int, *fields: str) -> list | None:
@@ -24,35 +23,6 @@ def reads(body: bytes, number: int, *fields: str) -> list | None:
     except Fault:
         return None
     return found
-
-
-def namespace_of(message: bytes) -> bytes | None:
-    """The namespace of a file's signed data, or None where the message is none."""
-    reader = Reader(message)
-    try:
-        if reader.take(6) != b"SSHSIG":
-            return None
-        namespace, _, digested, digest = [reader.string() for _ in range(4)]
-        reader.end()
-    except Fault:
-        return None
-    return namespace if namespace and DIGESTS.get(digested) == len(digest) else None
-
-
-def is_login(message: bytes, blob: bytes) -> bool:
-    try:
-        login(message, blob)
-    except Fault:
-        return False
-    return True
-
-
-def purposes_of(message: bytes, blob: bytes) -> set[bytes]:
-    """The words for what the key of this blob signs the message for."""
-    if is_login(message, blob):
-        return {b"login"}
-    namespace = namespace_of(message)
-    return {b"other"} if namespace is None else {b"sshsig", b"sshsig:" + namespace}
 
 
 def is_signature_request(body: bytes, listed: set[bytes], purposes: set[bytes] | None) -> bool:
@@ -113,13 +83,13 @@ class Pair:
         self.made = 0
 
     def hear(self, side: str, piece: bytes) -> None:
-        """A side sends bytes, and each side takes what it is sent."""
+        """A side sends bytes, and each side takes what it is sent. Between an answer and the next request nothing is owed
+        to the agent behind, so that for this moment the connection counts as one more that is spare."""
         if self.is_open:
             self.unread[side] += piece
             try:
-                # Bytes behind an answer are none to the next request.
-                while self.answer() or self.request():
-                    pass
+                while self.request() or self.answer():
+                    self.links.tell(self)
             except Fault:
                 self.close()
             self.links.tell(self)
@@ -178,6 +148,9 @@ class Pair:
             return False
         self.sent["client"] += string(self.cut(body) if self.waits == "list" else body)
         self.waits = None
+        # Bytes behind an answer are none to the next request.
+        if self.unread["upstream"]:
+            raise Fault("behind an answer")
         return True
 
     def cut(self, body: bytes) -> bytes:

@@ -17,6 +17,7 @@ CERTIFIED = b"-cert-v01@openssh.com"
 BIND = b"session-bind@openssh.com"
 RESTRICT = b"restrict-destination-v00@openssh.com"
 USES = b"uses-v00@example.com"
+PURPOSES = b"purposes-v00@example.com"
 
 # A field has so many bytes, is these bytes, is a number of at most 2,048 bytes behind its zeros, or
 # (None) is any string.
@@ -178,13 +179,28 @@ def destination(text: bytes) -> tuple[Hop, Hop]:
     return source, target
 
 
+def purposes(text: bytes) -> set[bytes]:
+    """The words for what a key is for, which fill a text."""
+    taken: set[bytes] = set()
+    for word in strings(text):
+        demand(len(taken) < 64, "Purpose Many")
+        demand(len(word) <= 255, "Purpose Long")
+        namespace = word.removeprefix(b"sshsig:")
+        known = word in (b"login", b"sshsig", b"other") or namespace not in (b"", word)
+        demand(known, "Purpose Unknown")
+        demand(word not in taken, "Purpose Twice")
+        taken.add(word)
+    demand(bool(taken), "Purpose Missing")
+    return taken
+
+
 def constraints(text: bytes) -> dict[str, Any]:
-    """The lifetime, the wish for confirmation, the uses and the rules, as far as they are there."""
+    """The lifetime, the wish for confirmation, the uses, the purposes and the rules, as far as they are there."""
     reader, terms = Reader(text), {}
     while reader.left:
         kind = reader.byte()
         if kind == 255:
-            name = {RESTRICT: "rules", USES: "uses"}.get(reader.string())
+            name = {RESTRICT: "rules", USES: "uses", PURPOSES: "purposes"}.get(reader.string())
         else:
             name = {1: "life", 2: "confirm"}.get(kind)
         demand(name is not None, "Unknown")
@@ -196,6 +212,8 @@ def constraints(text: bytes) -> dict[str, Any]:
         elif name == "uses":
             terms[name] = reader.uint32()
             demand(terms[name] != 0, "NoUses")
+        elif name == "purposes":
+            terms[name] = purposes(reader.string())
         else:
             terms[name] = [destination(each) for each in strings(reader.string())]
             demand(terms[name] != [], "NoRules")

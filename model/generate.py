@@ -26,7 +26,7 @@ class Schedule(ChildMoves):
         text = self.write()
         if text and self.chance(0.1):
             text = garbled_text(self.random, text)
-            self.run = Run(self.life)
+            self.run = Run(self.life, self.limit)
             self.run.text(text)
             self.reached = Counter({"text garbled": 1, f"default lifetime {self.life}": 1})
         if self.run.status:
@@ -94,17 +94,18 @@ class Schedule(ChildMoves):
         port, host = self.client(), pool.PLAIN_HOSTS[0]
         origin = pool.hop(b"", b"", [])
         first = pool.rule(origin, pool.hop(b"", b"h", [host.entry]))
-        each, most = 193 + len(host.key), 261000 // len(first)
+        each, most = 200 + len(host.key), 261000 // len(first)
         for seed in range(100, 115):
             key = pool.plain_key(pool.STAND_IN, seed)
-            held = sum(room(one.private, one.rules) for one in self.agent.identities.values())
+            held = sum(room(one.private, one.rules, one.purposes) for one in self.agent.identities.values())
             count, more = divmod(LIMITS["room"] - held - len(key.added), each)
             if count >= most:
                 count, more = most, 0
             else:
                 more = max(0, more + self.random.choice([-1, 0, 0, 1, 1]))
             if count > 0:
-                last = pool.rule(origin, pool.hop(b"", b"h" * (1 + more), [host.entry]))
+                name, user = b"h" * (1 + more // 8), b"u" * (more % 8)
+                last = pool.rule(origin, pool.hop(user, name, [host.entry]))
                 rules = pool.restrict(*[first] * (count - 1), last)
                 self.send(port, b"\x19" + key.added + string(b"") + rules, cut=0)
 
@@ -179,6 +180,24 @@ class Schedule(ChildMoves):
             host_key = string(b"ssh-rsa") + string(b"\x03") + string(b"\x01" * (size - 20))
             self.bind(port, host_key, b"large %d" % place, forwarding=1)
 
+    def many_principals(self) -> None:
+        """Certificates of a connection's hosts that name as much as they may, one byte less or more."""
+        port, more = self.client(fresh=1), self.random.choice([-1, 0, 0, 1, 1])
+        for place, size in enumerate([300, 300, 424 + more]):
+            names = string(b"*") + string(b"n" * (size - 9))
+            host_key = pool.certificate(pool.ED25519, place, 2, names=names, signer=pool.CA)
+            self.bind(port, host_key, b"named %d" % place, forwarding=1)
+
+    def long_user(self) -> None:
+        """Logins of users of as many letters as are judged, or one more."""
+        key, port, host = self.keys[3], self.client(fresh=1), pool.PLAIN_HOSTS[0]
+        to_all = pool.rule(pool.hop(b"", b"", []), pool.hop(b"u*", b"h", [host.entry]))
+        self.send(port, b"\x19" + key.added + string(b"c") + pool.restrict(to_all), cut=0)
+        self.bind(port, host.key, b"session", forwarding=0)
+        user = b"u" * (4096 + self.random.choice([-1, 0, 0, 1, 1]))
+        message = pool.login(self.random, key, b"session", user, host.key)
+        self.send(port, b"\x0d" + string(key.blob) + string(message) + uint32(0), cut=0)
+
     def many_keys(self) -> None:
         """1,000 keys whose lifetimes end together, but for one that may be added again before."""
         port, life = self.client(fresh=1), self.random.choice([2, 10, 60])
@@ -252,6 +271,7 @@ MOVES: dict[str, int] = {
     "children": 12,
     "strays": 3,
     "ask": 10,
+    "purposes": 8,
     "binds": 8,
     "walk": 10,
     "confirm": 8,
@@ -269,6 +289,8 @@ LONG_MOVES: dict[str, int] = {
     "long_answer": 7,
     "many_bindings": 4,
     "large_host_keys": 5,
+    "many_principals": 5,
+    "long_user": 5,
     "many_confirmations": 6,
     "many_keys": 2,
 }
@@ -288,6 +310,9 @@ GOALS = [
             cause: constraints Reserved; cause: constraints FromUser; cause: constraints FromHalf
             cause: constraints ToHalf; cause: constraints NoRules; cause: constraints Key Short
             cause: constraints NoUses; use: last; use: more are left
+            cause: constraints Purpose Many; cause: constraints Purpose Long; cause: constraints Purpose Unknown
+            cause: constraints Purpose Twice; cause: constraints Purpose Missing
+            cause: other purpose; purpose: one of the key's
             cause: add: list is full; cause: add: no room; limit: room; limit: room + 1
             cause: remove: not held; cause: lock: empty passphrase
             cause: unlock: not locked; cause: unlock: another passphrase
@@ -298,6 +323,8 @@ GOALS = [
         # default lifetimes
         """default lifetime 0; default lifetime 1; default lifetime 3
             default lifetime 4294967295""",
+        # limits of questions
+        """confirm limit 1; confirm limit 5; confirm limit 60; confirm limit 4294967295""",
         # the helper
         """request 13; cause: helper lost; helper: REFUSED; helper: SIGNED; hello
             answer: asker left; cause: asks; limit: asks; limit: asks + 1; limit: child
@@ -312,6 +339,7 @@ GOALS = [
             cause: bind: empty session; cause: bind: long session; cause: bind: bound for a login
             cause: bind: another host key; cause: bind: full; limit: bindings; limit: bindings + 1
             cause: bind: host keys; limit: host keys; limit: host keys + 1
+            cause: bind: principals; limit: principals; limit: principals + 1
             limit: session; limit: session + 1""",
         # destination constraints
         """list: hidden; rules: permit; cause: add: not visible; cause: remove: not visible
@@ -321,7 +349,7 @@ GOALS = [
             cause: rules NotUserAuth Service; cause: rules NotUserAuth Method
             cause: rules NotUserAuth NoSignatureFlag; cause: rules NotUserAuth OtherKey
             cause: rules NotUserAuth Algorithm; cause: rules NotUserAuth HostKey Short
-            cause: rules NotUserAuth Trailing""",
+            cause: rules NotUserAuth Trailing; cause: rules LongUser""",
         # confirmations
         """confirmation: granted; confirmation: asker left; cause: confirmations
             limit: confirmations; limit: confirmations + 1; cause: granted: locked

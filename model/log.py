@@ -1,9 +1,10 @@
 """The log of a record: a line for each request for a signature that its agent read, with its fate.
 
-    python3 -m model.log [LIFE] < RECORD
+    python3 -m model.log [LIFE] [--confirm-limit SECONDS] < RECORD
 
-RECORD is a schedule, LIFE the default lifetime of its keys. The agent itself says when it reads a
-request, asks the user, asks its helper and was rid of a reply: no byte is read a second time.
+RECORD is a schedule, LIFE the default lifetime of its keys, SECONDS the limit of questions. The agent
+itself says when it reads a request, asks the user, asks its helper and was rid of a reply: no byte is
+read a second time.
 """
 
 from __future__ import annotations
@@ -16,9 +17,8 @@ from dataclasses import dataclass
 from datetime import datetime, timedelta, timezone
 
 from . import formats
-from .add_tool import read_life
 from .agent import Agent, Identity, Port
-from .audit import BAD_RECORD, USAGE, Result, written
+from .audit import BAD_RECORD, USAGE, Result, choices, written
 from .replay import LONGEST_LINE, LONGEST_SCHEDULE, Run
 from .wire import Fault, Reader, demand
 
@@ -179,14 +179,14 @@ def what(message: bytes, blob: bytes) -> bytes:
 
 
 class LogRun(Run):
-    def __init__(self, default_life: int | None) -> None:
-        super().__init__(default_life)
+    def __init__(self, default_life: int | None, confirm_limit: int | None = None) -> None:
+        super().__init__(default_life, confirm_limit)
         self.agent: Told = Told(default_life)
 
 
-def log_of(record: bytes, life: int | None) -> Result:
+def log_of(record: bytes, *chosen: int | None) -> Result:
     """The log of a record's whole lines, and the status: a line that isn't whole is refused where it is too long."""
-    run = LogRun(life)
+    run = LogRun(*chosen)
     run.text(record[: record.rfind(b"\n") + 1])
     rest = len(record) - record.rfind(b"\n") - 1
     is_long = rest > LONGEST_LINE or run.size + rest > LONGEST_SCHEDULE
@@ -197,11 +197,11 @@ def log_of(record: bytes, life: int | None) -> Result:
 def log(words: list[str], read: Callable[[str], bytes | None]) -> Result:
     """The log of the record that the first word names, by the others. One that can't be read is read as none."""
     name, *others = words
-    life = read_life(others[0]) if others else 0
-    if len(others) > 1 or life is None:
+    chosen = choices(others)
+    if chosen is None:
         return b"", USAGE
     record = read(name)
-    return (b"", READ_FAULT) if record is None else log_of(record, life)
+    return (b"", READ_FAULT) if record is None else log_of(record, *chosen)
 
 
 def read_input(_: str) -> bytes | None:

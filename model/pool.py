@@ -6,7 +6,7 @@ from dataclasses import dataclass
 from random import Random
 
 from .formats import BEHIND_CERTIFICATE, BIND, CERTIFIED, CURVES, ED25519, Fields, PRIVATE, PUBLIC
-from .formats import RESTRICT, RSA, STAND_IN, USES
+from .formats import PURPOSES, RESTRICT, RSA, STAND_IN, USES
 from .wire import string, uint32, uint64
 
 
@@ -172,6 +172,46 @@ def uses(count: int) -> bytes:
     return b"\xff" + string(USES) + uint32(count)
 
 
+WORDS = [b"login", b"sshsig", b"other", b"sshsig:git", b"sshsig:file", b"sshsig:g", b"sshsig:" + b"n" * 248]
+
+
+def purposes(*words: bytes) -> bytes:
+    return b"\xff" + string(PURPOSES) + string(*map(string, words))
+
+
+def some_purposes(random: Random) -> bytes:
+    return purposes(*random.sample(WORDS, random.choice([1, 1, 2, 3])))
+
+
+def faulty_purposes(random: Random) -> bytes:
+    many = [b"sshsig:%d" % place for place in range(64)]
+    faulty = [
+        purposes(),
+        purposes(*many, b"login"),
+        purposes(b"login", b"login"),
+        purposes(b"sshsig:" + b"n" * 249),
+        purposes(b"sshsig:"),
+        purposes(b"other", b"logins"),
+        purposes(b""),
+        purposes(b"Login"),
+        purposes(b"login")[:-1],
+        purposes(b"login") + purposes(b"other"),
+        b"\xff" + string(PURPOSES) + string(uint32(5) + b"logi"),
+        b"\xff" + string(PURPOSES) + string(string(b"login"), b"x"),
+        b"\xff" + string(PURPOSES),
+    ]
+    return random.choice([*faulty, purposes(*many)])
+
+
+def file_data(random: Random) -> bytes:
+    """A file's data as it is signed in a namespace, or nearly so."""
+    algorithm, size = random.choice([(b"sha256", 32), (b"sha512", 64), (b"sha512", 64), (b"sha256", 64)])
+    namespace = random.choice([b"git", b"git", b"file", b"g", b"gi", b""])
+    texts = [namespace, b"", algorithm, random.randbytes(size)]
+    front = random.choice([b"SSHSIG", b"SSHSIG", b"SSHSIG", b"SSHSIH"])
+    return front + b"".join(map(string, texts)) + random.choice([b"", b"", b"", b"x"])
+
+
 def terms(random: Random) -> bytes:
     """Constraints, in any order, sometimes faulty."""
     parts = []
@@ -193,6 +233,10 @@ def terms(random: Random) -> bytes:
     if random.random() < 0.1:
         faulty = [uint32(0), uint32(1) + b"\xff" + string(USES), uint32(0)[:3], b""]
         parts.append(b"\xff" + string(USES) + random.choice(faulty))
+    if random.random() < 0.25:
+        parts.append(some_purposes(random))
+    if random.random() < 0.06:
+        parts.append(faulty_purposes(random))
     random.shuffle(parts)
     return b"".join(parts)
 

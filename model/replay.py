@@ -5,7 +5,7 @@ import re
 from .agent import WAITS, Agent
 from .wire import Fault, demand
 
-LONGEST_LINE, LONGEST_SCHEDULE = 65536, 268435456
+LONGEST_LINE, LONGEST_SCHEDULE = 65536, 2**60
 
 # The fields behind a line's first word.
 LINES = {b"at": ("number", "number"), b"hear": ("number", "hex"), b"end": ("number",)}
@@ -25,8 +25,9 @@ def value(kind: str, text: bytes) -> int | bytes:
 
 
 class Run:
-    def __init__(self, default_life: int | None = None) -> None:
+    def __init__(self, default_life: int | None = None, confirm_limit: int | None = None) -> None:
         self.agent = Agent(default_life)
+        self.chosen = {} if confirm_limit is None else {"confirmation": confirm_limit}
         self.moment = (0, 0)
         self.held: set[int] = set()
         self.late: set[int] = set()  # closed by the moment of the line before, where it is `at`
@@ -70,7 +71,7 @@ class Run:
         demand(len(line) <= LONGEST_LINE and self.size <= LONGEST_SCHEDULE, "long")
         agent, late, self.late = self.agent, self.late, set()
         if line == b"schedule 2" and self.lines == 1:
-            agent.waits = WAITS
+            agent.waits = WAITS | self.chosen
             return self.settle([])
         if line == b"" or line.startswith(b"#"):
             return self.settle([])
@@ -116,8 +117,10 @@ class Run:
             closes = agent.closes
 
 
-def replay(text: bytes, default_life: int | None = None) -> tuple[bytes, int]:
+def replay(
+    text: bytes, default_life: int | None = None, confirm_limit: int | None = None
+) -> tuple[bytes, int]:
     """What a schedule prints, and the status."""
-    run = Run(default_life)
+    run = Run(default_life, confirm_limit)
     run.text(text)
     return run.output(), run.status

@@ -15,6 +15,7 @@ class Row:
     printed: bytes
     status: int
     life: int | None
+    limit: int | None = None
 
 
 ROWS: list[Row] = []
@@ -25,12 +26,13 @@ def row(
     schedule: list[str],
     printed: list[str],
     life: int | None = None,
+    limit: int | None = None,
 ) -> None:
     """A row without a refused line prints `end` at last."""
     refused = printed != [] and printed[-1].startswith("refused")
     output = printed if refused else [*printed, "end"]
     texts = ["".join(line + "\n" for line in lines).encode() for lines in (schedule, output)]
-    ROWS.append(Row(name, texts[0], texts[1], int(refused), life))
+    ROWS.append(Row(name, texts[0], texts[1], int(refused), life, limit))
 
 
 def u32(number: int) -> bytes:

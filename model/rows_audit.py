@@ -7,7 +7,7 @@ from .rows import ADD1, CERT, ED25519_CERT, H1, H2, K1, K2, LIST, NO, OK, ONE, S
 from .rows import added, hear, listing, lock, st, to, u32
 from .rows_children import LEAVING, TWO, TWO_PRINT, bind, chain, helper, put1, sign, signed
 from .rows_children import true, verify
-from .rows_deadlines import ASKED, ASKED_PRINT, FORMAT2, HELD, at
+from .rows_deadlines import ASKED, ASKED_PRINT, FORMAT2, HELD, LOST, at
 from .rows_hostile import SIGN1, answer
 from .rows_rules import GRANT1, ORIGIN, RAISED, RAISED_PRINT, SIXTEEN, hop, rule, ruled
 from .rows_uses import BOTH, BOTH_PRINT, GONE, HOLDING, granted
@@ -259,6 +259,21 @@ for given in ([], ["r"], [*WORDS, "5", "5"], ["-t", "5", "r", "d"]):
     words(f"the words {given}", given, FILES, [], 2)
 for life in ("", "10x", "-1", "4294967296", "x", " 5", "5 ", "h"):
     words(f"the lifetime {life!r}", [*WORDS, life], FILES, [], 2)
+for limit in ("", "0", "0s", "x", "-1", "4294967296", " 5", "1.5"):
+    words(f"the limit {limit!r}", [*WORDS, "--confirm-limit", limit], FILES, [], 2)
+for given in (["--confirm-limit"], ["5", "--confirm-limit"], ["--confirm-limit", "5", "5"], ["--confirm-limit=5"]):
+    words(f"a limit in the words {given}", [*WORDS, *given], FILES, [], 2)
+TWICE = ["--confirm-limit", "5", "--confirm-limit", "5"]
+words("a limit twice", [*WORDS, *TWICE], FILES, [], 2)
+words("a lifetime, and a limit twice", [*WORDS, "5", *TWICE], FILES, [], 2)
+words("a limit before the files", ["--confirm-limit", "5", *WORDS], FILES, [], 2)
+words("a limit whose name is cut", [*WORDS, "--confirm-limi", "5"], FILES, [], 2)
+words("a limit, and no file", ["none", "none", "--confirm-limit", "0"], FILES, [], 2)
+ENDED = {"r": lines([FORMAT2, *RAISED, at(89), at(90)]), "d": lines([*RAISED_PRINT, *LOST, "end"])}
+for chosen in (["--confirm-limit", "90"], ["0", "--confirm-limit", "1m30"], ["7", "--confirm-limit", "90s"]):
+    words(f"a question that ended by a limit of {chosen}", [*WORDS, *chosen], ENDED, ["yes 0"], 0)
+words("a question that ended by another limit", [*WORDS, "--confirm-limit", "91"], ENDED, ["no 4"], 1)
+words("a question that ended by a limit, without it", WORDS, ENDED, ["no 4"], 1)
 words("no record", ["none", "d"], FILES, [], 3)
 words("no deeds", ["r", "none"], FILES, [], 3)
 words("no deeds to a record that is refused", ["d", "none"], FILES, [], 3)

@@ -1,6 +1,6 @@
 """The literal rows of asks that stay unanswered, and of questions that stay open.
 
-In a schedule of format 2 a helper has 60 seconds for an ask, and a user 300 for a question.
+In a schedule of format 2 a helper has 60 seconds for an ask, and a user 300 for a question, or what is chosen.
 """
 
 from __future__ import annotations
@@ -310,6 +310,78 @@ row(
     "a question near the clock's end never ends",
     [FORMAT2, at(2**64 - 300), *RAISED[1:], at(2**64 - 1), *denied(2, 1)],
     [*RAISED_PRINT, "close 2", to(1, NO)],
+)
+
+# Another limit of a question
+
+row("a question ends by its first second", [*RAISED, at(1), GRANT1], [*RAISED_PRINT, *LOST], limit=1)
+row(
+    "an answer in the second of a question, which has one",
+    [*RAISED, GRANT1, at(1), at(59), at(60)],
+    [*RAISED_PRINT, "start 2 helper", "close 2", to(1, NO)],
+    limit=1,
+)
+row(
+    "a question of one second that is raised by the clock's last second",
+    [FORMAT2, at(2**64 - 2), *RAISED[1:], at(2**64 - 1)],
+    [*RAISED_PRINT, *LOST],
+    limit=1,
+)
+row(
+    "a question behind one of one second is asked in that second",
+    [FORMAT2, "join client", *hear(1, TERMS1 + b"\x02", SIGN1, SIGN1), at(1), at(2)],
+    [to(1, OK), "start 1 confirm", to(1, NO), "start 2 confirm", to(1, NO)],
+    limit=1,
+)
+row(
+    "an answer one second before another limit",
+    [*RAISED, at(89), GRANT1, at(90)],
+    [*RAISED_PRINT, "start 2 helper", "close 2"],
+    limit=90,
+)
+row(
+    "a question of 90 seconds ends by its 90th",
+    [*RAISED, at(89), at(90), GRANT1],
+    [*RAISED_PRINT, *LOST],
+    limit=90,
+)
+row(
+    "a question of 301 seconds outlasts 300",
+    [*RAISED, at(300), at(301)],
+    [*RAISED_PRINT, *LOST],
+    limit=301,
+)
+row(
+    "the greatest limit, a second before it",
+    [*RAISED, at(300), at(2**32 - 2), GRANT1],
+    [*RAISED_PRINT, "start 2 helper", "close 2"],
+    limit=2**32 - 1,
+)
+row(
+    "the greatest limit",
+    [*RAISED, at(2**32 - 2), at(2**32 - 1), GRANT1],
+    [*RAISED_PRINT, *LOST],
+    limit=2**32 - 1,
+)
+row(
+    "an ask has its 60 seconds beside a shorter limit of questions",
+    [*ASKED, at(59), at(60)],
+    [*ASKED_PRINT, to(1, NO)],
+    limit=1,
+)
+row("and beside a longer one", [*ASKED, at(59), at(60)], [*ASKED_PRINT, to(1, NO)], limit=600)
+row(
+    "a limit of questions in a schedule of format 1 is none",
+    [*RAISED[1:], at(1), at(300), at(2**64 - 1), *denied(2, 1)],
+    [*RAISED_PRINT, "close 2", to(1, NO)],
+    limit=1,
+)
+row(
+    "a lifetime and a limit of questions",
+    [*RAISED, at(1), at(2), *hear(1, LIST)],
+    [*RAISED_PRINT, *LOST, to(1, listing(ONE))],
+    life=5,
+    limit=2,
 )
 
 # 16 questions: those of the odd clients have child processes that said hello. One second lies between two.

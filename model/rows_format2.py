@@ -40,7 +40,7 @@ for earlier in filter(is_short, IN_FORMAT1):
         printed.append(f"refused {int(number) + 1} {fault}")
     elif printed[-1:] == ["end"]:
         printed.pop()
-    row(f"{earlier.name}, in format 2", [FORMAT2, *lines], printed, earlier.life)
+    row(f"{earlier.name}, in format 2", [FORMAT2, *lines], printed, earlier.life, earlier.limit)
 
 # A line for a port that its own moment closed
 

@@ -11,7 +11,7 @@ import hashlib
 from .over_files import FileRow, lines
 from .rows import ADD1, K1, K2, hear, st
 from .rows_children import helper, sign, signed
-from .rows_deadlines import ASKED, at
+from .rows_deadlines import ASKED, FORMAT2, at
 from .rows_hostile import SIGN1
 from .rows_rules import GRANT1, RAISED
 
@@ -168,6 +168,14 @@ row(
 )
 ROWS.append(FileRow("a lifetime that is none", ["r", "1y"], {"r": b""}, b"", 2))
 ROWS.append(FileRow("two lifetimes", ["r", "5", "5"], {"r": lines(RECORD)}, b"", 2))
+for chosen in (["--confirm-limit", "0"], ["--confirm-limit", "x"], ["--confirm-limit"], ["5", "--confirm-limit"]):
+    ROWS.append(FileRow(f"the words {chosen}", ["r", *chosen], {"r": lines(RECORD)}, b"", 2))
+OVER = lines([FORMAT2, *RAISED, "at 89 89", "at 90 90"])
+ENDED = lines([f"1970-01-01T00:01:30Z  {ABC}  {KEY1}  asked, no consent that counted  refused"])
+for chosen in (["--confirm-limit", "90"], ["0", "--confirm-limit", "1m30"]):
+    ROWS.append(FileRow(f"a question that ended by a limit of {chosen}", ["r", *chosen], {"r": OVER}, ENDED, 0))
+TWICE = ["--confirm-limit", "5", "--confirm-limit", "5"]
+ROWS.append(FileRow("a limit of questions twice", ["r", *TWICE], {"r": lines(RECORD)}, b"", 2))
 # A line that isn't whole waits while it may still be run, and is refused once it is too long.
 WAITING = lines([f"{ZERO}  {ABC}  {KEY1}  no answer yet"])
 ROWS.append(FileRow("the longest line, cut", ["r"], {"r": lines(RECORD) + b"#" * 65536}, WAITING, 0))

@@ -2,7 +2,7 @@
 
 from __future__ import annotations
 
-from .rows import H1, LIST, NO, OK, S1, added, hear, listing, remove, row, st, stand_in, to
+from .rows import H1, LIST, NO, OK, S1, added, cert, hear, listing, remove, row, st, stand_in, to
 from .rows_children import START, START_PRINT, bind, chain, true, verify
 from .rows_many import EVERY_ROW as EARLIER
 from .rows_rules import ORIGIN, hop, restrict, rule
@@ -10,9 +10,10 @@ from .rows_rules import ORIGIN, hop, restrict, rule
 # Private strings and rules of 8 MiB in all
 #
 # A key of the tests' type has a private string of 28 + 36 + 36 bytes. A rule from the agent's host
-# to one that is called h and has one key of 64 bytes takes 64 + (64 + 1 + 64 + 64) bytes.
+# to one that is called h and has one key of 64 bytes takes 64 + (64 + 8 + 64 + 64) bytes: a host
+# counts eight times.
 
-MOST, KEY, RULE = 8388608, 100, 257
+MOST, KEY, RULE = 8388608, 100, 264
 
 
 def ruled(
@@ -27,7 +28,8 @@ LEFT = MOST - 13 * (KEY + 2380 * RULE)
 RULES, MORE = divmod(LEFT - KEY, RULE)
 TAGS = range(0x21, 0x2E)
 FILL = ["join client", *[line for tag in TAGS for line in hear(1, ruled(tag, 2380))]]
-EXACT, ABOVE = (ruled(0x31, RULES, b"h" * (1 + more)) for more in (MORE, MORE + 1))
+HOST = b"h" * (1 + MORE // 8)
+EXACT, ABOVE = (ruled(0x31, RULES, HOST, b"u" * (MORE % 8 + more)) for more in (0, 1))
 HELD = [(stand_in(tag), b"") for tag in [*TAGS, 0x31]]
 row(
     "private strings and rules of 8 MiB in all, and one byte more",
@@ -48,6 +50,12 @@ row(
     [*[to(1, OK)] * 13, to(1, NO), to(1, OK), to(1, NO)],
 )
 
+row(
+    "a host with one letter more counts eight bytes more",
+    [*FILL, *hear(1, ruled(0x31, RULES, HOST + b"h"), ruled(0x31, RULES, HOST))],
+    [*[to(1, OK)] * 13, to(1, NO), to(1, OK)],
+)
+
 # Host keys of 262144 bytes in all
 
 
@@ -65,6 +73,23 @@ row(
     + hear(2, true(6)),
     [*START_PRINT, *THREE[1], to(1, NO), to(2, verify(5, QUARTER, S1)), to(1, OK)]
     + [to(1, NO), to(2, verify(6, QUARTER, S1)), to(1, OK)],
+)
+
+# Principals of 1024 bytes in all, each a string, of which a plain host key has none
+
+WILD = cert(2, st(b"*.example.org") + st(b"n" * 487))
+TWO = chain(1, 2, 2, (WILD, b"one", 1), (H1, b"plain", 1))
+row(
+    "principals of 1024 bytes in all, and one byte more",
+    [*START, *TWO[0], *hear(1, bind(cert(2, st(b"n" * 513)), S1, 1))]
+    + [*hear(1, bind(cert(2, st(b"n" * 512)), S1, 1)), *hear(2, true(4))],
+    [*START_PRINT, *TWO[1], to(1, NO)]
+    + [to(2, verify(4, cert(2, st(b"n" * 512)), S1)), to(1, OK)],
+)
+row(
+    "a first host key that names 1025 bytes",
+    [*START, *hear(1, bind(cert(2, st(b"n" * 1021)), S1, 1))],
+    [*START_PRINT, to(1, NO)],
 )
 
 EVERY_ROW = EARLIER  # with those of the files that this one stands on

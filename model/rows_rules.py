@@ -123,6 +123,14 @@ row(
     + hear(1, sign(K1, bound_login(S1, b"perseus", H1).replace(b"com\x01", b"com\x02"))),
     [to(1, OK), *one[1], *some[1], *[to(1, NO)] * 4],
 )
+most, above = (bound_login(S1, b"u" * size, H1) for size in (4096, 4097))
+long = asked(1, 2, 2, most)
+row(
+    "users of 4096 bytes and of one more, whom the pattern takes in, and a message that is no login",
+    ["join client", *hear(1, ruled(rule(ORIGIN, hop(b"*", b"cetus", (H1, 0))))), *one[0]]
+    + [*hear(1, sign(K1, above)), *long[0], *hear(1, sign(K1, above + b"x"))],
+    [to(1, OK), *one[1], to(1, NO), *long[1], to(1, NO)],
+)
 RSA_CERT = st(b"ssh-rsa-cert-v01@openssh.com")
 RSA_KEY = RSA_CERT + st(b"nonce") + st(b"e") + st(b"n") + u64(1) + u32(1) + st(b"id") + st(b"")
 RSA_KEY += u64(0) + u64(9) + st(b"") * 4 + st(b"x")

@@ -7,7 +7,7 @@ from dataclasses import dataclass
 from .rows import K1, LIST, NO, NOTHING, OK, hear, listing, row, st, stand_in, to, u32, u64
 from .rows_children import helper, sign, signed
 from .rows_hostile import answer
-from .rows_room import EVERY_ROW as EARLIER
+from .rows_purposes import EVERY_ROW as EARLIER
 
 SECRET, OTHER = b"\x21" * 32, b"\x21" * 31 + b"\x20"  # they differ in one bit
 

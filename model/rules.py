@@ -3,12 +3,15 @@
 The records are those of OpenSSH's PROTOCOL.agent; how a chain of hosts is judged is ours.
 """
 
+from collections.abc import Set
 from dataclasses import dataclass
 
 from .formats import Hop, login, public_key
+from .purposes import purposes_of
 from .wire import demand, matches, within
 
 Rules = list[tuple[Hop, Hop]]
+Purposes = Set[bytes]  # empty where none are given
 
 
 @dataclass
@@ -23,13 +26,21 @@ class Binding:
 Chain = list[Binding]
 
 
-def room(private: bytes, rules: Rules | None) -> int:
-    """What a key takes beside its blob and its comment: 64 bytes more for each hop and its keys."""
+def room(private: bytes, rules: Rules | None, purposes: Purposes = frozenset()) -> int:
+    """What a key takes beside its blob and its comment: 320 bytes for each purpose, 64 more for each hop and its keys,
+    and a host eight times."""
+    size = len(private) + 320 * len(purposes)
     if not rules:
-        return len(private)
+        return size
     hops = [hop for rule in rules for hop in rule]
-    names = sum(64 + len(hop.user) + len(hop.host) for hop in hops)
-    return len(private) + names + sum(64 + len(blob) for hop in hops for blob, _ in hop.keys)
+    names = sum(64 + len(hop.user) + 8 * len(hop.host) for hop in hops)
+    return size + names + sum(64 + len(blob) for hop in hops for blob, _ in hop.keys)
+
+
+def principals(host_key: bytes) -> int:
+    """How many bytes the principals of a host key's certificate take, each as a string."""
+    certificate = public_key(host_key).certificate
+    return sum(4 + len(name) for name in certificate.principals) if certificate else 0
 
 
 def is_at(hop: Hop, host_key: bytes, wall: int) -> bool:
@@ -77,7 +88,13 @@ def may_sign(rules: Rules | None, blob: bytes, chain: Chain, message: bytes, wal
         return
     demand(chain != [], "Unbound")
     session, user, host_key = within("NotUserAuth", login, message, blob)
+    demand(len(user) <= 4096, "LongUser")
     demand(every_hop(rules, chain, user, wall), "Hop")
     demand(session == chain[-1].session, "OtherSession")
     demand(host_key is not None or len(chain) == 1, "NoHostKey")
     demand(host_key in (None, chain[-1].host_key), "OtherHostKey")
+
+
+def are_for(purposes: Purposes, blob: bytes, message: bytes) -> bool:
+    """Whether a key of these purposes may sign a message; one without any may sign all."""
+    return not purposes or bool(purposes & purposes_of(message, blob))

@@ -33,7 +33,7 @@ class Rows(unittest.TestCase):
         self.assertEqual(len(names), len(set(names)))
         for row in EVERY_ROW:
             with self.subTest(row.name):
-                self.assertEqual(replay(row.schedule, row.life), (row.printed, row.status))
+                self.assertEqual(replay(row.schedule, row.life, row.limit), (row.printed, row.status))
 
 
 class Moments(unittest.TestCase):
@@ -60,8 +60,9 @@ class Schedules(unittest.TestCase):
 
     def test_what_is_expected_is_what_the_model_prints(self):
         for seed in map(str, range(20)):
-            text, life, wanted = Schedule(seed).case()
-            self.assertEqual(replay(text, life), wanted)
+            writer = Schedule(seed)
+            text, life, wanted = writer.case()
+            self.assertEqual(replay(text, life, writer.limit), wanted)
 
 
 class Records(unittest.TestCase):

@@ -19,16 +19,23 @@ class Over(Exception):
     """A line was refused, so the schedule ends."""
 
 
+def limit_by(seed: str) -> int | None:
+    """The limit of questions, where a schedule of this seed is run with one."""
+    return Random(f"limit of {seed}").choice([None] * 4 + [1, 5, 60, 2**32 - 1])
+
+
 class Writer:
     def __init__(self, seed: str) -> None:
         self.random = random = Random(seed)
         self.life = random.choice([None] * 8 + [0, 1, 3, 2**32 - 1])
-        self.run = Run(self.life)
+        self.limit = limit_by(seed)
+        self.run = Run(self.life, self.limit)
         self.agent = self.run.agent
         self.lines: list[bytes] = []
         self.unsent: dict[int, bytes] = {}  # the rest of a frame that was cut
         self.keys = random.sample(pool.KEYS, 3) + pool.KEYS[:2]
         self.reached: Counter[str] = Counter({f"default lifetime {self.life}": 1})
+        self.reached[f"confirm limit {self.limit}"] += 1
         self.tickets: dict[int, bytes] = {}  # of each start, also where the agent forgot it
         self.format = random.choice([1, 1, 2])
         self.seconds = [0]  # that there were
@@ -149,7 +156,7 @@ class Writer:
         if kind == "sign":
             held = [each for each in self.keys if each.blob in self.agent.identities]
             key = random.choice(held) if held and self.chance(0.8) else key
-            message = random.choice([b"", b"abc", random.randbytes(40)])
+            message = random.choice([b"", b"abc", random.randbytes(40), pool.file_data(random)])
             return b"\x0d" + string(key.blob) + string(message) + flags
         if kind == "login":
             return b"\x0d" + string(key.blob) + string(self.login(port, key)) + flags

@@ -973,6 +973,108 @@ def the_host_keys_of_a_connection_are_bounded_in_all(folder):
         helper.close()
 
 
+AUTHORITY = string(b"ssh-rsa") + string(b"") * 2
+
+
+def certified(names):
+    """The host certificate of an Ed25519 key by AUTHORITY, with these principals, good at any time."""
+    texts = [string(b"ssh-ed25519-cert-v01@openssh.com"), string(b"n" * 32), string(b"k" * 32), bytes(8)]
+    texts += [b"\0\0\0\2", string(b"id"), string(b"".join(map(string, names))), bytes(8), b"\xff" * 8]
+    return b"".join(texts) + string(b"") * 3 + string(AUTHORITY) + string(b"x")
+
+
+def to_one_host(tag, host, user=b"", key=AUTHORITY, is_authority=b"\1", size=261500):
+    """An addition with as many constraints as have this size, each from the agent's host to one of this name."""
+    fields, comment, blob = stand_in_key(tag)
+    hop = string(user) + string(host) + string(b"") + string(key) + is_authority
+    rule = string(string(string(b"") * 3) + string(hop) + string(b""))
+    rules = string(b"restrict-destination-v00@openssh.com") + string(rule * (size // len(rule)))
+    return (ADD_LIMITED, fields, comment, b"\xff" + rules), blob
+
+
+def bind(peer, helper, host_key, forwarding=b"\0"):
+    """Binds a client to a host in the session `session`, by a helper that says yes to it."""
+    words = string(b"session-bind@openssh.com") + string(host_key) + string(b"session") + string(b"s") + forwarding
+    peer.send(bytes([rig.EXTENSION]) + words)
+    child = helper.wait(1).hello()
+    child.send(b"\x67" + child.reply()[1:9])
+    assert peer.reply()[0] == SUCCESS
+    return child
+
+
+def processor_time(agent, call, times=5):
+    """How many seconds of the agent's processor time a call takes, the least of some."""
+    took = []
+    for _ in range(times):
+        before = rig.spent(agent.process.pid)
+        call()
+        took.append(rig.spent(agent.process.pid) - before)
+    return min(took)
+
+
+# Names of hosts, and principals of which none takes one in but after as long a search as there is.
+SEARCHES = [
+    (b"a", [b"*b*"] * 146),
+    (b"a" * 20, [b"*" + b"a" * 10 + b"b*"] * 60),
+    (b"a" * 100, [b"*" + b"a" * 40 + b"b*"] * 21),
+    (b"a" * 4096, [b"*" + b"a" * 1017 + b"b*"]),
+    (b"a" * 250000, [b"*" + b"a" * 1017 + b"b*"]),
+]
+
+
+def filled_with_hosts(agent, host):
+    """Adds keys for hosts of this name until the table is full, and answers how many."""
+    count = 0
+    with agent.peer(seconds=60) as peer:
+        for size in (261500, 65536, 16384, 4096, 1024):
+            while peer.ask(*to_one_host(count.to_bytes(32, "big"), host, size=size)[0])[0] == SUCCESS:
+                count += 1
+    return count
+
+
+@check
+def a_list_over_a_full_table_is_short_whatever_its_hosts_and_principals_are(folder):
+    """Of a client that is bound to a host whose certificate has as many principals as one may."""
+    for place, (host, names) in enumerate(SEARCHES):
+        home = folder / str(place)
+        home.mkdir()
+        helper = rig.HandedOver(home)
+        try:
+            with serve(home, helper=helper.program) as agent, agent.peer(seconds=60) as peer:
+                count = filled_with_hosts(agent, host)
+                child = bind(peer, helper, certified(names))
+                took = processor_time(agent, lambda: peer.ask(LIST))
+                print(f"{len(names)} principals, {count} keys for hosts of {len(host)} letters: {took:.2f} s a list")
+                assert peer.blobs() == [], "none of the hosts has such a name"
+                assert took <= 0.5, took
+                child.close()
+        finally:
+            helper.close()
+
+
+@check
+def a_login_is_judged_shortly_whatever_its_user_is(folder):
+    """Under a key with as many constraints for users as a message has, whose patterns are long."""
+    helper, host_key = rig.HandedOver(folder), rsa_blob(300)
+    try:
+        with serve(folder, helper=helper.program) as agent, agent.peer(seconds=60) as peer:
+            for place, letters in enumerate((1000, 2000, 10)):
+                pattern = b"*" + b"a" * letters + b"b*"
+                addition, blob = to_one_host(bytes([place]) * 32, b"h", pattern, host_key, b"\0")
+                assert peer.ask(*addition)[0] == SUCCESS
+                if place == 0:
+                    child = bind(peer, helper, host_key)
+                for size in (4096, 4097, 250000):
+                    login = string(b"session") + b"\x32" + string(b"a" * size) + string(b"ssh-connection")
+                    login += string(b"publickey") + b"\1" + string(b"keyed-sha256@example.com") + string(blob)
+                    took = processor_time(agent, lambda: peer.send(request(blob, login)) or peer.reply())
+                    print(f"users like {len(pattern)} bytes, a user of {size} letters: {took:.2f} s a signature")
+                    assert took <= 0.5, took
+            child.close()
+    finally:
+        helper.close()
+
+
 # Paths, and what is inherited.
 
 

@@ -222,6 +222,14 @@ def replied(peers):
     return [peer for peer in peers if peer.socket in ready]
 
 
+def owner_waits(agent):
+    """For how long the agent's owner waits for a list."""
+    begin = time.monotonic()
+    with agent.peer() as owner:
+        assert owner.ask(LIST)[0] == IDENTITIES
+    return time.monotonic() - begin
+
+
 @check
 def idle_clients_leave_the_agent_behind_to_its_owner(folder):
     with our_agent(rig.there(rig.agent_program()), folder) as agent, filtered(folder, agent.path, "") as before:
@@ -230,12 +238,9 @@ def idle_clients_leave_the_agent_behind_to_its_owner(folder):
             for peer in peers:
                 peer.send(BIND if binds else bytes([LIST]))
             until(lambda: len(replied(peers)) == answered, what="the replies")
-            begin = time.monotonic()
-            with agent.peer() as owner:
-                assert owner.ask(LIST)[0] == IDENTITIES
-            spent = time.monotonic() - begin
+            spent = min(owner_waits(agent) for _ in range(5))
             print(f"filter: the owner's list beside {MOST} clients came in {spent * 1000:.1f} ms")
-            assert spent < 2, spent
+            assert spent < 0.15, spent
             # Who is bound holds its place, and who waits for one is served once one is left.
             first = replied(peers)
             assert len(first) == answered

@@ -166,12 +166,15 @@ def a_number_of_uses_is_sent_or_the_key_isnt_added(folder):
             for words in (["-u", "3", "-u", "3", keys.plain], ["-d", "-u", "3", keys.plain], ["-lu3"], ["-Tu3", keys.plain]):
                 said, sent = add(*words, status=1)
                 assert said.startswith("mortarleek-add: -u: ") and said.count("\n") == 1 and sent == [], said
-            # what only ssh-add reads isn't added without its number
+            # what only ssh-add reads gets its number on the way
             for key in (keys.locked, keys.old, keys.certified):
-                said, sent = add("-u", "3", key, status=1)
-                assert "isn't added" in said and str(key) in said and said.count("\n") == 1 and sent == [], said
-            said, sent = add("-u", "3", keys.locked, keys.plain, status=1)
-            assert [body[-28:] for body in sent] == [uses(3)[1:]], sent
+                said, sent = add("-u", "3", key)
+                added = [body for body in sent if body[:1] in b"\x11\x19"]
+                assert len(added) == (2 if key == keys.certified else 1), sent
+                assert all(body[:1] == b"\x19" and body.endswith(uses(3)) for body in added), sent
+                assert "by OpenSSH's ssh-add" in said and said.endswith("The key may be used 3 times\n"), said
+            said, sent = add("-u", "3", keys.locked, keys.plain)
+            assert [body[-29:] for body in sent] == [uses(3)] * 2, sent
             said, sent = add("-ku1", keys.certified)
             assert [body[-29:] for body in sent] == [uses(1)] and "The key may be used once\n" in said, said
         finally:
@@ -184,11 +187,13 @@ def a_number_of_uses_goes_to_no_agent_that_passes_over_it(folder):
     installed, keys = Installed(folder), Keys(folder)
     with openssh_agent(folder) as other:
         said = run([installed.add, "-u", "3", keys.plain], 1, env=dict(installed.environment, SSH_AUTH_SOCK=other.path))
-        assert "doesn't count uses" in said and "no identities" in other.run("ssh-add", "-l", status=1), said
-    # An agent of ours that nothing marks as such counts, and is asked before it gets the key.
+        assert "--any-agent" in said and "no identities" in other.run("ssh-add", "-l", status=1), said
+    # An agent of ours that nothing marks as such isn't known to be ours.
     with rig.our_agent(rig.agent_program(), folder) as bare:
         environment = dict(installed.environment, SSH_AUTH_SOCK=bare.path)
-        said = run([installed.add, "-u", "1", keys.plain], env=environment)
+        said = run([installed.add, "-u", "1", keys.plain], 1, env=environment)
+        assert "--any-agent" in said and "no identities" in bare.run("ssh-add", "-l", status=1), said
+        said = run([installed.add, "-u", "1", "--any-agent", keys.plain], env=environment)
         assert "The key may be used once\n" in said and keys.plain.name in bare.run("ssh-add", "-l"), said
         bare.run("ssh-add", "-T", f"{keys.plain}.pub")
         assert "no identities" in bare.run("ssh-add", "-l", status=1)
@@ -209,7 +214,7 @@ def a_number_of_uses_goes_to_no_agent_that_passes_over_it(folder):
         said = run([installed.add, "-q", keys.plain], env=environment)
         assert "plain key" in run(["ssh-add", "-L"], env=environment)
         said = run([installed.add, "-u", "1", keys.defaults[2]], 1, env=environment)
-        assert "doesn't count uses" in said and "of home" not in run(["ssh-add", "-L"], env=environment), said
+        assert "--any-agent" in said and "of home" not in run(["ssh-add", "-L"], env=environment), said
     finally:
         run(["gpgconf", "--homedir", home, "--kill", "gpg-agent"])
 
@@ -349,7 +354,7 @@ def certificates_alone_are_handed_on_where_ssh_add_has_the_word(folder):
                 assert log.read_text().splitlines() == [str(word) for word in handed], log.read_text()
     with installed.start() as daemon:
         said = daemon.run(installed.add, "-C", "-u", "3", keys.plain, status=1)
-        assert "isn't added" in said and "no identities" in daemon.run("ssh-add", "-l", status=1), said
+        assert "no identities" in daemon.run("ssh-add", "-l", status=1), said
 
 
 @check

@@ -30,6 +30,7 @@ def manuals_are_clean_and_name_every_option(folder):
         "mortarleek-helper.8",
         "standin_helper.8",
         "confirm_relay.8",
+        "terms_relay.8",
         "mortarleek-filter.1",
         "mortarleek-log.1",
         "mortarleek-status.1",
@@ -54,7 +55,7 @@ def manuals_are_clean_and_name_every_option(folder):
     for option in "CcDdEeHhKklLMmNqSsTtuvXx":
         assert f"-{option}" in text, option
     assert "-k" in re.sub(".\b", "", filtered)
-    for option in ("-f", "-t", "--json", "--key", "--since", "--host"):
+    for option in ("-f", "-t", "--confirm-limit", "--json", "--key", "--since", "--host"):
         assert option in re.sub(".\b", "", told), option
 
 
@@ -71,10 +72,10 @@ COMP_WORDS=(mortarleek-add -); COMP_CWORD=1; _mortarleek_add mortarleek-add - mo
 COMP_WORDS=(mortarleek-filter -); COMP_CWORD=1; _mortarleek_filter mortarleek-filter - mortarleek-filter; echo ${{COMPREPLY[*]}}
 COMP_WORDS=(mortarleek-log -); COMP_CWORD=1; _mortarleek_log mortarleek-log - mortarleek-log; echo ${{COMPREPLY[*]}}"""
     agent, add, filtered, told = run(["bash", "-c", script]).splitlines()
-    assert {"-a", "-c", "-D", "-d", "-k", "-s", "-t", "--stand-in"} <= set(agent.split()), agent
+    assert {"-a", "-c", "-D", "-d", "-k", "-s", "-t", "--stand-in", "--confirm-limit"} <= set(agent.split()), agent
     assert {"-c", "-D", "-d", "-h", "-H", "-l", "-L", "-t", "-x", "-X", "-k", "-q"} <= set(add.split()), add
     assert set(filtered.split()) == {"-a", "-k", "--end", "--sign-only"}, filtered
-    assert set(told.split()) == {"-f", "-t", "--host", "--json", "--key", "--since"}, told
+    assert set(told.split()) == {"-f", "-t", "--confirm-limit", "--host", "--json", "--key", "--since"}, told
     said = run(["fish", "-c", f"source {place}/mortarleek.fish; complete -C 'mortarleek-agent -'"])
     assert "-k" in said and "-a" in said, said
 
@@ -232,7 +233,7 @@ def packed(place="source"):
     copy_of_the_repository(folder)
     (folder / "none.c").write_text("int main(void) { return 2; }\n")
     run(["gcc", "-O2", "-o", folder / "none", folder / "none.c"])
-    programs = ("agent_prog", "mortarleek_signer", "mortarleek-helper", "confirm_relay", "standin_helper", "add_tool", "filter_proxy")
+    programs = ("agent_prog", "mortarleek_signer", "mortarleek-helper", "confirm_relay", "standin_helper", "add_tool", "terms_relay", "filter_proxy")
     for name in programs:
         shutil.copy(rig.BUILT / name if (rig.BUILT / name).exists() else folder / "none", folder / "bin" / name)
     quick = {"DPKG_DEB_COMPRESSOR_TYPE": "gzip", "DPKG_DEB_COMPRESSOR_LEVEL": "1"}

@@ -209,11 +209,11 @@ def the_agent_gets_a_clean_environment_and_no_core(folder):
 def words_reach_the_agent(folder):
     installed = Installed(folder)
     asker = rig.script(folder / "ask me", "exit 1")
-    with installed.start("-t", "90m", environment={"SSH_ASKPASS": str(asker), "SSH_ASKPASS_REQUIRE": "force"}) as daemon:
+    with installed.start("--confirm-limit", "2m", "-t", "90m", environment={"SSH_ASKPASS": str(asker), "SSH_ASKPASS_REQUIRE": "force"}) as daemon:
         agent = agent_of(daemon.pid)
         words = pathlib.Path(f"/proc/{agent}/cmdline").read_text().rstrip("\0").split("\0")
         words = words[words.index("serve") :]
-        assert words[:4] == ["serve", "-a", daemon.path, "--helper"] and words[-2:] == ["-t", "90m"], words
+        assert words[:4] == ["serve", "-a", daemon.path, "--helper"] and words[-4:] == ["--confirm-limit", "2m", "-t", "90m"], words
         assert words[4] == str(installed.prefix / "libexec/mortarleek/mortarleek_signer"), words
         assert "--helper-data" not in words, words
         if "--relay" in words:

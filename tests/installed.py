@@ -29,6 +29,7 @@ class Installed:
                 shutil.copy(rig.BUILT / name, libexec)
         if tool:
             shutil.copy(rig.built("add_tool"), libexec)
+            shutil.copy(rig.built("terms_relay"), libexec)
         if helper and not (libexec / "mortarleek_signer").exists():
             raise Skip("bin/mortarleek_signer isn't built: make")
         self.agent, self.add = bin / "mortarleek-agent", bin / "mortarleek-add"

@@ -151,6 +151,7 @@ def counted(folder, pid):
 
 def run_row(program, folder, row, number):
     words = [str(program), "replay"] + ([] if row.life is None else ["-t", str(row.life)])
+    words += [] if row.limit is None else ["--confirm-limit", str(row.limit)]
     pipes = dict(stdin=subprocess.PIPE, stdout=subprocess.PIPE, stderr=subprocess.DEVNULL)
     with subprocess.Popen(words, env=refusing(folder, number, ""), **pipes) as process:
         output, _ = process.communicate(row.schedule)

@@ -1,12 +1,14 @@
 #!/usr/bin/env python3
 """`agent_prog serve --record` under OpenSSH's clients: its record, replayed, gives each client the bytes that it got, and has
-no private key and no passphrase in it; a full disk disturbs nobody; `mortarleek-agent --record` makes a new file of mode
-0600."""
+no private key and no passphrase in it; a full disk disturbs nobody, or with `--record-or-stop` ends the agent;
+`mortarleek-agent --record` makes a new file of mode 0600; `mortarleek-status` tells of a record that stopped."""
 
 import base64
 import contextlib
 import os
 import pathlib
+import re
+import resource
 import select
 import shutil
 import socket
@@ -18,7 +20,7 @@ sys.dont_write_bytecode = True
 
 import rig
 from frames import string
-from rig import ADD, FAILURE, IDENTITIES, LIST, LOCK, SUCCESS, UNLOCK, our_agent, run, until
+from rig import ADD, FAILURE, IDENTITIES, LIST, LOCK, SIGN, SIGNATURE, SUCCESS, UNLOCK, our_agent, run, until
 
 check = rig.Checks("record")
 PROGRAM = rig.agent_program()
@@ -155,7 +157,11 @@ def replayed_each_client_gets_its_bytes(folder):
 @check
 def a_full_disk_disturbs_nobody(folder):
     with open("/dev/full", "wb") as full:
-        agent = our_agent(PROGRAM, folder, "--record", "--until-idle", helper=rig.BUILT / "standin_helper", stdout=full)
+        helper = rig.BUILT / "standin_helper"
+        said = dict(stdout=full, stderr=subprocess.PIPE)
+        agent = our_agent(PROGRAM, folder, "--record", "--until-idle", helper=helper, **said)
+    # That is said when it comes.
+    assert b"nothing more is recorded" in agent.process.stderr.readline()
     fields, comment, blob = rig.plain_key(b"t" * 32)
     with agent.peer() as peer:
         assert peer.ask(ADD, fields, comment)[0] == SUCCESS
@@ -163,6 +169,48 @@ def a_full_disk_disturbs_nobody(folder):
         assert peer.ask(LOCK, string(b"pw"))[0] == SUCCESS
         assert peer.ask(LIST)[0] == IDENTITIES
     assert agent.process.wait(20) == 7
+    assert agent.process.stderr.read() == b"mortarleek: the output could not be written\n"
+
+
+# A program whose files may be limited: a write above the limit fails then, and no signal ends it.
+LIMITED = ("sh", "-c", "trap '' XFSZ; exec \"$@\"", "sh")
+
+
+def fill_up(process, record):
+    """The record has no room for another byte."""
+    resource.prlimit(process, resource.RLIMIT_FSIZE, (record.stat().st_size,) * 2)
+
+
+@check
+def with_record_or_stop_nothing_is_signed_unseen(folder):
+    helper, record = rig.BUILT / "standin_helper", folder / "record"
+    words = ("--record", "--record-or-stop")
+    with open(record, "wb") as file:
+        agent = our_agent(PROGRAM, folder, *words, helper=helper, limits=LIMITED, stdout=file, stderr=subprocess.PIPE)
+    fields, comment, blob = rig.plain_key(b"t" * 32)
+    asked = (SIGN, string(blob), string(b"data"), bytes(4))
+    with agent.peer() as peer:
+        assert peer.ask(ADD, fields, comment)[0] == SUCCESS
+        assert peer.ask(*asked)[0] == SIGNATURE
+        # What that reply took is told before the next is heard.
+        assert peer.ask(LIST)[0] == IDENTITIES
+        fill_up(agent.process.pid, record)
+        before = record.read_bytes()
+        peer.send(bytes([SIGN]) + b"".join(asked[1:]))
+        assert peer.has_ended()
+    assert agent.process.wait(20) == 8
+    said = agent.process.stderr.read().decode().splitlines()
+    assert len(said) == 2 and "nothing more is recorded" in said[0] and said[1].endswith("and the agent with it"), said
+    assert record.read_bytes() == before
+
+
+@check
+def from_the_first_line_on_too(folder):
+    words = [str(PROGRAM), "serve", "-a", f"{folder}/s", "--helper", "helper", "--record-or-stop"]
+    with open("/dev/full", "wb") as full:
+        ended = subprocess.run([*words, "--record"], stdout=full, stderr=subprocess.DEVNULL, timeout=20, check=False)
+    assert ended.returncode == 8, ended
+    assert subprocess.run(words, stderr=subprocess.DEVNULL, timeout=20, check=False).returncode == 2
 
 
 @check
@@ -233,6 +281,32 @@ def the_front_end_makes_a_new_file(folder):
     assert record.read_bytes() == before
     run([place / "mortarleek-agent", "--record", "other", "-k"], 1, env=environment, cwd=folder)
     assert not pathlib.Path(folder / "other").exists()
+
+
+@check
+def status_tells_of_a_record_that_stopped(folder):
+    place, record = folder / "place", folder / "new"
+    place.mkdir()
+    rig.lay_scripts(place)
+    for name in ("agent_prog", "standin_helper", "add_tool"):
+        shutil.copy(rig.built(name), place)
+    environment = dict(os.environ, TMPDIR=str(folder))
+    command = [*LIMITED, place / "mortarleek-agent", "--stand-in", "--record", record, "-T", "-s"]
+    told = dict(re.findall(r"(\w+)=([^;]+);", run(command, env=environment, cwd=folder)))
+    environment |= told
+    guard = int(told["SSH_AGENT_PID"])
+    try:
+        line = "not recorded: what happens now"
+        said = run([place / "mortarleek-status"], env=environment)
+        assert f"record: {record}\n" in said and line not in said, said
+        for child in pathlib.Path(f"/proc/{guard}/task/{guard}/children").read_text().split():
+            fill_up(int(child), record)
+        # The first try may write a front of a line.
+        run([place / "add_tool", "-l"], 1, env=environment)
+        said = run([place / "mortarleek-status"], env=environment)
+        assert f"record: {record}\n{line}" in said, said
+    finally:
+        run([place / "mortarleek-agent", "-k"], env=environment)
 
 
 @check

@@ -314,6 +314,10 @@ def statuses_and_their_lines(folder):
         ["-a", path],
         ["--helper", "h"],
         ["-a", path, "--helper", "h", "-t", "1x"],
+        ["-a", path, "--helper", "h", "--confirm-limit", "0"],
+        ["-a", path, "--helper", "h", "--confirm-limit", "1x"],
+        ["-a", path, "--helper", "h", "--confirm-limit", "4294967296"],
+        ["-a", path, "--helper", "h", "--confirm-limit", "5", "--confirm-limit", "5"],
         ["-a", path, "--helper", "h", "--relay", "r"],
         ["-a", path, "--helper", "h", "more"],
         ["--help"],
@@ -884,6 +888,55 @@ def where_no_display_was_there_the_manager_tells_it(folder):
     given = dict(PATH=os.environ["PATH"], MORTARLEEK_MANAGER=str(manager), LANG="C")
     wanted = dict(DISPLAY=":9", XAUTHORITY="/x y", LANG="C", SSH_ASKPASS_PROMPT="confirm")
     assert shown_to_askpass(folder, given) == wanted
+
+
+@check
+def a_question_ends_by_the_limit_that_is_chosen(folder):
+    relay = rig.built("confirm_relay")
+    key = keygen(folder / "key")
+    asker = rig.script(folder / "ask", f"echo $$ > {folder}/asked\nexec sleep 600")
+    words = ["--relay", relay, "--askpass", asker, "--confirm-limit", "2", "--record"]
+    with open(folder / "record", "wb") as file:
+        with serve(folder, *words, stdout=file, stderr=subprocess.DEVNULL) as agent:
+            agent.run("ssh-add", "-q", "-c", key)
+            with agent.peer() as peer:
+                ((blob, _),) = peer.blobs()
+                begin = time.monotonic()
+                peer.send(bytes([SIGN]) + string(blob) + string(b"message") + bytes(4))
+                dialog = int(until(lambda: (folder / "asked").exists() and (folder / "asked").read_text()))
+                assert peer.reply() == bytes([FAILURE])
+                # Whole seconds are counted, so the first of them may be short.
+                waited = time.monotonic() - begin
+                assert 1 <= waited < 12, waited
+                until(lambda: not is_alive(dialog), what="the dialog's end")
+                assert peer.ask(LIST)[0] == IDENTITIES
+    # The same of its record, run with the same word; without it the question is open still.
+    for chosen, fails in (["--confirm-limit", "2"], 1), (["-t", "1h", "--confirm-limit", "2s"], 1), ([], 0):
+        with open(folder / "record", "rb") as file:
+            done = run([PROGRAM, "replay", *chosen], stdin=file)
+        assert len(re.findall(r"^to [0-9]+ 0000000105$", done, re.M)) == fails, (chosen, done)
+
+
+@check
+def words_of_replay_choose_a_limit_in_one_form(folder):
+    for chosen in (
+        ["--confirm-limit"],
+        ["--confirm-limit", "0"],
+        ["--confirm-limit", "0s"],
+        ["--confirm-limit", "x"],
+        ["--confirm-limit", "4294967296"],
+        ["--confirm-limit=5"],
+        ["--confirm-limit", "5", "-t", "5"],
+        ["--confirm-limit", "5", "--confirm-limit", "5"],
+        ["-t", "5", "--confirm-limit"],
+        ["-t", "5", "--confirm-limit", "0"],
+        ["-t", "5", "--confirm-limit", "5", "more"],
+        ["-t", "1x", "--confirm-limit", "5"],
+    ):
+        said = run([PROGRAM, "replay", *chosen], 2, stdin=subprocess.DEVNULL)
+        assert said.count("\n") == 1, said
+    for chosen in (["--confirm-limit", "1"], ["--confirm-limit", "4294967295"], ["-t", "0", "--confirm-limit", "1h30"]):
+        assert run([PROGRAM, "replay", *chosen], stdin=subprocess.DEVNULL) == "end\n"
 
 
 @check.by_hand

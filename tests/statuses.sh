@@ -30,10 +30,9 @@ errors=$("$agent" drill 100001 1 2>&1 < /dev/null > /dev/null); judge 'a longer 
 errors=$("$agent" drill 2 1 2>&1 >&-); judge 'a drill and a closed output' 7 1 $? "$errors"
 errors=$("$agent" drill 2 1 2>&1 <&- > /dev/null); judge 'a drill and a closed input' 0 0 $? "$errors"
 
-# A schedule of 268435456 bytes is run, and one of a byte more is refused.
+# A schedule is run as it is read: 300 MB of it in 40 MB.
 comments() { yes "$(printf '%65535s' '' | tr ' ' '#')" | head -c "$1"; }
-errors=$(comments 268435456 | "$agent" replay 2>&1 > /dev/null); judge 'the longest schedule' 0 0 $? "$errors"
-errors=$(comments 268435457 | "$agent" replay 2>&1 > /dev/null); judge 'a longer schedule' 1 1 $? "$errors"
+errors=$(comments 300000000 | (ulimit -v 40960; "$agent" replay) 2>&1 > /dev/null); judge 'a long schedule' 0 0 $? "$errors"
 
 # Twenty clients begin messages of 262143 bytes, in less memory than these take.
 errors=$(awk 'BEGIN {

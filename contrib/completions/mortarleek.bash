@@ -10,7 +10,8 @@ _mortarleek_agent() {
     -E:*) _mortarleek_offer -W 'sha256' -- "$2" ;;
     -O:*) _mortarleek_offer -W 'allow-remote-pkcs11 no-restrict-websafe' -- "$2" ;;
     -t:*) _mortarleek_offer -W '30m 1h 8h 1d' -- "$2" ;;
-    *:-*) _mortarleek_offer -W '--reuse --stand-in --record -a -c -D -d -E -k -O -P -s -T -t -U -u' -- "$2" ;;
+    --confirm-limit:*) _mortarleek_offer -W '30 1m 5m' -- "$2" ;;
+    *:-*) _mortarleek_offer -W '--reuse --stand-in --record --record-or-stop --confirm-limit -a -c -D -d -E -k -O -P -s -T -t -U -u' -- "$2" ;;
     *) _mortarleek_offer -c -- "$2" ;;
     esac
 }
@@ -21,7 +22,7 @@ _mortarleek_add() {
     -t:*) _mortarleek_offer -W '30m 1h 8h 1d' -- "$2" ;;
     -u:*) _mortarleek_offer -W '1 3' -- "$2" ;;
     -h:*) _mortarleek_offer -A hostname -- "$2" ;;
-    *:-*) _mortarleek_offer -W '-C -c -D -d -E -H -h -k -L -l -N -q -T -t -u -v -X -x' -- "$2" ;;
+    *:-*) _mortarleek_offer -W '--any-agent -C -c -D -d -E -H -h -k -L -l -N -q -T -t -u -v -X -x' -- "$2" ;;
     *) _mortarleek_offer -f -- "$2" ;;
     esac
 }
@@ -40,9 +41,10 @@ _mortarleek_filter() {
 _mortarleek_log() {
     case $3:$2 in
     -t:*) _mortarleek_offer -W '30m 1h 8h 1d' -- "$2" ;;
+    --confirm-limit:*) _mortarleek_offer -W '30 1m 5m' -- "$2" ;;
     --host:*) _mortarleek_offer -A hostname -- "$2" ;;
     --since:*) _mortarleek_offer -W 'today yesterday' -- "$2" ;;
-    *:-*) _mortarleek_offer -W '-f -t --host --json --key --since' -- "$2" ;;
+    *:-*) _mortarleek_offer -W '-f -t --confirm-limit --host --json --key --since' -- "$2" ;;
     *) _mortarleek_offer -f -- "$2" ;;
     esac
 }

@@ -17,6 +17,8 @@ function __mortarleek_agent
     complete $argv -l reuse -d 'Print the lines of the agent that answers at the path'
     complete $argv -l stand-in -d 'Start the helper for tests'
     complete $argv -l record -r -F -d 'Write what happens to a new file'
+    complete $argv -l record-or-stop -d 'End where no more of the record can be written'
+    complete $argv -l confirm-limit -x -a '30 1m 5m' -d 'End a question to the user after this time'
     complete $argv -s a -r -F -d 'Listen at this path'
     complete $argv -s c -d 'Print lines for csh'
     complete $argv -s D -d 'Stay in front'
@@ -48,6 +50,7 @@ function __mortarleek_add
     complete $argv -s T -d 'Try the keys, by ssh-add'
     complete $argv -s t -x -a '30m 1h 8h 1d' -d 'Forget the key after this time'
     complete $argv -s u -x -a '1 3' -d 'Forget the key after so many uses'
+    complete $argv -l any-agent -d 'Send the number to any agent'
     complete $argv -s v -d 'Tell what happens to each file'
     complete $argv -s X -d 'Unlock the agent'
     complete $argv -s x -d 'Lock the agent'
@@ -62,6 +65,7 @@ end
 
 function __mortarleek_log
     complete $argv -s f -d 'Go on as the record grows'
+    complete $argv -l confirm-limit -x -a '30 1m 5m' -d 'Questions ended after this time'
     complete $argv -l host -x -a '(__fish_print_hostnames)' -d 'Look for this host where names are hashed'
     complete $argv -l json -d 'Tell each as an object'
     complete $argv -l key -r -F -d 'Of this key alone: a file, a fingerprint, a comment'

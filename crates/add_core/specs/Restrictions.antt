@@ -32,7 +32,7 @@ hosts_held held place (path ∷ paths) =
 -- the terms that the words ask for, with these destination constraints
 abbrev pub terms_with : PlainWords → Result (List Constraint) DestFault → Result Terms AddFault
 terms_with words (Ok rules) =
-    Ok record { life = words.life; confirm = words.confirm; uses = words.uses; rules = rules }
+    Ok record { life = words.life; confirm = words.confirm; uses = words.uses; rules = rules; purposes = [] }
 terms_with words (Err fault) = Err (Destination fault)
 
 -- the terms that the words ask for, over these texts of files of known hosts

@@ -14,7 +14,7 @@ use crate::files::read_text;
 use add_rules::destination_rules;
 use add_words::AddWords;
 use constraint_rec::Terms;
-use plain_lists::Bytes;
+use plain_lists::{Bytes, PlainList};
 use std::alloc::Global;
 use world_ports::Files;
 
@@ -56,6 +56,7 @@ fn terms_by(alloc: Global, words: &AddWords<'_>, hosts: &[Bytes]) -> Result<Term
             confirm: words.confirm,
             uses: words.uses,
             rules,
+            purposes: PlainList::new(alloc),
         }),
         Err(fault) => Err(Stop::Fault(AddFault::Destination(fault))),
     }

@@ -10,9 +10,10 @@ use Rattle.constraint_rec.specs.declared.key_spec.KeySpec.{KeySpec}
 use Rattle.constraint_rec.specs.declared.constraint.Hop.{Hop}
 use Rattle.constraint_rec.specs.declared.constraint.Constraint.{Constraint}
 use Rattle.constraint_rec.specs.declared.terms.Terms.{Terms}
-use Rattle.constraint_rec.specs.Constraints.{item_text, restrict_destination, uses_name}
+use Rattle.constraint_rec.specs.Constraints.{item_text, purposes_name, purposes_text, restrict_destination, uses_name}
+use Rattle.key_purposes.specs.declared.purpose.Purpose.{Purpose}
 use Rattle.constraint_rec.specs.Hops.{key_text, hop_text, constraint_text, list_text, IsDestination}
-use Rattle.constraint_rec.specs.Writing.{is_ca_byte, spelt_key, spelt_hop, spelt_constraint, life_items, confirm_items, use_items, rule_items, constraints_bytes, IsWritable, MeetsRules}
+use Rattle.constraint_rec.specs.Writing.{is_ca_byte, spelt_key, spelt_hop, spelt_constraint, life_items, confirm_items, use_items, rule_items, purpose_items, constraints_bytes, IsWritable, MeetsRules}
 use Rattle.constraint_rec.proofs.WritingLemmas.{constraints_in_parts}
 
 -- one part more
@@ -115,21 +116,47 @@ length-uses uses =
       length-uses_name,
     )
 
+-- the name of the extension that holds purposes
+length-purposes_name : length purposes_name ≡ 24
+unfolding purposes_name
+length-purposes_name = refl
+
+length-purposes : (purpose : Purpose) (purposes : List Purpose)
+    → length (flat_map item_text (purpose_items (purpose ∷ purposes))) ≡ length (purposes_text (purpose ∷ purposes)) + 33
+length-purposes purpose purposes =
+    let text : List ℕ = purposes_text (purpose ∷ purposes) in
+    omega (
+      arith,
+      length-append (string purposes_name ++ string text) [],
+      length-append (string purposes_name) (string text),
+      length-string purposes_name,
+      length-string text,
+      length-purposes_name,
+    )
+
+pub some_purposes : (purposes : List Purpose) → 0 < length purposes
+    → length (flat_map item_text (purpose_items purposes)) ≡ length (purposes_text purposes) + 33
+some_purposes [] some = absurd (omega (arith, some))
+some_purposes (purpose ∷ purposes) some = length-purposes purpose purposes
+
 -- all constraints
 pub length-constraints : (terms : Terms) → length (constraints_bytes terms)
     ≡ length (flat_map item_text (life_items terms.life)) + length (flat_map item_text (confirm_items terms.confirm))
     + length (flat_map item_text (use_items terms.uses)) + length (flat_map item_text (rule_items terms.rules))
+    + length (flat_map item_text (purpose_items terms.purposes))
 length-constraints terms =
     let life : List ℕ = flat_map item_text (life_items terms.life) in
     let confirm : List ℕ = flat_map item_text (confirm_items terms.confirm) in
     let uses : List ℕ = flat_map item_text (use_items terms.uses) in
     let rules : List ℕ = flat_map item_text (rule_items terms.rules) in
+    let purposes : List ℕ = flat_map item_text (purpose_items terms.purposes) in
     omega (
       arith,
       ap length (constraints_in_parts terms),
-      length-append life (confirm ++ (uses ++ rules)),
-      length-append confirm (uses ++ rules),
-      length-append uses rules,
+      length-append life (confirm ++ (uses ++ (rules ++ purposes))),
+      length-append confirm (uses ++ (rules ++ purposes)),
+      length-append uses (rules ++ purposes),
+      length-append rules purposes,
     )
 
 list_within : (rules : List Constraint)
@@ -140,4 +167,4 @@ list_within (rule ∷ rules) = omega (arith, length-rules rule rules)
 -- constraints that aren't too long can be written
 pub short_writable : (terms : Terms) → MeetsRules terms → length (constraints_bytes terms) < 2 ^ 32
     → IsWritable terms
-short_writable terms meets short = record { uses = meets.uses; rules = meets.rules; short = omega (arith, list_within terms.rules, length-constraints terms) }
+short_writable terms meets short = record { uses = meets.uses; rules = meets.rules; purposes = meets.purposes; short = omega (arith, list_within terms.rules, length-constraints terms) }

@@ -1,14 +1,16 @@
-//! The length of constraints on the wire, by their parts: keys, hops, destinations and limits.
+//! The length of constraints on the wire, by their parts: keys, hops, destinations, purposes and limits.
 
 ghost use Rattle.std.specs.Prelude.{◌≡◌, ◌<◌, ◌^◌, All, length, map};
 ghost use Rattle.std.specs.List.{flat_map};
-ghost use Rattle.constraint_rec.specs.Constraints.{item_text};
+ghost use Rattle.constraint_rec.specs.Constraints.{item_text, purposes_text};
 ghost use Rattle.constraint_rec.specs.Hops.{IsDestination, constraint_text, hop_text, key_text, list_text};
-ghost use Rattle.constraint_rec.specs.Writing.{IsWritable, MeetsRules, confirm_items, constraints_bytes, life_items, rule_items, use_items, spelt_constraint, spelt_hop, spelt_key};
+ghost use Rattle.constraint_rec.specs.Writing.{IsWritable, MeetsRules, confirm_items, constraints_bytes, life_items, purpose_items, rule_items, use_items, spelt_constraint, spelt_hop, spelt_key};
+ghost use Rattle.key_purposes.specs.Purposes.{word_of};
 ghost use Rattle.add_rules.specs.Lengths.{counted};
 ghost use Rattle.wire_text.specs.Wire.{string};
 
 use constraint_rec::{Constraint, Hop, KeySpec, Terms};
+use key_purposes::Purpose;
 
 /// The bytes of some keys, each with its length and the byte behind it.
 fn keys_len(keys: &[KeySpec]) -> usize
@@ -88,6 +90,38 @@ fn uses_len(uses: Option<u32>) -> usize
     }
 }
 
+/// The bytes of the word of a purpose.
+fn word_len(purpose: &Purpose) -> usize
+    ensures { result ≡ counted (length (word_of purpose.now)) }
+{
+    match purpose {
+        Purpose::Login | Purpose::Other => 5,
+        Purpose::Namespace(namespace) => namespace.len().saturating_add(7),
+        Purpose::AnyNamespace => 6,
+    }
+}
+
+/// The bytes of purposes, each with its length.
+fn words_len(purposes: &[Purpose]) -> usize
+    ensures { result ≡ counted (length (purposes_text purposes.now)) }
+{
+    let mut len: usize = 0;
+    'purposes: for purpose in purposes {
+        len = len.saturating_add(word_len(purpose)).saturating_add(4);
+    }
+    len
+}
+
+/// The bytes of the extension that holds purposes; none where it isn't there.
+fn purposes_len(purposes: &[Purpose]) -> usize
+    ensures { result ≡ counted (length (flat_map item_text (purpose_items purposes.now))) }
+{
+    if purposes.is_empty() {
+        return 0;
+    }
+    words_len(purposes).saturating_add(33)
+}
+
 /// How many bytes the constraints take as `write_constraints` writes them, or the greatest number
 /// where it doesn't fit.
 pub fn constraints_len(terms: &Terms) -> usize
@@ -101,4 +135,5 @@ pub fn constraints_len(terms: &Terms) -> usize
         .saturating_add(life_len(terms.life))
         .saturating_add(confirm_len(terms.confirm))
         .saturating_add(uses_len(terms.uses))
+        .saturating_add(purposes_len(terms.purposes.as_slice()))
 }

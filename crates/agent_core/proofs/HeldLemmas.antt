@@ -1,9 +1,9 @@
 -- Lemmas on what is held.
-use Rattle.std.proofs.Common.{◌≡◌, ℕ, ◌+◌, ◌≤◌, List, [], ◌∷◌, ◌++◌, length, map, refl, ap, sym, arith, ◌∙◌, Option, Some, None, Result, Ok, Err, is_some, not, subst, Bool, true, false, if◌then◌else◌, inl, inr}
+use Rattle.std.proofs.Common.{◌≡◌, ℕ, ◌+◌, ◌≤◌, List, [], ◌∷◌, ◌++◌, length, map, refl, ap, sym, arith, ◌∙◌, Option, Some, None, Result, Ok, Err, is_some, not, ◌&&◌, subst, Bool, true, false, if◌then◌else◌, inl, inr}
 use Rattle.std.specs.Prelude.{◌↔◌, ◌⊎◌, IfOk, IfSome, IsSome, IsTrue, OnOk}
 use Rattle.std.specs.List.{AllByRecursion}
 use Rattle.std.proofs.lemmas.List.Elements.{recursion_from_All}
-use Rattle.constraint_rec.specs.Constraints.{Confirmation, IsItem, Item, Life, Rules, UseCount, no_terms, with_item, with_items}
+use Rattle.constraint_rec.specs.Constraints.{Confirmation, IsItem, Item, Life, Purposes, Rules, UseCount, no_terms, with_item, with_items}
 use Rattle.constraint_rec.specs.declared.terms.Terms.{Terms}
 use Rattle.agent_msg.specs.Requests.{Addition, ClientRequest, IsConstrainedAddition, IsPlainAddition, IsRequest, Signing, session_bind, ListIdentities, Sign, Add, Remove, RemoveAll, Lock, Unlock, Bind, OtherExtension, Unsupported}
 use Rattle.agent_msg.specs.Reading.{request_of}
@@ -26,7 +26,7 @@ use Rattle.agent_model.specs.Errands.{Signs, put_unless, raise_unless}
 use Rattle.agent_model.specs.Verdicts.{Cause}
 use Rattle.under_way.specs.Parts.{TellsOf}
 use Rattle.agent_model.specs.Dispatch.{Asker, add_by, add_seen, remove_by, remove_seen, sees, serve, serve_by, sign_by, sign_unless, sign_with, with_identities}
-use Rattle.dest_rule.specs.Rules.{denial_under}
+use Rattle.agent_model.specs.Objections.{objection, objection_by}
 use Rattle.dest_rule.specs.declared.denial.Denial.{Denial}
 use Rattle.std.specs.Option.{is_none}
 use Rattle.agent_model.specs.State.{UnderWay}
@@ -149,22 +149,28 @@ served-sign asker signing held under_way = by_lock held.lock
     by_lock None = refl
     by_lock (Some passphrase) = refl
 
--- what isn't denied is permitted
-pub undenied : (denial : Option Denial) → true ≡ is_none denial → denial ≡ None
+-- nothing stands against what the purposes let sign and the constraints don't deny
+pub no_objection : (lets : Bool) (denial : Option Denial) → is_none (objection_by lets denial) ≡ (lets && is_none denial)
+no_objection true None = refl
+no_objection true (Some denial) = refl
+no_objection false denial = refl
+
+-- what nothing stands against is permitted
+pub undenied : (result : Option Cause) → true ≡ is_none result → result ≡ None
 undenied None permits = refl
-undenied (Some denial) permits = absurd (cc)
+undenied (Some cause) permits = absurd (cc)
 
 -- what comes of it where the agent isn't locked, the key is held and its constraints permit it
 pub served-signed : (asker : CoreAsker) (key : HeldKey) (signing : Signing) (held : KeyState) (under_way : UnderWay) → held.lock ≡ None
     → find_identity signing.blob held.table.identities ≡ Some key
-    → denial_under key.rules signing.blob asker.chain.now.bindings signing.message asker.wall ≡ None
+    → objection key signing.blob asker.chain.now.bindings signing.message asker.wall ≡ None
     → sign_work key.confirm asker.port key signing.message signing.flags under_way
     ≡ (served_by asker (Sign signing) held under_way).work
 served-signed asker key signing held under_way unlocked found permitted =
     let client : Asker = asker_of asker held in
     by_confirm key.confirm
     ∙ ap (λ blob. sign_with key.confirm client key (record signing { blob = blob }) under_way) (found_has signing.blob held.table.identities key found)
-    ∙ sym (ap (λ denial. sign_unless denial client key signing under_way) permitted)
+    ∙ sym (ap (λ result. sign_unless result client key signing under_way) permitted)
     ∙ sym (ap (λ f. sign_by f client signing under_way) found)
     ∙ sym (ap (λ lock. (serve_by lock (Sign signing) client held under_way).work) unlocked)
   where
@@ -179,6 +185,7 @@ usable_items (Life seconds ∷ items) terms fit usable = usable_items items (wit
 usable_items (Confirmation ∷ items) terms fit usable = usable_items items (with_item terms Confirmation) fit.1 usable
 usable_items (UseCount uses ∷ items) terms fit usable = usable_items items (with_item terms (UseCount uses)) fit.1 fit.0.some
 usable_items (Rules rules ∷ items) terms fit usable = usable_items items (with_item terms (Rules rules)) fit.1 usable
+usable_items (Purposes purposes ∷ items) terms fit usable = usable_items items (with_item terms (Purposes purposes)) fit.1 usable
 
 usable-added : (body : List ℕ) (addition : Addition) → IsPlainAddition body addition ⊎ IsConstrainedAddition body addition → IfSome addition.terms.uses (λ u. 1 ≤ u)
 usable-added body addition (inl plain) = subst (λ (t : Terms). IfSome t.uses (λ u. 1 ≤ u)) (sym plain.unconstrained) tt

@@ -1,28 +1,28 @@
 -- What is tested again when the user consents, and what comes of a confirmation (ours).
 use Rattle.std.specs.Prelude.{◌≡◌, ℕ, ◌+◌, ◌≤◌, List, [], Option, Some, None, IsSome, length}
-use Rattle.dest_rule.specs.Rules.{denial_under}
-use Rattle.dest_rule.specs.declared.denial.Denial.{Denial}
 use Rattle.dest_rule.specs.declared.binding.Binding.{Binding}
 use Rattle.confirm_desk.specs.Confirmations.{Confirmation, find_job}
 use Rattle.identity_table.specs.Identities.{HeldKey, find_number}
 use Rattle.agent_model.specs.Actions.{Stepped, Work}
 use Rattle.agent_model.specs.Consents.{grant_by}
 use Rattle.agent_model.specs.KeyStates.{KeyState, after_use}
+use Rattle.agent_model.specs.Objections.{objection}
+use Rattle.agent_model.specs.Verdicts.{Cause}
 use Rattle.agent_model.specs.State.{Port, State, UnderWay, find_port}
 use Rattle.under_way.specs.Parts.{TellsOf}
 
 -- ---- the second test
 
--- the key of a consent, by what its destination constraints say by now
-abbrev pub granted_unless : Option Denial → HeldKey → Option HeldKey
-granted_unless (Some denial) key = None
+-- the key of a consent, by what its purposes and its destination constraints say by now
+abbrev pub granted_unless : Option Cause → HeldKey → Option HeldKey
+granted_unless (Some cause) key = None
 granted_unless None key = Some key
 
 -- the key of a consent, by whether its addition is still held
 abbrev pub granted_with : Option HeldKey → List Binding → List ℕ → ℕ → Option HeldKey
 granted_with None chain message wall = None
 granted_with (Some key) chain message wall =
-    granted_unless (denial_under key.rules key.blob chain message wall) key
+    granted_unless (objection key key.blob chain message wall) key
 
 -- the key of a consent, by whether the agent is locked by now
 abbrev pub granted_by : Option (List ℕ) → ℕ → List HeldKey → List Binding → List ℕ → ℕ → Option HeldKey

@@ -8,6 +8,7 @@ ghost use Rattle.confirm_desk.specs.Calls.{given_back};
 ghost use Rattle.confirm_desk.specs.Confirmations.{Confirmation};
 ghost use Rattle.agent_model.specs.Consents.{close_confirmer, confirmer_closes};
 ghost use Rattle.agent_model.specs.NumberLists.{put_all};
+ghost use Rattle.agent_model.specs.Objections.{objection};
 ghost use Rattle.wire_text.specs.Bounds.{longest_body};
 ghost use Rattle.agent_model.specs.State.{Port, change_port, find_port};
 ghost use Rattle.agent_model.specs.Verdicts.{Verdict, tell};
@@ -21,6 +22,7 @@ use confirm_desk::Held;
 use constraint_rec::Constraint;
 use dest_rule::{Chain, may_sign};
 use identity_table::{Identity, Lock, Table};
+use key_purposes::let_sign;
 use std::alloc::AllocError;
 use under_way::UnderWay;
 
@@ -41,15 +43,31 @@ pub fn find_granted<'a>(
         return None;
     }
     let key = table.by_number(addition)?;
-    if !permits(key.rules(), key.blob(), chain, message, wall) {
+    if !permits(key, key.blob(), chain, message, wall) {
         return None;
     }
     Some(key)
 }
 
-/// Whether these constraints of the key of this blob permit a signature of the message for a connection so bound.
-/// A key without any isn't asked about.
-pub fn permits(rules: &[Constraint], blob: &[u8], chain: &Chain, message: &[u8], wall: u64) -> bool
+/// Whether the purposes and the constraints of the key, which has this blob, permit a signature of the message for a
+/// connection so bound.
+#[tactic(auto, using(crate::proofs::HeldLemmas::no_objection))]
+pub fn permits(key: &Identity, blob: &[u8], chain: &Chain, message: &[u8], wall: u64) -> bool
+    ensures { result ≡ is_none (objection key.now blob.now chain.now.bindings message.now wall) }
+{
+    let_sign(key.purposes(), message, blob)
+        && permits_destination(key.rules(), blob, chain, message, wall)
+}
+
+// Whether these constraints of the key of this blob permit a signature of the message for a connection so bound.
+// A key without any isn't asked about.
+fn permits_destination(
+    rules: &[Constraint],
+    blob: &[u8],
+    chain: &Chain,
+    message: &[u8],
+    wall: u64,
+) -> bool
     ensures { result ≡ is_none (denial_under rules.now blob.now chain.now.bindings message.now wall) }
 {
     rules.is_empty() || may_sign(rules, blob, chain, message, wall).is_ok()

@@ -30,7 +30,7 @@ const REFUSED: Signing = Signing {
     used: None,
 };
 
-/// Has a signature made, where the key is held and its constraints permit it, and then counts a use of the key. Gives
+/// Has a signature made, where the key is held and its purposes and constraints permit it, and then counts a use of the key. Gives
 /// what the client waits for.
 pub fn sign(
     asker: &Asker<'_>,
@@ -70,7 +70,7 @@ fn count_use(table: &mut Table, used: Option<u64>)
     }
 }
 
-// Puts a signature to the helper or the user, where the key is held and its constraints permit it.
+// Puts a signature to the helper or the user, where the key is held and its purposes and constraints permit it.
 fn put_signing(
     asker: &Asker<'_>,
     table: &Table,
@@ -99,7 +99,7 @@ fn put_signing(
         return Ok(REFUSED);
     }
     match table.find(blob) {
-        Some(key) if permits(key.rules(), blob, asker.chain, message, asker.wall) => {
+        Some(key) if permits(key, blob, asker.chain, message, asker.wall) => {
             sign_with(asker.port, under_way, key, message, flags)
         }
         _ => Ok(REFUSED),

@@ -6,7 +6,7 @@ use Rattle.agent_msg.specs.Requests.{Addition, BindRequest, ClientRequest, Signi
 use Rattle.agent_msg.specs.declared.fault.MsgFault.{MsgFault}
 use Rattle.dest_rule.specs.Chains.{judge}
 use Rattle.dest_rule.specs.Rules.{denial_under}
-use Rattle.dest_rule.specs.declared.denial.Denial.{Denial}
+use Rattle.key_purposes.specs.Messages.{let_sign}
 use Rattle.dest_rule.specs.declared.fault.Next.{Next as Judgement}
 use Rattle.dest_rule.specs.declared.fault.Next.TheVariants.{New, Refuse, Same}
 use Rattle.identity_table.specs.Deaths.{death_of}
@@ -17,10 +17,12 @@ use Rattle.agent_model.specs.Dispatch.{Asker, Served, add_by, add_fault, add_see
 use Rattle.agent_model.specs.Errands.{Errand, Signs, ask_fault, put_unless}
 use Rattle.agent_model.specs.KeyStates.{KeyState, after_use}
 use Rattle.agent_model.specs.Limits.{last_number}
+use Rattle.agent_model.specs.Objections.{objection}
 use Rattle.agent_model.specs.State.{Port, UnderWay}
 use Rattle.agent_model.specs.Step.{asker_at}
 use Rattle.agent_model.specs.Unseen.{IsSameReply}
-use Rattle.agent_model.specs.Verdicts.{Cause, DestinationDenied, Identities, NotHeld, Refuses, Replies, verdict_text}
+use Rattle.agent_model.specs.Verdicts.{Cause, Identities, NotHeld, Refuses, Replies, verdict_text}
+use Rattle.agent_model.proofs.ObjectionLemmas.{both_permit}
 use Rattle.agent_model.proofs.UnseenLemmas.{both_fail, same_work, unseen-denied}
 use Rattle.agent_laws.specs.Apart.{AreUnseen, Insiders, IsAlikeHeld, SaysNoMore, none}
 use Rattle.agent_laws.proofs.ApartKeyLemmas.{FindsAlike, finds-alike, found, listed-alike, neither, put-alike, removed-alike, renumbered, spent-alike, unseen-found}
@@ -62,13 +64,15 @@ module _ (who : Insiders) (moment : Moment) (port : Port) (one two : KeyState) (
       → (signing : Signing)
       → (cause : Cause) × (sign_by found_key asker signing under_way ≡ settles (Refuses cause) under_way)
   unsigned None hidden signing = (NotHeld, refl)
-  unsigned (Some key) hidden signing = by_denial (denial_under key.rules signing.blob port.chain signing.message moment.wall) refl
+  unsigned (Some key) hidden signing = by_objection (objection key signing.blob port.chain signing.message moment.wall) refl
     where
-      by_denial : (result : Option Denial)
-          → denial_under key.rules signing.blob port.chain signing.message moment.wall ≡ result
+      by_objection : (result : Option Cause)
+          → objection key signing.blob port.chain signing.message moment.wall ≡ result
           → (cause : Cause) × (sign_unless result asker key signing under_way ≡ settles (Refuses cause) under_way)
-      by_denial None is = absurd (unseen-denied key.rules signing.blob port.chain signing.message moment.wall port.attempted hidden is)
-      by_denial (Some denial) is = (DestinationDenied denial, refl)
+      by_objection None is = absurd (unseen-denied key.rules signing.blob port.chain signing.message moment.wall port.attempted hidden
+          (both_permit (let_sign key.purposes signing.message signing.blob)
+          (denial_under key.rules signing.blob port.chain signing.message moment.wall) is).1)
+      by_objection (Some cause) is = (cause, refl)
 
   both_unsigned : (first second : Work) (a b : Cause) → first ≡ settles (Refuses a) under_way
       → second ≡ settles (Refuses b) under_way → Alike (uses one first) (uses two second)
@@ -106,12 +110,12 @@ module _ (who : Insiders) (moment : Moment) (port : Port) (one two : KeyState) (
         by_fault (Some cause) =
             record { held = alike; reply = both_fail cause cause under_way; calm = refl }
 
-    signed_unless : (result : Option Denial) (key : HeldKey) (number : ℕ)
+    signed_unless : (result : Option Cause) (key : HeldKey) (number : ℕ)
         → find_identity signing.blob one.table.identities ≡ Some key
         → find_identity signing.blob two.table.identities ≡ Some (renumbered number key)
         → key.confirm ≡ false
         → Alike (uses one (sign_unless result asker key signing under_way)) (uses two (sign_unless result asker (renumbered number key) signing under_way))
-    signed_unless (Some denial) key number is is_two plain =
+    signed_unless (Some cause) key number is is_two plain =
         record { held = alike; reply = both_fail _ _ under_way; calm = refl }
     signed_unless None key number is is_two plain =
         signed_with key.confirm key number is is_two plain
@@ -121,7 +125,7 @@ module _ (who : Insiders) (moment : Moment) (port : Port) (one two : KeyState) (
         → find_identity signing.blob two.table.identities ≡ second → FindsAlike who first second
         → Alike (uses one (sign_by first asker signing under_way)) (uses two (sign_by second asker signing under_way))
     signed-by is is_two neither = record { held = alike; reply = same_work _; calm = refl }
-    signed-by is is_two (found key number plain) = signed_unless (denial_under key.rules signing.blob port.chain signing.message moment.wall) key number is is_two plain
+    signed-by is is_two (found key number plain) = signed_unless (objection key signing.blob port.chain signing.message moment.wall) key number is is_two plain
 
   signs-alike : (signing : Signing)
       → Alike (serve_unlocked (Sign signing) asker one under_way) (serve_unlocked (Sign signing) asker two under_way)

@@ -1,11 +1,12 @@
 -- What a signature that is put to the helper tells of the actions before.
-use Rattle.std.proofs.Common.{◌≡◌, ◌≢◌, ℕ, ◌<◌, List, [], ◌∷◌, ◌++◌, length, refl, ap, arith, sym, subst, ◌∙◌, Option, Some, None, IsSomeAnd, Bool, true, false, cond, nat_lt, not, inl, inr}
+use Rattle.std.proofs.Common.{◌≡◌, ◌≢◌, ℕ, ◌<◌, List, [], ◌∷◌, ◌++◌, length, refl, ap, arith, sym, subst, ◌∙◌, Option, Some, None, IsSomeAnd, Bool, true, false, cond, nat_lt, not, ◌&&◌, inl, inr}
 use Rattle.std.specs.Option.{option_map}
 use Rattle.std.specs.Str.{bytes_eq}
 use Rattle.std.proofs.lemmas.Bool.Decides.{nat_tests}
 use Rattle.std.proofs.lemmas.Slice.Eq.{bytes_eq-Decides}
 use Rattle.agent_msg.specs.Requests.{Addition, Signing}
 use Rattle.dest_rule.specs.Rules.{denial_under}
+use Rattle.key_purposes.specs.Messages.{let_sign}
 use Rattle.agent_model.specs.Actions.{Action}
 use Rattle.agent_model.specs.Events.{Timed}
 use Rattle.agent_model.specs.Runs.{Stamped, run}
@@ -28,6 +29,7 @@ pub record IsMetAt (life : Option ℕ) (past : List Stamped) (claim : Claim) : T
   pub added : PastAddition
   pub last : last_addition claim.signing.blob past ≡ Some added
   pub consented : is_consented claim.addition added ≡ true
+  pub suits : let_sign added.addition.terms.purposes claim.signing.message claim.signing.blob ≡ true
   pub permitted : denial_under added.addition.terms.rules claim.signing.blob (proved_of claim.port past) claim.signing.message newest.moment.wall ≡ None
   pub few : length (open_asks past) < 256
   pub unlocked : was_locked past ≡ false
@@ -42,6 +44,12 @@ not_true : (b : Bool) → not b ≡ true → b ≡ false
 not_true false is = refl
 not_true true is = absurd (cc)
 
+-- the parts of five
+five_parts : (a b c d e : Bool) → (a && (b && (c && (d && e)))) ≡ true
+    → (a ≡ true) × (b ≡ true) × (c ≡ true) × (d ≡ true) × (e ≡ true)
+five_parts true b c d e is = let parts = all_parts b c d e is in (refl, parts.0, parts.1, parts.2, parts.3)
+five_parts false b c d e is = absurd (cc)
+
 module _ (life : Option ℕ) (newest : Stamped) (rest : List Stamped) (claim : Claim) where
   abbrev whole : List Stamped
   whole = newest ∷ rest
@@ -54,7 +62,7 @@ module _ (life : Option ℕ) (newest : Stamped) (rest : List Stamped) (claim : C
   by_held None is claims met = absurd (cc)
   by_held (Some added) is claims met =
       let few : Bool = nat_lt (length (open_asks whole)) 256 in
-      let parts = all_parts (is_consented claim.addition added) (is_permitted (denial_under added.addition.terms.rules claim.signing.blob (proved_of claim.port whole) claim.signing.message newest.moment.wall)) few (not (was_locked whole)) met in
+      let parts = five_parts (is_consented claim.addition added) (let_sign added.addition.terms.purposes claim.signing.message claim.signing.blob) (is_permitted (denial_under added.addition.terms.rules claim.signing.blob (proved_of claim.port whole) claim.signing.message newest.moment.wall)) few (not (was_locked whole)) met in
       record {
         newest = newest;
         rest = rest;
@@ -63,9 +71,10 @@ module _ (life : Option ℕ) (newest : Stamped) (rest : List Stamped) (claim : C
         added = added;
         last = held_last (last_addition claim.signing.blob whole) life newest.moment.mono added is;
         consented = parts.0;
-        permitted = none_if_permitted _ parts.1;
-        few = grind (arith, nat_tests, parts.2);
-        unlocked = not_true (was_locked whole) parts.3;
+        suits = parts.1;
+        permitted = none_if_permitted _ parts.2;
+        few = grind (arith, nat_tests, parts.3);
+        unlocked = not_true (was_locked whole) parts.4;
       }
 
   by_claim : (claimed : Option Claim) → claim_of newest.action rest ≡ claimed

@@ -1,11 +1,13 @@
 -- What a request puts to the helper is what is due behind it.
 use Rattle.std.proofs.Common.{◌≡◌, ℕ, ◌-◌, ◌^◌, ◌<◌, List, map, length, refl, ap, arith, sym, subst, ◌∙◌, Option, Some, None, IsSomeAnd, Bool, true, false, is_some, nat_lt, not, ◌&&◌, Result, Ok, Err, inl, inr, if◌then◌else◌}
-use Rattle.std.specs.Option.{option_map}
+use Rattle.std.specs.Option.{is_none, option_map}
 use Rattle.std.proofs.lemmas.Bool.Decides.{nat_tests}
 use Rattle.std.proofs.lemmas.List.{length-map}
 use Rattle.agent_msg.specs.declared.fault.MsgFault.{MsgFault}
 use Rattle.agent_msg.specs.Requests.{ClientRequest, Signing, ListIdentities, Sign, Add, Remove, RemoveAll, Lock, Unlock, Bind, OtherExtension, Unsupported}
 use Rattle.dest_rule.specs.Rules.{denial_under}
+use Rattle.dest_rule.specs.declared.denial.Denial.{Denial}
+use Rattle.key_purposes.specs.Messages.{let_sign}
 use Rattle.dest_rule.specs.declared.binding.Binding.{Binding}
 use Rattle.helper_link.specs.declared.ask.Ask.{Ask}
 use Rattle.identity_table.specs.Identities.{HeldKey, find_identity}
@@ -15,8 +17,9 @@ use Rattle.agent_model.specs.Askable.{HasRoom, IsRefusedFor, IsUsable}
 use Rattle.agent_model.specs.Dispatch.{Asker, Served, serve, unread}
 use Rattle.agent_model.specs.Errands.{Errand, Signs, Verifies, purpose_of, put_unless, raise_unless}
 use Rattle.agent_model.specs.KeyStates.{KeyState}
+use Rattle.agent_model.specs.Objections.{objection, objection_by}
 use Rattle.agent_model.specs.State.{UnderWay}
-use Rattle.agent_model.specs.Verdicts.{AsksSpent, Cause, DestinationDenied, Identities, JobsSpent, Locked, NotHeld, Refuses, Replies, Success, TooManyAsks, TooManyConfirmations, Verdict}
+use Rattle.agent_model.specs.Verdicts.{AsksSpent, Cause, DestinationDenied, Identities, JobsSpent, Locked, NotHeld, OtherPurpose, Refuses, Replies, Success, TooManyAsks, TooManyConfirmations, Verdict}
 use Rattle.agent_model.proofs.SignLemmas.{Comes, comes-of, put, raises, refused}
 use Rattle.agent_model.proofs.ServeLemmas.{Serves, adds, confirms, denies, empties, lists, locks, removes, serves-any, signs, unlocks, verifies}
 use Rattle.agent_laws.specs.Dues.{Claim, claim_of_request, is_consented, is_met, is_permitted}
@@ -41,7 +44,13 @@ met_with None life second wall facts chains opens = None
 met_with (Some claim) life second wall facts chains opens =
     if is_met (held_by (facts.last claim.signing.blob) life second) claim (chains claim.port) wall opens facts.locked then Some claim else None
 
--- ---- four tests
+-- ---- four tests, of which the second is two
+
+pub as_one : (first lets : Bool) (denial : Option Denial) (rest : Bool)
+    → (first && (lets && (is_permitted denial && rest))) ≡ (first && (is_none (objection_by lets denial) && rest))
+as_one first true None rest = refl
+as_one first true (Some denial) rest = refl
+as_one first false denial rest = refl
 
 pub all_pass : (a b c d : Bool) → a ≡ true → b ≡ true → c ≡ true → d ≡ true
     → (a && (b && (c && d))) ≡ true
@@ -95,15 +104,22 @@ module _ (life : Option ℕ) (asker : Asker) (facts : Facts) (held : KeyState) (
     -- the four tests, the first two by the key
     abbrev permits : HeldKey → Bool
     permits key =
-        is_permitted (denial_under key.rules signing.blob asker.chain signing.message asker.wall)
+        is_none (objection key signing.blob asker.chain signing.message asker.wall)
 
     abbrev few : Bool
     few = nat_lt (length opens) 256
 
+    -- of a past addition, the four tests are those of its key
+    by_key : (past : PastAddition)
+        → is_due (Some past) ≡ (is_consented None past && (permits (key_of life past) && (few && not facts.locked)))
+    by_key past =
+        as_one (is_consented None past) (let_sign past.addition.terms.purposes signing.message signing.blob)
+        (denial_under past.addition.terms.rules signing.blob asker.chain signing.message asker.wall) (few && not facts.locked)
+
     -- what is due is by the parts of the key
     by_made : (key : HeldKey) (made : Made life held_now key)
         → is_due held_now ≡ (not key.confirm && (permits key && (few && not facts.locked)))
-    by_made key made = ap is_due made.now ∙ ap (λ (k : HeldKey). not k.confirm && (permits k && (few && not facts.locked))) made.is
+    by_made key made = ap is_due made.now ∙ by_key made.past ∙ ap (λ (k : HeldKey). not k.confirm && (permits k && (few && not facts.locked))) made.is
 
     open_count : length opens ≡ length under_way.link.asks
     open_count = ap length same ∙ length-map under_way.link.asks (λ (one : Ask). one.number)
@@ -114,11 +130,11 @@ module _ (life : Option ℕ) (asker : Asker) (facts : Facts) (held : KeyState) (
         let unlocked : facts.locked ≡ false = holds.locked ∙ ap is_some usable.permitted.unlocked in
         let some : few ≡ true = ap (λ n. nat_lt n 256) open_count ∙ grind (arith, nat_tests, room.few) in
         ap (λ b. if b then Some claim else None) (by_made key (made key usable.permitted.found)
-        ∙ all_pass (not key.confirm) (permits key) few (not facts.locked) (ap not usable.confirm) (ap is_permitted usable.permitted.judged) some (ap not unlocked))
+        ∙ all_pass (not key.confirm) (permits key) few (not facts.locked) (ap not usable.confirm) (ap is_none usable.permitted.judged) some (ap not unlocked))
 
     locked_fails : (past : Option PastAddition) → facts.locked ≡ true → is_due past ≡ false
     locked_fails None is = refl
-    locked_fails (Some past) is = fourth_fails (is_consented None past) (permits (key_of life past)) few (not facts.locked) (ap not is)
+    locked_fails (Some past) is = by_key past ∙ fourth_fails (is_consented None past) (permits (key_of life past)) few (not facts.locked) (ap not is)
 
     -- a key that asks for confirmation isn't used by a request
     consent_first : (usable : IsUsable signing true asker held) → due ≡ None
@@ -136,8 +152,10 @@ module _ (life : Option ℕ) (asker : Asker) (facts : Facts) (held : KeyState) (
             → is_due held_now ≡ false
         by_none None is none = ap is_due is
         by_none (Some past) is none = absurd (cc)
+    refused-not left jobs OtherPurpose why n =
+        not_due (by_made why.key (made why.key why.found) ∙ second_fails (not why.key.confirm) (permits why.key) few (not facts.locked) (ap is_none why.judged))
     refused-not left jobs (DestinationDenied denial) why n =
-        not_due (by_made why.key (made why.key why.found) ∙ second_fails (not why.key.confirm) (permits why.key) few (not facts.locked) (ap is_permitted why.judged))
+        not_due (by_made why.key (made why.key why.found) ∙ second_fails (not why.key.confirm) (permits why.key) few (not facts.locked) (ap is_none why.judged))
     refused-not left jobs TooManyConfirmations why n = consent_first why.0
     refused-not left jobs TooManyAsks why n =
         let key : HeldKey = why.0.permitted.key in

@@ -1,12 +1,13 @@
 -- The user's consent puts what is due behind it, and the end of a confirmation agrees with the past.
 use Rattle.std.proofs.Common.{◌≡◌, ◌≢◌, ℕ, ◌+◌, ◌-◌, ◌^◌, ◌<◌, List, [], ◌∷◌, ◌++◌, map, length, refl, ap, arith, sym, subst, ◌∙◌, Option, Some, None, IsSomeAnd, Bool, true, false, is_some, nat_lt, not, ◌&&◌, ◌==◌, if◌then◌else◌}
-use Rattle.std.specs.Option.{option_map}
+use Rattle.std.specs.Option.{is_none, option_map}
 use Rattle.std.proofs.lemmas.Bool.{false_from_ne_true}
 use Rattle.std.proofs.lemmas.Bool.Decides.{nat_tests}
 use Rattle.std.proofs.lemmas.List.{length-map}
 use Rattle.agent_msg.specs.Requests.{Signing}
 use Rattle.confirm_desk.specs.Confirmations.{Confirmation, remove_job}
 use Rattle.dest_rule.specs.Rules.{denial_under}
+use Rattle.key_purposes.specs.Messages.{let_sign}
 use Rattle.dest_rule.specs.declared.binding.Binding.{Binding}
 use Rattle.dest_rule.specs.declared.denial.Denial.{Denial}
 use Rattle.helper_link.specs.declared.ask.Ask.{Ask}
@@ -20,6 +21,7 @@ use Rattle.agent_model.specs.Asking.{JobsRise}
 use Rattle.agent_model.specs.Consents.{grant_concluded, over, signing_of, without_confirmation}
 use Rattle.agent_model.specs.Errands.{Signs, asking_of, message_of, put_unless}
 use Rattle.agent_model.specs.KeyStates.{KeyState, after_use}
+use Rattle.agent_model.specs.Objections.{objection}
 use Rattle.agent_model.specs.Runs.{Stamped}
 use Rattle.agent_model.specs.State.{Port, State, UnderWay, find_port}
 use Rattle.agent_model.specs.Verdicts.{Cause, NoLongerAllowed, Refuses}
@@ -30,7 +32,7 @@ use Rattle.agent_laws.specs.Dues.{Claim, claim_of_raising, due_signing, is_met, 
 use Rattle.agent_laws.specs.Past.{PastAddition, held_by}
 use Rattle.agent_laws.specs.Puts.{IsMessage, asks, passes}
 use Rattle.agent_laws.specs.Puts as puts
-use Rattle.agent_laws.proofs.DueLemmas.{all_pass, met_with, third_fails}
+use Rattle.agent_laws.proofs.DueLemmas.{all_pass, as_one, met_with, third_fails}
 use Rattle.agent_laws.proofs.HoldsLemmas.{Facts, Holds, Made, facts_of, key_of, made_of, numbers-used, used-holds}
 use Rattle.agent_laws.proofs.MessageLemmas.{private-held, puts-silent, sign-message}
 use Rattle.agent_laws.proofs.PastLemmas.{stamp}
@@ -69,6 +71,10 @@ pub none_if_permitted : (result : Option Denial) → is_permitted result ≡ tru
 none_if_permitted None is = refl
 none_if_permitted (Some denial) is = absurd (cc)
 
+none_objects : (result : Option Cause) → is_none result ≡ true → result ≡ None
+none_objects None is = refl
+none_objects (Some cause) is = absurd (cc)
+
 none_if_not : (lock : Option (List ℕ)) → not (is_some lock) ≡ true → lock ≡ None
 none_if_not None is = refl
 none_if_not (Some passphrase) is = absurd (cc)
@@ -89,7 +95,7 @@ module _ (life : Option ℕ) (second wall : ℕ) (facts : Facts) (held : KeyStat
 
   abbrev permits : HeldKey → Bool
   permits key =
-      is_permitted (denial_under key.rules raising.signing.blob chain raising.signing.message wall)
+      is_none (objection key raising.signing.blob chain raising.signing.message wall)
 
   abbrev few : Bool
   few = nat_lt (length opens) 256
@@ -111,16 +117,23 @@ module _ (life : Option ℕ) (second wall : ℕ) (facts : Facts) (held : KeyStat
       let of_key : key.number ≡ confirmation.addition = found_has_number confirmation.addition held.table.identities key found in
       grind (arith, nat_tests, is, of_key, addition)
 
+  -- of a past addition, the tests are those of its key
+  by_key : (past : PastAddition)
+      → is_due (Some past) ≡ ((past.number == raising.addition) && (permits (key_of life past) && (few && not facts.locked)))
+  by_key past =
+      as_one (past.number == raising.addition) (let_sign past.addition.terms.purposes raising.signing.message raising.signing.blob)
+      (denial_under past.addition.terms.rules raising.signing.blob chain raising.signing.message wall) (few && not facts.locked)
+
   by_made : (key : HeldKey) (made : Made life held_now key)
       → is_due held_now ≡ ((made.past.number == raising.addition) && (permits key && (few && not facts.locked)))
-  by_made key made = ap is_due made.now ∙ ap (λ (k : HeldKey). (made.past.number == raising.addition) && (permits k && (few && not facts.locked))) made.is
+  by_made key made = ap is_due made.now ∙ by_key made.past ∙ ap (λ (k : HeldKey). (made.past.number == raising.addition) && (permits k && (few && not facts.locked))) made.is
 
   open_count : length opens ≡ length under_way.link.asks
   open_count = ap length same ∙ length-map under_way.link.asks (λ (one : Ask). one.number)
 
   denies_as : (key : HeldKey) → key.blob ≡ raising.signing.blob
-      → denial_under key.rules raising.signing.blob chain raising.signing.message wall ≡ denial_under key.rules key.blob chain confirmation.message wall
-  denies_as key is = ap (λ b. denial_under key.rules b chain raising.signing.message wall) (sym is) ∙ ap (λ m. denial_under key.rules key.blob chain m wall) message
+      → objection key raising.signing.blob chain raising.signing.message wall ≡ objection key key.blob chain confirmation.message wall
+  denies_as key is = ap (λ b. objection key b chain raising.signing.message wall) (sym is) ∙ ap (λ m. objection key key.blob chain m wall) message
 
   -- what may be granted is due
   grantable-due : (key : HeldKey)
@@ -132,7 +145,7 @@ module _ (life : Option ℕ) (second wall : ℕ) (facts : Facts) (held : KeyStat
       let some : few ≡ true = ap (λ n. nat_lt n 256) open_count ∙ grind (arith, nat_tests, room) in
       ap (λ b. if b then Some claim else None) (by_made key by
       ∙ all_pass (by.past.number == raising.addition) (permits key) few (not facts.locked) (numbered key may.found by)
-      (ap is_permitted (denies_as key (blob key may.found) ∙ may.permitted)) some (ap not unlocked))
+      (ap is_none (denies_as key (blob key may.found) ∙ may.permitted)) some (ap not unlocked))
 
   -- what is due may be granted
   due-grantable : (now : Option PastAddition) → held_now ≡ now → is_due now ≡ true
@@ -140,7 +153,7 @@ module _ (life : Option ℕ) (second wall : ℕ) (facts : Facts) (held : KeyStat
   due-grantable None is met = absurd (cc)
   due-grantable (Some past) is met =
       let key : HeldKey = key_of life past in
-      let parts = all_parts (past.number == raising.addition) (permits key) few (not facts.locked) met in
+      let parts = all_parts (past.number == raising.addition) (permits key) few (not facts.locked) (sym (by_key past) ∙ met) in
       let found : find_identity raising.signing.blob held.table.identities ≡ Some key = told ∙ ap (option_map (key_of life)) is in
       let by_number = number_of_found raising.signing.blob held.table.last held.table.identities key holds.numbers found in
       let number : past.number ≡ confirmation.addition = grind (arith, nat_tests, parts.0, addition) in
@@ -149,7 +162,7 @@ module _ (life : Option ℕ) (second wall : ℕ) (facts : Facts) (held : KeyStat
         record {
           unlocked = none_if_not held.lock (ap not (sym holds.locked) ∙ parts.3);
           found = ap (λ n. find_number n held.table.identities) (sym number) ∙ by_number.1;
-          permitted = sym (denies_as key its_blob) ∙ none_if_permitted _ parts.1;
+          permitted = sym (denies_as key its_blob) ∙ none_objects _ parts.1;
         },
       )
 

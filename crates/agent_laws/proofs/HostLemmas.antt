@@ -1,5 +1,5 @@
 -- A key whose only constraint leads from the agent's own host to one host signs for that host alone.
-use Rattle.std.proofs.Common.{◌≡◌, ℕ, List, [], ◌∷◌, refl, ap, sym, ◌∙◌, Option, Some, None, Bool, true, false, ◌&&◌, ◌||◌, Result, Ok, Err}
+use Rattle.std.proofs.Common.{◌≡◌, ℕ, nat_lt, cond, length, List, [], ◌∷◌, refl, ap, sym, ◌∙◌, Option, Some, None, Bool, true, false, ◌&&◌, ◌||◌, Result, Ok, Err}
 use Rattle.agent_msg.specs.Requests.{Signing}
 use Rattle.constraint_rec.specs.declared.constraint.Constraint.{Constraint}
 use Rattle.userauth_blob.specs.Reading.{auth_of}
@@ -7,6 +7,8 @@ use Rattle.userauth_blob.specs.UserAuths.{Login}
 use Rattle.userauth_blob.specs.declared.fault.AuthFault.{AuthFault}
 use Rattle.dest_rule.specs.Rules.{Grounds, admits, bad_place, denial, denial_of_login, denial_of_place, denial_under, is_hop, leaves}
 use Rattle.dest_rule.specs.declared.binding.Binding.{Binding}
+use Rattle.dest_rule.specs.declared.denial.Denial.{Denial}
+use Rattle.dest_rule.specs.declared.denial.Denial.TheVariants.{LongUser}
 use Rattle.dest_rule.proofs.LawLemmas.{every_hop, origin_alone, signed_is_newest, unbound_is_denied}
 use Rattle.agent_model.specs.Events.{Timed}
 use Rattle.agent_model.specs.Runs.{Stamped, run}
@@ -24,6 +26,10 @@ no_place : (place : Option ℕ) (login : Login) (first : Binding) (later : List 
 no_place None login first later is = refl
 no_place (Some place) login first later is = absurd (cc)
 
+not_long : (long : Bool) (otherwise : Option Denial) → cond long (Some LongUser) otherwise ≡ None → otherwise ≡ None
+not_long true otherwise is = absurd (cc)
+not_long false otherwise is = is
+
 -- what is permitted is a login, by a chain that is good for its user
 pub record IsLogin (rule : Constraint) (blob message : List ℕ) (wall : ℕ) (first : Binding) (later : List Binding) : Type 0 where
   pub login : Login
@@ -35,7 +41,9 @@ by_auth : (rule : Constraint) (blob message : List ℕ) (wall : ℕ) (first : Bi
     → IsLogin rule blob message wall first later
 by_auth rule blob message wall first later (Err fault) is none = absurd (cc)
 by_auth rule blob message wall first later (Ok login) is none =
-    record { login = login; names = is; good = no_place (bad_place (grounds_for rule login.user wall) first later) login first later none }
+    let place = bad_place (grounds_for rule login.user wall) first later in
+    let short = not_long (nat_lt 4096 (length login.user)) (denial_of_place place login first later) none in
+    record { login = login; names = is; good = no_place place login first later short }
 
 is_login : (rule : Constraint) (blob message : List ℕ) (wall : ℕ) (first : Binding) (later : List Binding)
     → denial (rule ∷ []) blob (first ∷ later) message wall ≡ None

@@ -8,6 +8,7 @@ pub mod KeyLemmas
 pub mod TraceLemmas
 pub mod PutLemmas
 pub mod PastLemmas
+pub mod PurposeLemmas
 pub mod HoldsLemmas
 pub mod ServedLemmas
 pub mod RaisedLemmas

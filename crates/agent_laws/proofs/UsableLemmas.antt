@@ -11,12 +11,14 @@ use Rattle.key_blob.specs.declared.added.AddedKey.{AddedKey}
 use Rattle.key_blob.specs.declared.fault.KeyFault.{KeyFault}
 use Rattle.constraint_rec.specs.Constraints.{no_terms}
 use Rattle.constraint_rec.specs.HopReading.{field_at, rules_in}
-use Rattle.constraint_rec.specs.Reading.{contents_at, has_kind, kind_at, new_contents_at, next_at, some_uses, terms_of, terms_up_to, with_life, with_rules, with_uses}
+use Rattle.constraint_rec.specs.Reading.{contents_at, has_kind, kind_at, new_contents_at, next_at, some_uses, terms_of, terms_up_to, with_life, with_purposes, with_rules, with_uses}
+use Rattle.constraint_rec.specs.PurposeReading.{purposes_in}
+use Rattle.key_purposes.specs.declared.purpose.Purpose.{Purpose}
 use Rattle.constraint_rec.specs.declared.constraint.Constraint.{Constraint}
 use Rattle.constraint_rec.specs.declared.fault.TermFault.{TermFault}
 use Rattle.constraint_rec.specs.declared.fault.TermFault.TheVariants.{NoUses, Short, Twice}
 use Rattle.constraint_rec.specs.declared.kind.Kind.{Kind}
-use Rattle.constraint_rec.specs.declared.kind.Kind.TheVariants.{Lifetime, Confirm, Uses, Destinations}
+use Rattle.constraint_rec.specs.declared.kind.Kind.TheVariants.{Lifetime, Confirm, Uses, Destinations, Purposes}
 use Rattle.constraint_rec.specs.declared.terms.Terms.{Terms}
 use Rattle.agent_msg.specs.declared.fault.MsgFault.{MsgFault}
 use Rattle.agent_msg.specs.Reading.{constrained, ended, extension_by, field_then, key_then, request_of, request_of_number, text_at_end, text_then}
@@ -55,12 +57,22 @@ module _ (terms : Terms) (usable : AreUsable terms) where
       by_rules (Err fault) = tt
       by_rules (Ok rules) = usable
 
+  purposes_read : (text : Result (List ℕ × List ℕ) TermFault) → Reads (text >>= with_purposes terms)
+  purposes_read (Err fault) = tt
+  purposes_read (Ok text) = by_purposes (purposes_in text.0)
+    where
+      by_purposes : (purposes : Result (List Purpose) TermFault)
+          → Reads (purposes >>= λ all. Ok (record terms { purposes = all }, text.1))
+      by_purposes (Err fault) = tt
+      by_purposes (Ok purposes) = usable
+
   contents_read : (kind : Kind) (bytes : List ℕ) → Reads (contents_at kind terms bytes)
   unfolding contents_at
   contents_read Lifetime bytes = life_read (uint32_at bytes)
   contents_read Confirm bytes = usable
   contents_read Uses bytes = uses_read (uint32_at bytes)
   contents_read Destinations bytes = rules_read (field_at bytes)
+  contents_read Purposes bytes = purposes_read (field_at bytes)
 
   next_read : (kind : Result (Kind × List ℕ) TermFault) → Reads (kind >>= new_contents_at terms)
   next_read (Err fault) = tt

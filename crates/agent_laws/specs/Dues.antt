@@ -4,6 +4,7 @@ use Rattle.std.specs.Prelude.{ℕ, Bool, true, false, List, [], ◌∷◌, ◌++
 use Rattle.world_ports.specs.declared.Moment.{Moment}
 use Rattle.agent_msg.specs.declared.fault.MsgFault.{MsgFault}
 use Rattle.agent_msg.specs.Requests.{ClientRequest, Signing, ListIdentities, Sign, Add, Remove, RemoveAll, Lock, Unlock, Bind, OtherExtension, Unsupported}
+use Rattle.key_purposes.specs.Messages.{let_sign}
 use Rattle.dest_rule.specs.Rules.{denial_under}
 use Rattle.dest_rule.specs.declared.binding.Binding.{Binding}
 use Rattle.dest_rule.specs.declared.denial.Denial.{Denial}
@@ -86,14 +87,15 @@ abbrev pub is_permitted : Option Denial → Bool
 is_permitted None = true
 is_permitted (Some denial) = false
 
--- the key is held and used so, its destination constraints permit it, fewer than 256 asks are open,
--- and the agent isn't locked
+-- the key is held and used so, its purposes have the message, its destination constraints permit it, fewer than 256
+-- asks are open, and the agent isn't locked
 abbrev pub is_met : Option PastAddition → Claim → List Binding → ℕ → List ℕ → Bool → Bool
 is_met None claim chain wall asks locked = false
 is_met (Some past) claim chain wall asks locked = is_consented claim.addition past
+    && (let_sign past.addition.terms.purposes claim.signing.message claim.signing.blob
     && (is_permitted (denial_under past.addition.terms.rules claim.signing.blob
     chain claim.signing.message wall)
-    && (nat_lt (length asks) 256 && not locked))
+    && (nat_lt (length asks) 256 && not locked)))
 
 -- the claim, where it is met at this moment
 abbrev pub met_by : Option Claim → Option ℕ → Moment → List Stamped → Option Claim

@@ -1,4 +1,5 @@
 pub mod Past
+pub mod Purposes
 pub mod Grants
 pub mod Dues
 pub mod History

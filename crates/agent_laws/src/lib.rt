@@ -9,6 +9,7 @@ mod apart_rows;
 mod consents;
 mod consequences;
 mod laws;
+mod purposes;
 mod rows;
 mod runs;
 mod uses;
@@ -23,6 +24,7 @@ pub use consequences::{
     a_key_for_one_host_signs_for_it, nothing_is_signed_while_locked, only_what_was_added_signs,
 };
 pub use laws::{a_client_gets_that_helpers_answer, history, what_is_put_is_asked_for};
+pub use purposes::a_key_for_git_never_logs_in;
 pub use rows::{
     the_past_tells_of_keys, the_past_tells_of_uses, the_past_tells_of_what_is_open,
     what_is_due_is_what_was_asked,

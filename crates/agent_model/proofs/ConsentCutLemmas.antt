@@ -7,9 +7,7 @@ use Rattle.world_ports.specs.declared.Door.{Door}
 use Rattle.world_ports.specs.declared.Door.TheVariants.{Clients, Children}
 use Rattle.world_ports.specs.declared.Moment.{Moment}
 use Rattle.confirm_desk.specs.Confirmations.{Confirmation, Consent, No, NotYet, Yes, consent, find_linked, heard_more, remove_job, told, job_of}
-use Rattle.dest_rule.specs.Rules.{denial_under}
 use Rattle.dest_rule.specs.declared.binding.Binding.{Binding}
-use Rattle.dest_rule.specs.declared.denial.Denial.{Denial}
 use Rattle.identity_table.specs.Identities.{HeldKey, find_number}
 use Rattle.agent_model.specs.Actions.{Outcome, stay}
 use Rattle.agent_model.specs.Asking.{IsAttended}
@@ -20,7 +18,8 @@ use Rattle.agent_model.specs.Sound.{IsTied}
 use Rattle.agent_model.specs.State.{Confirmer, Port, State, UnderWay, change_port, find_port, is_linked_to, role_by_helper, role_of}
 use Rattle.agent_model.specs.Step.{handle, heard_at, heard_by_role, step}
 use Rattle.agent_model.specs.Time.{GiveTime, at_moment, taken_in}
-use Rattle.agent_model.specs.Verdicts.{NotConfirmed, Refuses, tell}
+use Rattle.agent_model.specs.Objections.{objection}
+use Rattle.agent_model.specs.Verdicts.{Cause, NotConfirmed, Refuses, tell}
 use Rattle.agent_model.proofs.OpenLemmas.{some_port}
 use Rattle.agent_model.proofs.BudgetLemmas.{confirmer_role}
 use Rattle.agent_model.proofs.JobLemmas.{in-by_port, in-found, linked-changed, linked_port}
@@ -48,16 +47,16 @@ remove-told job piece confirmations =
     remove-change (has_key job_of job) (heard_more piece) confirmations (λ c. refl)
 
 module _ (piece : List ℕ) (confirmation : Confirmation) (chain : List Binding) (wall : ℕ) (held : KeyState) (under_way : UnderWay) where
-  unless-alike : (denial : Option Denial) (key : HeldKey)
-      → grant_unless denial key (heard_more piece confirmation) under_way ≡ grant_unless denial key confirmation under_way
-  unless-alike (Some denial) key = refl
+  unless-alike : (result : Option Cause) (key : HeldKey)
+      → grant_unless result key (heard_more piece confirmation) under_way ≡ grant_unless result key confirmation under_way
+  unless-alike (Some cause) key = refl
   unless-alike None key = refl
 
   with-alike : (found : Option HeldKey)
       → grant_with found chain (heard_more piece confirmation) wall under_way ≡ grant_with found chain confirmation wall under_way
   with-alike None = refl
   with-alike (Some key) =
-      unless-alike (denial_under key.rules key.blob chain confirmation.message wall) key
+      unless-alike (objection key key.blob chain confirmation.message wall) key
 
   -- nor what was heard before it is granted
   granted-alike : (lock : Option (List ℕ))

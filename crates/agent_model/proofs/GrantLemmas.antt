@@ -1,15 +1,14 @@
 -- What comes of the user's consent: a signature is put to the helper, or the client is refused.
 use Rattle.std.proofs.Common.{◌≡◌, ℕ, ◌+◌, List, refl, ap, sym, subst, ◌∙◌, Option, Some, None, ◌↔◌}
 use Rattle.confirm_desk.specs.Confirmations.{Confirmation}
-use Rattle.dest_rule.specs.Rules.{denial_under}
 use Rattle.dest_rule.specs.declared.binding.Binding.{Binding}
-use Rattle.dest_rule.specs.declared.denial.Denial.{Denial}
 use Rattle.identity_table.specs.Identities.{HeldKey, find_number}
 use Rattle.agent_model.specs.Actions.{Work, settles}
 use Rattle.agent_model.specs.Askable.{HasRoom, IsGrantable, IsRefusedAtGrant}
 use Rattle.agent_model.specs.Consents.{grant_by, grant_unless, grant_with, grant_work, signing_of, without_confirmation}
 use Rattle.agent_model.specs.Errands.{Signs, ask_fault, put_unless}
 use Rattle.agent_model.specs.KeyStates.{KeyState}
+use Rattle.agent_model.specs.Objections.{objection}
 use Rattle.agent_model.specs.State.{OnAsk, State, UnderWay}
 use Rattle.agent_model.specs.Verdicts.{AsksSpent, Awaits, Cause, JobsSpent, NoLongerAllowed, Refuses, TooManyAsks}
 use Rattle.agent_model.proofs.RoomLemmas.{RoomFor, free, full, no_ask, no_job, room-free, room-full, room-no_ask, room-no_job, room-of}
@@ -37,15 +36,15 @@ module _ (chain : List Binding) (confirmation : Confirmation) (wall : ℕ) (held
   ends-put (Some cause) key may is = unasked cause key may is
   ends-put None key may is = allowed key may is
 
-  ends-unless : (denial : Option Denial) (key : HeldKey) → held.lock ≡ None
+  ends-unless : (result : Option Cause) (key : HeldKey) → held.lock ≡ None
       → find_number confirmation.addition held.table.identities ≡ Some key
-      → denial_under key.rules key.blob chain confirmation.message wall ≡ denial
-      → Ends (grant_unless denial key confirmation under_way)
-  ends-unless (Some denial) key unlocked found is = disallowed (λ other may.
+      → objection key key.blob chain confirmation.message wall ≡ result
+      → Ends (grant_unless result key confirmation under_way)
+  ends-unless (Some cause) key unlocked found is = disallowed (λ other may.
       let same : Some key ≡ Some other = sym found ∙ may.found in
       let equal : other ≡ key = cc in
-      let permits : denial_under key.rules key.blob chain confirmation.message wall ≡ None = rw (← equal) may.permitted in
-      let no : Some denial ≡ None = sym is ∙ permits in
+      let permits : objection key key.blob chain confirmation.message wall ≡ None = rw (← equal) may.permitted in
+      let no : Some cause ≡ None = sym is ∙ permits in
       absurd (cc))
   ends-unless None key unlocked found is =
       ends-put (ask_fault under_way) key record { unlocked = unlocked; found = found; permitted = is } refl
@@ -56,7 +55,7 @@ module _ (chain : List Binding) (confirmation : Confirmation) (wall : ℕ) (held
   ends-with None unlocked is =
       disallowed (λ key may. let no : None ≡ Some key = sym is ∙ may.found in absurd (cc))
   ends-with (Some key) unlocked is =
-      ends-unless (denial_under key.rules key.blob chain confirmation.message wall) key unlocked is refl
+      ends-unless (objection key key.blob chain confirmation.message wall) key unlocked is refl
 
   ends-by : (lock : Option (List ℕ)) → held.lock ≡ lock
       → Ends (grant_by lock held chain confirmation wall under_way)
@@ -88,7 +87,7 @@ module _ (chain : List Binding) (confirmation : Confirmation) (wall : ℕ) (held
   granted_so fault key may is =
       ap (λ lock. grant_by lock held chain confirmation wall under_way) may.unlocked
       ∙ ap (λ found. grant_with found chain confirmation wall under_way) may.found
-      ∙ ap (λ denial. grant_unless denial key confirmation under_way) may.permitted
+      ∙ ap (λ result. grant_unless result key confirmation under_way) may.permitted
       ∙ ap (λ f. put_unless f (Signs key (signing_of key confirmation)) confirmation.asker under_way) is
 
   refusal_of : {cause : Cause} (key : HeldKey) → May key → RoomFor under_way (Some cause)

@@ -93,7 +93,7 @@ AreApart-bound binding (first ∷ chain) none all = by_test (bytes_eq first.sess
 
 -- no binding
 pub no_bindings : IsChain [] × AreApart []
-no_bindings = (record { few = omega arith; small = omega arith; keys = All-nil (λ binding. IsOk (public_key_of binding.host_key)) }, tt)
+no_bindings = (record { few = omega arith; small = omega arith; named = omega arith; keys = All-nil (λ binding. IsOk (public_key_of binding.host_key)) }, tt)
 
 -- a binding that is new has a session that isn't there
 pub new_is_unknown : (host_key session : List ℕ) (chain : List Binding)

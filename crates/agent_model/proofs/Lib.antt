@@ -1,3 +1,4 @@
+pub mod ObjectionLemmas
 pub mod PortsLemmas
 pub mod HeldLemmas
 pub mod JobLemmas

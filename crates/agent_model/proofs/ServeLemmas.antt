@@ -12,14 +12,13 @@ use Rattle.key_blob.specs.declared.fault.KeyFault.{KeyFault}
 use Rattle.dest_rule.specs.Chains.{judge}
 use Rattle.dest_rule.specs.declared.fault.Next.{Next as Judgement}
 use Rattle.dest_rule.specs.declared.fault.Next.TheVariants.{New, Refuse, Same}
-use Rattle.dest_rule.specs.Rules.{denial_under}
-use Rattle.dest_rule.specs.declared.denial.Denial.{Denial}
 use Rattle.agent_model.specs.Binds.{agent_request_of, and_host_key, bind_with, with_host_key}
 use Rattle.agent_model.specs.KeyStates.{KeyState}
 use Rattle.agent_model.specs.Sound.{judged}
 use Rattle.agent_model.specs.Limits.{last_number}
 use Rattle.agent_model.specs.State.{UnderWay}
-use Rattle.agent_model.specs.Verdicts.{BindRefused, Cause, DestinationDenied, Identities, Locked, NoPassphrase, NotHeld, NotLocked, NotVisible, Reply, Success, Unserved, WrongPassphrase}
+use Rattle.agent_model.specs.Objections.{objection}
+use Rattle.agent_model.specs.Verdicts.{BindRefused, Cause, Identities, Locked, NoPassphrase, NotHeld, NotLocked, NotVisible, Reply, Success, Unserved, WrongPassphrase}
 
 -- what is put for an asker: a binding is put as its chain judges it, and its host key is one that is read
 abbrev pub MayPut : Asker → Errand → Type 0
@@ -119,9 +118,9 @@ module _ (read : Result ClientRequest MsgFault) (asker : Asker) (held : KeyState
       serves-with true asks = serves-raise (raise_fault under_way) refl
       serves-with false asks = serves-put (ask_fault under_way) refl asks
 
-      serves-permitted : (denial : Option Denial) →
-          Is (uses held (sign_unless denial asker key signing under_way))
-      serves-permitted (Some denial) = denies (DestinationDenied denial)
+      serves-permitted : (result : Option Cause) →
+          Is (uses held (sign_unless result asker key signing under_way))
+      serves-permitted (Some cause) = denies cause
       serves-permitted None = serves-with key.confirm refl
 
     serves-sign : (found : Option HeldKey)
@@ -130,7 +129,7 @@ module _ (read : Result ClientRequest MsgFault) (asker : Asker) (held : KeyState
     serves-sign None found = denies NotHeld
     serves-sign (Some key) found =
         serves-permitted key found
-        (denial_under key.rules signing.blob asker.chain signing.message asker.wall)
+        (objection key signing.blob asker.chain signing.message asker.wall)
 
   -- ---- additions and removals
 

@@ -6,13 +6,15 @@ use Rattle.agent_msg.specs.Requests.{Sign, Signing}
 use Rattle.agent_model.specs.Actions.{Work, settles}
 use Rattle.agent_model.specs.Askable.{HasConfirmationRoom, HasRoom, IsJudgedAs, IsRefusedFor, IsUsable}
 use Rattle.dest_rule.specs.Rules.{denial_under}
+use Rattle.key_purposes.specs.Messages.{let_sign}
 use Rattle.dest_rule.specs.declared.denial.Denial.{Denial}
 use Rattle.agent_model.specs.Dispatch.{Asker, serve, serve_by, sign_by, sign_unless, sign_with}
 use Rattle.agent_model.specs.Errands.{Signs, ask_fault, put_unless, raise_fault, raise_fault_by, raise_unless}
 use Rattle.agent_model.specs.KeyStates.{KeyState}
 use Rattle.agent_model.specs.Limits.{last_number, most_confirmations}
+use Rattle.agent_model.specs.Objections.{objection, objection_by}
 use Rattle.agent_model.specs.State.{OnAsk, OnConfirmation, UnderWay}
-use Rattle.agent_model.specs.Verdicts.{AsksSpent, Awaits, Cause, DestinationDenied, JobsSpent, Locked, NotHeld, Refuses, TooManyAsks, TooManyConfirmations}
+use Rattle.agent_model.specs.Verdicts.{AsksSpent, Awaits, Cause, DestinationDenied, JobsSpent, Locked, NotHeld, OtherPurpose, Refuses, TooManyAsks, TooManyConfirmations}
 use Rattle.agent_model.proofs.RoomLemmas.{RoomFor, free, full, no_ask, no_job, room-free, room-full, room-no_ask, room-no_job, room-of}
 
 -- what comes of a signature, and why
@@ -56,12 +58,28 @@ module _ (signing : Signing) (asker : Asker) (held : KeyState) (under_way : Unde
   comes-with false permitted is =
       comes-put record { permitted = permitted; confirm = is } (room-of under_way)
 
-  comes-unless : (denial : Option Denial) (key : HeldKey) → held.lock ≡ None
+  comes-objected : (lets : Bool) (denial : Option Denial) (cause : Cause) (key : HeldKey) → held.lock ≡ None
       → find_identity signing.blob held.table.identities ≡ Some key
-      → denial_under key.rules signing.blob asker.chain signing.message asker.wall ≡ denial
-      → Comes signing asker held under_way (sign_unless denial asker key signing under_way)
-  comes-unless (Some denial) key unlocked found is =
-      refused (DestinationDenied denial) record { unlocked = unlocked; key = key; found = found; judged = is }
+      → objection key signing.blob asker.chain signing.message asker.wall ≡ Some cause
+      → objection_by lets denial ≡ Some cause
+      → Comes signing asker held under_way (settles (Refuses cause) under_way)
+  comes-objected false denial cause key unlocked found is by =
+      let same : OtherPurpose ≡ cause = cc in
+      subst (λ c. Comes signing asker held under_way (settles (Refuses c) under_way)) same
+      (refused OtherPurpose record { unlocked = unlocked; key = key; found = found; judged = is ∙ ap Some (sym same) })
+  comes-objected true None cause key unlocked found is by = absurd cc
+  comes-objected true (Some denial) cause key unlocked found is by =
+      let same : DestinationDenied denial ≡ cause = cc in
+      subst (λ c. Comes signing asker held under_way (settles (Refuses c) under_way)) same
+      (refused (DestinationDenied denial) record { unlocked = unlocked; key = key; found = found; judged = is ∙ ap Some (sym same) })
+
+  comes-unless : (result : Option Cause) (key : HeldKey) → held.lock ≡ None
+      → find_identity signing.blob held.table.identities ≡ Some key
+      → objection key signing.blob asker.chain signing.message asker.wall ≡ result
+      → Comes signing asker held under_way (sign_unless result asker key signing under_way)
+  comes-unless (Some cause) key unlocked found is =
+      comes-objected (let_sign key.purposes signing.message signing.blob)
+      (denial_under key.rules signing.blob asker.chain signing.message asker.wall) cause key unlocked found is is
   comes-unless None key unlocked found is = comes-with key.confirm record { unlocked = unlocked; key = key; found = found; judged = is } refl
 
   comes-sign : (found : Option HeldKey) → held.lock ≡ None
@@ -69,7 +87,7 @@ module _ (signing : Signing) (asker : Asker) (held : KeyState) (under_way : Unde
       → Comes signing asker held under_way (sign_by found asker signing under_way)
   comes-sign None unlocked is = refused NotHeld (unlocked, is)
   comes-sign (Some key) unlocked is =
-      comes-unless (denial_under key.rules signing.blob asker.chain signing.message asker.wall) key unlocked is refl
+      comes-unless (objection key signing.blob asker.chain signing.message asker.wall) key unlocked is refl
 
   comes-lock : (lock : Option (List ℕ)) → held.lock ≡ lock
       → Comes signing asker held under_way (serve_by lock (Sign signing) asker held under_way).work
@@ -107,12 +125,12 @@ module _ (signing : Signing) (asker : Asker) (held : KeyState) (under_way : Unde
   by_raise job (put usable room) is = absurd (cc)
 
   -- what the constraints say counts
-  judged-work : (result : Option Denial) (why : IsJudgedAs result signing asker held)
+  judged-work : (result : Option Cause) (why : IsJudgedAs result signing asker held)
       → (serve (Ok (Sign signing)) asker held under_way).work ≡ sign_unless result asker why.key signing under_way
   judged-work result why =
       ap (λ lock. (serve_by lock (Sign signing) asker held under_way).work) why.unlocked
       ∙ ap (λ found. sign_by found asker signing under_way) why.found
-      ∙ ap (λ denial. sign_unless denial asker why.key signing under_way) why.judged
+      ∙ ap (λ result. sign_unless result asker why.key signing under_way) why.judged
 
   -- a usable key's signature is put to the helper, unless something stands against it
   usable-put : (fault : Option Cause) (usable : IsUsable signing false asker held)
@@ -162,8 +180,9 @@ module _ (signing : Signing) (asker : Asker) (held : KeyState) (under_way : Unde
   because NotHeld why =
       ap (λ lock. (serve_by lock (Sign signing) asker held under_way).work.verdict) why.0 ∙ ap (λ found. (sign_by found asker signing under_way).verdict) why.1
   because TooManyConfirmations why = ap (λ (w : Work). w.verdict) (usable-raise (Some TooManyConfirmations) why.0 (raise_fault_of true (grind (arith, nat_tests, why.1))))
+  because OtherPurpose why = ap (λ (w : Work). w.verdict) (judged-work (Some OtherPurpose) why)
   because (DestinationDenied denial) why =
-      ap (λ (w : Work). w.verdict) (judged-work (Some denial) why)
+      ap (λ (w : Work). w.verdict) (judged-work (Some (DestinationDenied denial)) why)
   because TooManyAsks why =
       ap (λ (w : Work). w.verdict) (usable-put (Some TooManyAsks) why.0 (room-full under_way why.1))
   because AsksSpent why = ap (λ (w : Work). w.verdict) (usable-put (Some AsksSpent) why.0 (room-no_ask under_way why.1 why.2))

@@ -8,8 +8,10 @@ use Rattle.identity_table.specs.Identities.{HeldKey, find_identity, has_blob}
 use Rattle.agent_msg.specs.Requests.{Addition, ClientRequest, Signing, ListIdentities, Sign, Add, Remove, RemoveAll, Lock, Unlock, Bind, OtherExtension, Unsupported}
 use Rattle.constraint_rec.specs.declared.constraint.Constraint.{Constraint}
 use Rattle.dest_rule.specs.Rules.{denial, denial_under, visible}
+use Rattle.key_purposes.specs.Messages.{let_sign}
+use Rattle.agent_model.specs.Objections.{objection}
+use Rattle.agent_model.proofs.ObjectionLemmas.{both_permit}
 use Rattle.dest_rule.specs.declared.binding.Binding.{Binding}
-use Rattle.dest_rule.specs.declared.denial.Denial.{Denial}
 use Rattle.dest_rule.proofs.LawLemmas.{signed_is_visible}
 use Rattle.agent_model.specs.Actions.{Work, settles}
 use Rattle.agent_model.specs.Dispatch.{Asker, lock_by, remove_by, remove_seen, seen_by, sees, serve, serve_by, serve_locked, serve_unlocked, sign_by, sign_unless, unlock_by, with_identities}
@@ -108,13 +110,16 @@ module _ (asker : Asker) (key : HeldKey) (before after : List HeldKey) (held : K
   same-signed : {one two : Option HeldKey} (signing : Signing) → Finds signing.blob key one two
       → IsSameReply (sign_by one asker signing under_way) (sign_by two asker signing under_way)
   same-signed signing (same found) = same_work (sign_by found asker signing under_way)
-  same-signed signing this = by_denial (denial_under key.rules signing.blob asker.chain signing.message asker.wall) refl
+  same-signed signing this = by_objection (objection key signing.blob asker.chain signing.message asker.wall) refl
     where
-      by_denial : (result : Option Denial)
-          → denial_under key.rules signing.blob asker.chain signing.message asker.wall ≡ result
+      by_objection : (result : Option Cause)
+          → objection key signing.blob asker.chain signing.message asker.wall ≡ result
           → IsSameReply (sign_unless result asker key signing under_way) (sign_by None asker signing under_way)
-      by_denial None is = absurd (unseen-denied key.rules signing.blob asker.chain signing.message asker.wall asker.attempted unseen is)
-      by_denial (Some denial) is = both_fail _ _ under_way
+      by_objection None is =
+          absurd (unseen-denied key.rules signing.blob asker.chain signing.message asker.wall asker.attempted unseen
+          (both_permit (let_sign key.purposes signing.message signing.blob)
+          (denial_under key.rules signing.blob asker.chain signing.message asker.wall) is).1)
+      by_objection (Some cause) is = both_fail _ _ under_way
 
   same-removed_seen : (seen : Bool) (blob : List ℕ)
       → IsSameReply (remove_seen seen blob with under_way).work (remove_seen seen blob without under_way).work

@@ -5,22 +5,21 @@ use Rattle.helper_link.specs.declared.state.LinkState.TheVariants as states
 use Rattle.identity_table.specs.Identities.{HeldKey, find_identity, find_number}
 use Rattle.agent_msg.specs.Requests.{Signing}
 use Rattle.confirm_desk.specs.Confirmations.{Confirmation}
-use Rattle.dest_rule.specs.Rules.{denial_under}
 use Rattle.dest_rule.specs.declared.binding.Binding.{Binding}
-use Rattle.dest_rule.specs.declared.denial.Denial.{Denial}
 use Rattle.agent_model.specs.Dispatch.{Asker}
 use Rattle.agent_model.specs.KeyStates.{KeyState}
+use Rattle.agent_model.specs.Objections.{objection}
 use Rattle.agent_model.specs.State.{UnderWay}
-use Rattle.agent_model.specs.Verdicts.{AsksSpent, Cause, DestinationDenied, JobsSpent, Locked, NoLongerAllowed, NotHeld, TooManyAsks, TooManyConfirmations}
+use Rattle.agent_model.specs.Verdicts.{AsksSpent, Cause, DestinationDenied, JobsSpent, Locked, NoLongerAllowed, NotHeld, OtherPurpose, TooManyAsks, TooManyConfirmations}
 
--- the agent is unlocked and holds the key, whose destination constraints say this of the signature
+-- the agent is unlocked and holds the key, whose purposes and destination constraints say this of the signature
 -- for this asker
-pub record IsJudgedAs (result : Option Denial) (signing : Signing) (asker : Asker) (held : KeyState)
+pub record IsJudgedAs (result : Option Cause) (signing : Signing) (asker : Asker) (held : KeyState)
     : Type 0 where
   pub unlocked : held.lock ≡ None
   pub key : HeldKey
   pub found : find_identity signing.blob held.table.identities ≡ Some key
-  pub judged : denial_under key.rules signing.blob asker.chain signing.message asker.wall ≡ result
+  pub judged : objection key signing.blob asker.chain signing.message asker.wall ≡ result
 
 -- they permit it, and the user is to be asked or not
 pub record IsUsable (signing : Signing) (asks_user : Bool) (asker : Asker) (held : KeyState) : Type
@@ -46,8 +45,9 @@ abbrev pub IsRefusedFor : Cause → Signing → Asker → KeyState → UnderWay 
 IsRefusedFor Locked signing asker held under_way = IsSome held.lock
 IsRefusedFor NotHeld signing asker held under_way =
     (held.lock ≡ None) × (find_identity signing.blob held.table.identities ≡ None)
+IsRefusedFor OtherPurpose signing asker held under_way = IsJudgedAs (Some OtherPurpose) signing asker held
 IsRefusedFor (DestinationDenied denial) signing asker held under_way =
-    IsJudgedAs (Some denial) signing asker held
+    IsJudgedAs (Some (DestinationDenied denial)) signing asker held
 IsRefusedFor TooManyConfirmations signing asker held under_way =
     IsUsable signing true asker held × (16 ≤ length under_way.confirmations)
 IsRefusedFor TooManyAsks signing asker held under_way =
@@ -65,13 +65,13 @@ IsRefusedFor other signing asker held under_way = ⊥
 
 -- ---- the user's consent
 
--- the agent is unlocked, the addition of this number is held, as this key, and its destination
+-- the agent is unlocked, the addition of this number is held, as this key, and its purposes and its destination
 -- constraints permit the signature of the message for this chain at this second of the wall clock
 pub record IsGrantable (key : HeldKey) (chain : List Binding) (addition : ℕ) (message : List ℕ)
     (wall : ℕ) (held : KeyState) : Type 0 where
   pub unlocked : held.lock ≡ None
   pub found : find_number addition held.table.identities ≡ Some key
-  pub permitted : denial_under key.rules key.blob chain message wall ≡ None
+  pub permitted : objection key key.blob chain message wall ≡ None
 
 -- consent comes to nothing for this cause: no such key may be used, or one may, and its ask can't
 -- be put

@@ -7,10 +7,9 @@ use Rattle.agent_model.specs.KeyStates.{KeyState, after_use}
 use Rattle.dest_rule.specs.declared.binding.Binding.{Binding}
 use Rattle.confirm_desk.specs.Confirmations.{Confirmation, Consent, No, NotYet, Yes, consent, find_asker, told}
 use Rattle.confirm_desk.specs.Confirmations as desk
-use Rattle.dest_rule.specs.Rules.{denial_under}
-use Rattle.dest_rule.specs.declared.denial.Denial.{Denial}
+use Rattle.agent_model.specs.Objections.{objection}
 use Rattle.agent_model.specs.State.{Port, StartedJob, State, UnderWay, change_port, find_port, remove_port}
-use Rattle.agent_model.specs.Verdicts.{NoLongerAllowed, NotConfirmed, Refuses, tell}
+use Rattle.agent_model.specs.Verdicts.{Cause, NoLongerAllowed, NotConfirmed, Refuses, tell}
 use Rattle.agent_model.specs.Actions.{Granted, Outcome, Over, Work, closing, settles, stay}
 use Rattle.agent_model.specs.Errands.{Signs, put_ask}
 
@@ -72,9 +71,9 @@ abbrev pub signing_of : HeldKey → Confirmation → Signing
 signing_of key confirmation =
     record { blob = key.blob; message = confirmation.message; flags = confirmation.flags }
 
--- what comes of a consent, by what the key's destination constraints say by now
-abbrev pub grant_unless : Option Denial → HeldKey → Confirmation → UnderWay → Work
-grant_unless (Some denial) key confirmation under_way = settles (Refuses NoLongerAllowed) under_way
+-- what comes of a consent, by what the key's purposes and its destination constraints say by now
+abbrev pub grant_unless : Option Cause → HeldKey → Confirmation → UnderWay → Work
+grant_unless (Some cause) key confirmation under_way = settles (Refuses NoLongerAllowed) under_way
 grant_unless None key confirmation under_way =
     put_ask (Signs key (signing_of key confirmation)) confirmation.asker under_way
 
@@ -82,7 +81,7 @@ grant_unless None key confirmation under_way =
 abbrev pub grant_with : Option HeldKey → List Binding → Confirmation → ℕ → UnderWay → Work
 grant_with None chain confirmation wall under_way = settles (Refuses NoLongerAllowed) under_way
 grant_with (Some key) chain confirmation wall under_way =
-    grant_unless (denial_under key.rules key.blob chain confirmation.message wall) key confirmation
+    grant_unless (objection key key.blob chain confirmation.message wall) key confirmation
     under_way
 
 -- what comes of a consent, by whether the agent is locked by now
@@ -93,7 +92,7 @@ grant_by None held chain confirmation wall under_way =
     grant_with (find_number confirmation.addition held.table.identities)
     chain confirmation wall under_way
 
--- what comes of the consent for a client with this chain: the agent, the key and the destination
+-- what comes of the consent for a client with this chain: the agent, the key, its purposes and the destination
 -- are tested again
 abbrev pub grant_work : List Binding → Confirmation → State → Work
 grant_work chain confirmation state =

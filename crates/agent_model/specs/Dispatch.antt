@@ -16,11 +16,11 @@ use Rattle.agent_model.specs.Limits.{last_number}
 use Rattle.dest_rule.specs.Chains.{judge}
 use Rattle.dest_rule.specs.declared.fault.Next.{Next as Judgement}
 use Rattle.dest_rule.specs.declared.fault.Next.TheVariants.{New, Refuse, Same}
-use Rattle.dest_rule.specs.Rules.{denial_under, visible}
-use Rattle.dest_rule.specs.declared.denial.Denial.{Denial}
+use Rattle.dest_rule.specs.Rules.{visible}
 use Rattle.dest_rule.specs.declared.binding.Binding.{Binding}
+use Rattle.agent_model.specs.Objections.{objection}
 use Rattle.agent_model.specs.State.{UnderWay}
-use Rattle.agent_model.specs.Verdicts.{Cause, Identities, Malformed, Locked, Unserved, NotHeld, NotVisible, DestinationDenied, Constraints, ListFull, NoPassphrase, WrongPassphrase, NotLocked, BindRefused, AdditionsSpent, Refuses, Replies, Reply, Success}
+use Rattle.agent_model.specs.Verdicts.{Cause, Identities, Malformed, Locked, Unserved, NotHeld, NotVisible, Constraints, ListFull, NoPassphrase, WrongPassphrase, NotLocked, BindRefused, AdditionsSpent, Refuses, Replies, Reply, Success}
 
 -- who asks, and when: the port, the hosts that its connection was bound to, whether it tried to
 -- bind it, the greatest monotonic second so far, and the wall clock
@@ -69,17 +69,16 @@ abbrev pub sign_with : Bool → Asker → HeldKey → Signing → UnderWay → W
 sign_with true asker key signing under_way = ask_user key signing asker.port under_way
 sign_with false asker key signing under_way = put_ask (Signs key signing) asker.port under_way
 
--- a request to sign with a key that is held, by what its destination constraints say
-abbrev pub sign_unless : Option Denial → Asker → HeldKey → Signing → UnderWay → Work
-sign_unless (Some denial) asker key signing under_way =
-    settles (Refuses (DestinationDenied denial)) under_way
+-- a request to sign with a key that is held, by what its purposes and its destination constraints say
+abbrev pub sign_unless : Option Cause → Asker → HeldKey → Signing → UnderWay → Work
+sign_unless (Some cause) asker key signing under_way = settles (Refuses cause) under_way
 sign_unless None asker key signing under_way = sign_with key.confirm asker key signing under_way
 
 -- a request to sign, by the identity that has its blob, where one is held
 abbrev pub sign_by : Option HeldKey → Asker → Signing → UnderWay → Work
 sign_by None asker signing under_way = settles (Refuses NotHeld) under_way
 sign_by (Some key) asker signing under_way = sign_unless
-    (denial_under key.rules signing.blob asker.chain signing.message asker.wall)
+    (objection key signing.blob asker.chain signing.message asker.wall)
     asker key signing under_way
 
 -- ---- additions

@@ -7,6 +7,7 @@ pub mod State
 pub mod Verdicts
 pub mod Actions
 pub mod Errands
+pub mod Objections
 pub mod Dispatch
 pub mod Answers
 pub mod Consents
@@ -18,6 +19,7 @@ pub mod Runs
 pub mod Looks
 pub mod Budget
 pub mod Rows
+pub mod PurposeRows
 pub mod ChildRows
 pub mod ConsentRows
 pub mod Asking

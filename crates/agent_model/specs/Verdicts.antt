@@ -30,6 +30,7 @@ pub data Cause : Type 0 where
   -- the key isn't held, or isn't for this connection to see, or not for this message
   NotHeld : Cause
   NotVisible : Cause
+  OtherPurpose : Cause
   DestinationDenied : (denial : Denial) → Cause
   -- the constraints don't read, or the identities would be too many
   Constraints : (fault : TermFault) → Cause
@@ -51,8 +52,8 @@ pub data Cause : Type 0 where
   HelperRefused : Cause
   HelperLost : Cause
   NotConfirmed : Cause
-  -- the user said yes, and by then the agent was locked, the addition gone or the destination
-  -- denied
+  -- the user said yes, and by then the agent was locked, the addition gone, the message for no purpose of the key or
+  -- the destination denied
   NoLongerAllowed : Cause
 
 -- what a client gets

@@ -11,6 +11,7 @@ mod child_rows;
 mod consent_rows;
 mod consents;
 mod laws;
+mod purpose_rows;
 mod rows;
 mod time_rows;
 mod uses;
@@ -48,6 +49,7 @@ pub use laws::{
     no_number_is_given_twice, no_number_is_used_again, ports_rise_and_are_few,
     what_was_open_and_is_not_was_closed,
 };
+pub use purpose_rows::a_key_signs_for_its_purposes;
 pub use rows::{
     a_locked_agent_does_nothing, a_request_waits_for_the_reply_before, a_signature_is_waited_for,
     additions_are_listed, an_addition_has_room_or_is_refused, limits_are_these_numbers,

@@ -28,3 +28,5 @@ term_fault of_terms.NoRules = Terms of_terms.NoRules
 term_fault of_terms.Key = Terms of_terms.Key
 term_fault of_terms.Memory = Memory
 term_fault of_terms.NoUses = Terms of_terms.NoUses
+term_fault of_terms.NoPurposes = Terms of_terms.NoPurposes
+term_fault of_terms.BadPurpose = Terms of_terms.BadPurpose

@@ -7,10 +7,12 @@
 mod cores;
 mod descriptors;
 mod outside;
+mod telling;
 
 use crate::cores::may_dump;
 use crate::descriptors::close_inherited;
 use crate::outside::world_of;
+use crate::telling::Telling;
 use agent_top::{Status, agent_main};
 use serve_words::{ServeFault, ServeWords, read_serve};
 use std::alloc::{AllocGlobal, Global};
@@ -61,7 +63,9 @@ where
         &error,
         Status::PollFault,
     ))?;
-    let status = agent_main(wait, alloc, words, &mut world, input, output);
+    let mut record = Telling::new(rt, output);
+    let status = agent_main(wait, alloc, words, &mut world, input, &mut record);
+    drop(record);
     world.remove_file();
     Ok(status)
 }

@@ -9,9 +9,7 @@ use Rattle.helper_link.specs.declared.answer.Answer.TheVariants as answer
 use Rattle.helper_link.specs.declared.answer.Settled.{Settled}
 use Rattle.helper_link.specs.declared.fault.LinkFault.{LinkFault}
 use Rattle.identity_table.specs.Identities.{HeldKey, find_number}
-use Rattle.dest_rule.specs.Rules.{denial_under}
 use Rattle.dest_rule.specs.declared.binding.Binding.{Binding}
-use Rattle.dest_rule.specs.declared.denial.Denial.{Denial}
 use Rattle.confirm_desk.specs.Confirmations.{Confirmation, Consent, No, NotYet, Yes, consent}
 use Rattle.agent_model.specs.Actions.{Action, Answered, Lost, Outcome, Over, Work, acted, and_then, behind, closing, stay}
 use Rattle.agent_model.specs.Answers.{Answering, answer_all, answer_asker, answer_by, answer_true, answers_in, close_helper, find_verification, helper_closes, helper_heard, helper_tells, lose, lose_if, lose_where, proved_where_open, prove, remove_verification, tell_each, with_answers}
@@ -19,8 +17,9 @@ use Rattle.agent_model.specs.Children.{changed, closed, shut, shut_then}
 use Rattle.agent_model.specs.Consents.{close_confirmer, confirmer_closes, confirmer_heard, consent_by, grant, grant_by, grant_concluded, grant_to, grant_unless, grant_with, grant_work, over, over_if, signing_of, with_heard, without_confirmation}
 use Rattle.agent_model.specs.Errands.{Signs}
 use Rattle.agent_model.specs.KeyStates.{KeyState, after_use}
+use Rattle.agent_model.specs.Objections.{objection}
 use Rattle.agent_model.specs.State.{Port, State, UnderWay, Verification, change_port, find_port}
-use Rattle.agent_model.specs.Verdicts.{HelperLost, HelperRefused, NoLongerAllowed, NotConfirmed, Refuses, Replies, Signature, SignatureWrong, Success, Verdict, tell}
+use Rattle.agent_model.specs.Verdicts.{Cause, HelperLost, HelperRefused, NoLongerAllowed, NotConfirmed, Refuses, Replies, Signature, SignatureWrong, Success, Verdict, tell}
 use Rattle.agent_secrecy.specs.Hiding.{Seen, SeenWork, bare, hide_held, hide_key, hide_link, hide_message, hide_port, hide_ports, hide_state, hide_under_way, seen, work_bare, work_seen}
 use Rattle.agent_secrecy.proofs.BlankLemmas.{blank-twice}
 use Rattle.agent_secrecy.proofs.TableLemmas.{after_use-hidden, find_number-hidden}
@@ -188,15 +187,15 @@ module _ (key : List ℕ → List ℕ) (keeps : (bytes : List ℕ) → length (k
   over_if-hidden None state = refl
   over_if-hidden (Some confirmation) state = over-hidden confirmation state
 
-  grant_unless-hidden : (denial : Option Denial) (held : HeldKey) (confirmation : Confirmation) (under_way : UnderWay) → work_bare (grant_unless denial (hide_key key held) confirmation (hide_under_way under_way)) ≡ work_seen key (grant_unless denial held confirmation under_way)
-  grant_unless-hidden (Some denial) held confirmation under_way =
+  grant_unless-hidden : (result : Option Cause) (held : HeldKey) (confirmation : Confirmation) (under_way : UnderWay) → work_bare (grant_unless result (hide_key key held) confirmation (hide_under_way under_way)) ≡ work_seen key (grant_unless result held confirmation under_way)
+  grant_unless-hidden (Some cause) held confirmation under_way =
       settles-hidden key keeps (Refuses NoLongerAllowed) under_way
   grant_unless-hidden None held confirmation under_way = put_ask-hidden key keeps (Signs held (signing_of held confirmation)) confirmation.asker under_way
 
   grant_with-hidden : (found : Option HeldKey) (chain : List Binding) (confirmation : Confirmation) (wall : ℕ) (under_way : UnderWay) → work_bare (grant_with (option_map (hide_key key) found) chain confirmation wall (hide_under_way under_way)) ≡ work_seen key (grant_with found chain confirmation wall under_way)
   grant_with-hidden None chain confirmation wall under_way =
       settles-hidden key keeps (Refuses NoLongerAllowed) under_way
-  grant_with-hidden (Some held) chain confirmation wall under_way = grant_unless-hidden (denial_under held.rules held.blob chain confirmation.message wall) held confirmation under_way
+  grant_with-hidden (Some held) chain confirmation wall under_way = grant_unless-hidden (objection held held.blob chain confirmation.message wall) held confirmation under_way
 
   grant_by-hidden : (lock : Option (List ℕ)) (held : KeyState) (chain : List Binding) (confirmation : Confirmation) (wall : ℕ) (under_way : UnderWay) → work_bare (grant_by lock (hide_held key held) chain confirmation wall (hide_under_way under_way)) ≡ work_seen key (grant_by lock held chain confirmation wall under_way)
   grant_by-hidden (Some passphrase) held chain confirmation wall under_way =

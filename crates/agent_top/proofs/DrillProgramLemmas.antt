@@ -4,7 +4,7 @@ use Rattle.std.proofs.lemmas.Bool.Decides.{nat_tests}
 use Rattle.std.specs.Str.{bytes_eq}
 use Rattle.std.proofs.lemmas.Slice.Eq.{bytes_eq-Decides}
 use Rattle.world_ports.specs.Streams.{StreamView}
-use Rattle.agent_model.specs.State.{no_settings}
+use Rattle.agent_model.specs.State.{Settings, no_settings}
 use Rattle.replay_run.specs.Drill.{agent_of, drilled}
 use Rattle.replay_run.specs.DrillClaims.{DrillEnds}
 use Rattle.replay_run.proofs.DrillFitLemmas.{drill-fits}
@@ -13,7 +13,7 @@ use Rattle.replay_run.specs.declared.run_end.RunEnd.{RunEnd}
 use Rattle.replay_run.specs.declared.run_end.RunEnd.TheVariants.{Done, Refused, Memory, ReadFault, WriteFault}
 use Rattle.agent_top.specs.DrillProgram.{DrillCompletes, DrillsExactly, DrillsLawfully}
 use Rattle.agent_top.specs.Program.{status_of}
-use Rattle.agent_top.specs.Words.{Drilling, drill_words, drilling, replay_life, rounds_in}
+use Rattle.agent_top.specs.Words.{Drilling, drill_words, drilling, replay_settings, rounds_in}
 use Rattle.agent_top.proofs.LawfulRunLemmas.{lawful_run}
 
 -- each end says what its status says
@@ -91,19 +91,19 @@ drill_is word false asked some is drills = absurd (cc)
 
 -- words of a drill ask for no schedule
 pub drill_is_no_replay : (words : List (List ℕ)) (asked : Drilling) → drill_words words ≡ Some asked
-    → replay_life words ≡ None
+    → replay_settings words ≡ None
 drill_is_no_replay [] asked is = refl
 drill_is_no_replay (word ∷ []) asked is = absurd (cc)
-drill_is_no_replay (word ∷ option ∷ []) asked is = refl
+drill_is_no_replay (word ∷ option ∷ []) asked is = absurd (cc)
 drill_is_no_replay (word ∷ rounds ∷ seed ∷ []) asked is =
     rw (not_replay word (drill_is word (bytes_eq word (codes "drill")) asked _ refl is)) refl
-drill_is_no_replay (word ∷ rounds ∷ seed ∷ more ∷ words) asked is = refl
+drill_is_no_replay (word ∷ rounds ∷ seed ∷ more ∷ words) asked is = absurd (cc)
 
-none_found : (found : Option (Option ℕ)) (life : Option ℕ) → found ≡ None → found ≡ Some life → ⊥
-none_found found life none some = cc
+none_found : (found : Option Settings) (settings : Settings) → found ≡ None → found ≡ Some settings → ⊥
+none_found found settings none some = cc
 
-pub no_drill_replays : (words : List (List ℕ)) (asked : Drilling) (life : Option ℕ)
+pub no_drill_replays : (words : List (List ℕ)) (asked : Drilling) (settings : Settings)
     → drill_words words ≡ Some asked
-    → replay_life words ≡ Some life → ⊥
-no_drill_replays words asked life is replays =
-    none_found (replay_life words) life (drill_is_no_replay words asked is) replays
+    → replay_settings words ≡ Some settings → ⊥
+no_drill_replays words asked settings is replays =
+    none_found (replay_settings words) settings (drill_is_no_replay words asked is) replays

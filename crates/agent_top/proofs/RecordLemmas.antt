@@ -1,15 +1,16 @@
 -- The end of a loop whose calls are recorded.
-use Rattle.std.proofs.Common.{◌≡◌, ◌∙◌, ◌⊎◌, inl, inr, [], ℕ, Bool, true, false, ◌||◌, List, Option, Some, None, append-nil, refl, subst, sym, ap}
+use Rattle.std.proofs.Common.{◌≡◌, ◌≤◌, ◌∙◌, ◌⊎◌, inl, inr, [], ◌∷◌, ◌++◌, ℕ, Bool, true, false, ◌||◌, if◌then◌else◌, List, length, Option, Some, None, append-nil, append_assoc, arith, refl, subst, sym, ap}
+use Rattle.std.proofs.KnownBytes.{Appends-nil}
 use Rattle.std.proofs.lemmas.List.{append_cancel_left}
 use Rattle.world_ports.specs.Causes.{Rose}
 use Rattle.world_ports.specs.Journal.{Grows}
 use Rattle.world_ports.specs.Streams.{OnlyWrites, StreamView}
 use Rattle.world_ports.specs.declared.entry.Entry.{Entry}
-use Rattle.record_world.specs.Leads.{BreaksFor, IsFront, IsWritten, Leads, Taped, taped}
-use Rattle.record_world.specs.Recording.{Recording, first_recording, is_full, record_of, recording_after}
+use Rattle.record_world.specs.Leads.{BreaksFor, EndsCalls, IsFront, IsWritten, Leads, Taped, taped}
+use Rattle.record_world.specs.Recording.{Recording, after, first_recording, is_full, record_from, record_of, recording_after, text_of}
 use Rattle.ready_loop.specs.declared.outcome.ServeEnd.{ServeEnd}
 use Rattle.ready_loop.specs.declared.outcome.ServeEnd.TheVariants as ends
-use Rattle.agent_top.specs.RecordProgram.{AddedHaveNoRoom, HaveNoRoom, RecordsExactly}
+use Rattle.agent_top.specs.RecordProgram.{HaveNoRoom, HoldsOfAdded, Records}
 use Rattle.agent_top.specs.ServeProgram.{status_of_recorded}
 use Rattle.agent_top.specs.declared.status.Status.{Status}
 use Rattle.agent_top.specs.declared.status.Status.TheVariants as status
@@ -30,6 +31,7 @@ tells_done status.PollFault = false
 tells_done status.Memory = false
 tells_done status.ReadFault = false
 tells_done status.WriteFault = false
+tells_done status.RecordFault = false
 
 -- the status tells an end without a fault only where no write failed
 pub whole_by : (short failed : Bool) (end : ServeEnd) → status_of_recorded short failed end ≡ status.Done → failed ≡ false
@@ -42,46 +44,149 @@ whole_by false true ends.BindFault is = sym (ap tells_done is)
 whole_by false true ends.PollFault is = sym (ap tells_done is)
 whole_by false true ends.Memory is = sym (ap tells_done is)
 
+-- the calls end with the record, by whether memory ran out in one, the agent is to end with it, and it broke
+abbrev ended : Bool → Bool → Bool → Bool
+ended short or_stop failed = if failed then or_stop else short
+
 -- what a recorder wrote of them, by how it stands at the end
-records_as : (short failed : Bool) (end : ServeEnd) (after : Recording) (calls : List Entry) (old new : StreamView) (text : List ℕ)
+records_as : (or_stop short failed : Bool) (end : ServeEnd) (left : Recording) (calls : List Entry) (old new : StreamView) (text : List ℕ)
     → BreaksFor false false failed old.write_faults new.write_faults (is_full (recording_after first_recording calls))
-    → IsWritten false (failed || short) first_recording after calls text
+    → IsWritten false (failed || short) first_recording left calls text
     → IsFront text (record_of calls)
-    × (¬ (Rose old.write_faults new.write_faults) → ¬ (HaveNoRoom calls) → ¬ (status_of_recorded short failed end ≡ status.Memory) → text ≡ record_of calls)
-    × (status_of_recorded short failed end ≡ status.Done → ¬ (HaveNoRoom calls))
+    × (¬ (Rose old.write_faults new.write_faults) → ¬ (HaveNoRoom calls)
+    → ¬ (status_of_recorded (ended short or_stop failed) failed end ≡ status.RecordFault) → text ≡ record_of calls)
+    × (status_of_recorded (ended short or_stop failed) failed end ≡ status.Done → ¬ (HaveNoRoom calls))
 unfolding tells_done
-records_as short true end after calls old new text cause front = (
+records_as or_stop short true end left calls old new text cause front = (
   front,
-  λ none fine memory. elim cause [ inl rose ↦ absurd (none rose) | inr full ↦ absurd (fine full) ],
-  λ finished full. (let both : true ≡ false = whole_by short true end finished in absurd cc),
+  λ none fine told. elim cause [ inl rose ↦ absurd (none rose) | inr full ↦ absurd (fine full) ],
+  λ finished full. (let both : true ≡ false = whole_by (ended short or_stop true) true end finished in absurd cc),
 )
-records_as true false end after calls old new text cause front =
-    (front, λ none fine memory. absurd (memory refl), λ finished full. (let both : false ≡ true = ap tells_done finished in absurd cc))
-records_as false false end after calls old new text cause whole = (
+records_as or_stop true false end left calls old new text cause front =
+    (front, λ none fine told. absurd (told refl), λ finished full. (let both : false ≡ true = ap tells_done finished in absurd cc))
+records_as or_stop false false end left calls old new text cause whole = (
   record { more = []; is = append-nil text ∙ whole.lines },
-  λ none fine memory. whole.lines,
+  λ none fine told. whole.lines,
   λ finished full.
       (let both : true ≡ false = sym full ∙ sym (ap is_full whole.left) ∙ whole.fits refl in absurd cc),
 )
 
+-- ---- where the calls end with the record
+
+-- lists of at least two
+no_more : (before later : List Entry) (first next : Entry) → length (first ∷ (before ++ next ∷ later)) ≤ 1 → ⊥
+no_more [] later first next one = omega arith
+no_more (second ∷ before) later first next one = omega arith
+
+-- what stands before some of them stands among all but the last
+told_before : (told last before later : List Entry) (next : Entry) → told ++ last ≡ before ++ next ∷ later → length last ≤ 1
+    → (more : List Entry) × (told ≡ before ++ more)
+told_before told last [] later next same one = (told, refl)
+told_before [] last (first ∷ before) later next same one =
+    absurd (no_more before later first next (subst (λ (l : List Entry). length l ≤ 1) same one))
+told_before (entry ∷ told) last (first ∷ before) later next same one =
+    let head : entry ≡ first = cc in
+    let tail : told ++ last ≡ before ++ next ∷ later = cc in
+    let rest = told_before told last before later next tail one in
+    (rest.0, ap (λ (e : Entry). e ∷ told) head ∙ ap (λ (l : List Entry). first ∷ l) rest.1)
+
+record_behind : (start : Recording) (a b : List Entry)
+    → record_from start (a ++ b) ≡ record_from start a ++ record_from (recording_after start a) b
+record_behind start [] b = refl
+record_behind start (one ∷ a) b =
+    ap (λ l. text_of one start ++ l) (record_behind (after one start) a b)
+    ∙ sym (append_assoc (text_of one start) (record_from (after one start) a) (record_from (recording_after (after one start) a) b))
+
+-- a call is behind the record of those before it
+seen_by : (calls before later : List Entry) (next : Entry) (text : List ℕ) → EndsCalls false first_recording calls text
+    → calls ≡ before ++ next ∷ later → IsFront (record_of before) text
+seen_by calls before later next text ends same =
+    let rest = told_before ends.told ends.last before later next (sym ends.split ∙ same) ends.one in
+    let behind = record_from (recording_after first_recording before) rest.0 in
+    record {
+      more = behind ++ ends.front.more;
+      is = sym (append_assoc (record_of before) behind ends.front.more)
+          ∙ ap (λ (l : List ℕ). l ++ ends.front.more) (sym (record_behind first_recording before rest.0))
+          ∙ ap (λ (l : List Entry). record_from first_recording l ++ ends.front.more) (sym rest.1)
+          ∙ ends.front.is;
+    }
+
 -- a recorder's end says what the status says
-pub records_by : (short failed : Bool) (end : ServeEnd) (after : Recording) (journal later : Option (List Entry)) (old new : StreamView)
-    → Leads journal later (taped old false false first_recording) (taped new failed short after)
-    → RecordsExactly (status_of_recorded short failed end) journal later old new
-records_by short failed end after None later old new leads = tt
-records_by short failed end after (Some before) later old new leads = λ calls grows.
+records_by : (or_stop short failed : Bool) (end : ServeEnd) (left : Recording) (journal later : Option (List Entry)) (old new : StreamView)
+    → Leads or_stop journal later (taped old false false first_recording) (taped new failed short left)
+    → HoldsOfAdded journal later (Records or_stop (status_of_recorded (ended short or_stop failed) failed end) old new)
+records_by or_stop short failed end left None later old new leads = tt
+records_by or_stop short failed end left (Some before) later old new leads = λ calls grows.
     let same : leads.entries ≡ calls = same_calls before later leads.entries calls leads.grows grows in
-    let parts = records_as short failed end after calls old new leads.writes.text
+    let parts = records_as or_stop short failed end left calls old new leads.writes.text
     (subst (λ (c : List Entry). BreaksFor false false failed old.write_faults new.write_faults (is_full (recording_after first_recording c))) same leads.writes.cause)
-    (subst (λ (c : List Entry). IsWritten false (failed || short) first_recording after c leads.writes.text) same leads.writes.lines) in
-    record { text = leads.writes.text; written = leads.writes.written; front = parts.0; whole = parts.1; room = parts.2 }
+    (subst (λ (c : List Entry). IsWritten false (failed || short) first_recording left c leads.writes.text) same leads.writes.lines) in
+    record {
+      text = leads.writes.text;
+      written = leads.writes.written;
+      front = parts.0;
+      whole = parts.1;
+      room = parts.2;
+      seen = λ is early late next split. seen_by leads.entries early late next leads.writes.text (leads.ends is) (same ∙ split);
+    }
+
+no_call_behind : (early late : List Entry) (next : Entry) → early ++ next ∷ late ≡ [] → ⊥
+no_call_behind [] late next is = cc
+no_call_behind (one ∷ early) late next is = cc
+
+-- where no call was made there is nothing to be recorded
+pub unwritten : (or_stop : Bool) (journal : Option (List Entry)) (sink : StreamView)
+    → HoldsOfAdded journal journal (Records or_stop status.Memory sink sink)
+unfolding tells_done
+unwritten or_stop None sink = tt
+unwritten or_stop (Some before) sink = λ calls grows.
+    let none : calls ≡ [] = append_cancel_left before calls [] (sym grows ∙ sym (append-nil before)) in
+    record {
+      text = [];
+      written = Appends-nil sink.written;
+      front = record { more = record_of calls; is = refl };
+      whole = λ kept fine told. sym (ap record_of none);
+      room = λ finished. (let both : false ≡ true = ap tells_done finished in absurd cc);
+      seen = λ is early late next split. absurd (no_call_behind early late next (sym split ∙ none));
+    }
 
 -- what a recorder wrote since it was made
-pub since_made : (journal begun later : Option (List Entry)) (old : StreamView) (first last : Taped)
+since_made : (or_stop : Bool) (journal begun later : Option (List Entry)) (old : StreamView) (first last : Taped)
     → begun ≡ journal → first ≡ taped old false false first_recording
-    → Leads begun later first last → Leads journal later (taped old false false first_recording) last
-since_made journal begun later old first last same made led =
-    subst (λ (tape : Taped). Leads journal later tape last) made (subst (λ (calls : Option (List Entry)). Leads calls later first last) same led)
+    → Leads or_stop begun later first last → Leads or_stop journal later (taped old false false first_recording) last
+since_made or_stop journal begun later old first last same made led =
+    subst (λ (tape : Taped). Leads or_stop journal later tape last) made
+    (subst (λ (calls : Option (List Entry)). Leads or_stop calls later first last) same led)
+
+tells_record : Status → Bool
+tells_record status.Done = false
+tells_record (status.ScheduleRefused line fault) = false
+tells_record status.Usage = false
+tells_record status.BindFault = false
+tells_record status.PollFault = false
+tells_record status.Memory = false
+tells_record status.ReadFault = false
+tells_record status.WriteFault = false
+tells_record status.RecordFault = true
+
+-- the status tells that the calls ended with the record only where they did
+ended_by : (ends failed : Bool) (end : ServeEnd) → status_of_recorded ends failed end ≡ status.RecordFault → ends ≡ true
+unfolding tells_record
+ended_by true failed end is = refl
+ended_by false true ends.Over is = ap tells_record is
+ended_by false true ends.Idle is = ap tells_record is
+ended_by false false ends.Over is = ap tells_record is
+ended_by false false ends.Idle is = ap tells_record is
+ended_by false failed ends.BindFault is = ap tells_record is
+ended_by false failed ends.PollFault is = ap tells_record is
+ended_by false failed ends.Memory is = ap tells_record is
+
+-- where the agent isn't to end with the record, that is so only where no write failed
+goes_on_by : (or_stop short failed : Bool) (end : ServeEnd) (old new : ℕ) (full : Bool) → BreaksFor false false failed old new full
+    → status_of_recorded (ended short or_stop failed) failed end ≡ status.RecordFault → or_stop ≡ false → new ≡ old
+goes_on_by or_stop short true end old new full cause is none =
+    (let both : true ≡ false = sym (ended_by or_stop true end is) ∙ none in absurd cc)
+goes_on_by or_stop short false end old new full cause is none = cause
 
 tells_write : Status → Bool
 tells_write status.Done = false
@@ -92,6 +197,7 @@ tells_write status.PollFault = false
 tells_write status.Memory = false
 tells_write status.ReadFault = false
 tells_write status.WriteFault = true
+tells_write status.RecordFault = false
 
 -- the status tells a failed write only where one failed
 pub failed_by : (short failed : Bool) (end : ServeEnd)
@@ -107,36 +213,42 @@ failed_by false false ends.Memory is = ap tells_write is
 
 -- a record broke where a write failed or the passphrases of the calls that were added have no room
 full_by : (journal later : Option (List Entry)) (entries : List Entry) → Grows journal later entries → HaveNoRoom entries
-    → AddedHaveNoRoom journal later
+    → HoldsOfAdded journal later HaveNoRoom
 full_by None later entries grows full = tt
 full_by (Some before) later entries grows full =
     λ calls added. subst HaveNoRoom (same_calls before later entries calls grows added) full
 
 broken_by : (journal later : Option (List Entry)) (old new : StreamView) (entries : List Entry) → Grows journal later entries
     → Rose old.write_faults new.write_faults ⊎ HaveNoRoom entries
-    → Rose old.write_faults new.write_faults ⊎ AddedHaveNoRoom journal later
+    → Rose old.write_faults new.write_faults ⊎ HoldsOfAdded journal later HaveNoRoom
 broken_by journal later old new entries grows (inl rose) = inl rose
 broken_by journal later old new entries grows (inr full) = inr (full_by journal later entries grows full)
 
 -- all that a recorder says to its caller at the end
-pub record Told (result : Status) (journal later : Option (List Entry)) (old new : StreamView) : Type 0 where
-  pub records : RecordsExactly result journal later old new
-  pub write : result ≡ status.WriteFault → Rose old.write_faults new.write_faults ⊎ AddedHaveNoRoom journal later
+pub record Told (or_stop : Bool) (result : Status) (journal later : Option (List Entry)) (old new : StreamView) : Type 0 where
+  pub records : HoldsOfAdded journal later (Records or_stop result old new)
+  pub write : result ≡ status.WriteFault → Rose old.write_faults new.write_faults ⊎ HoldsOfAdded journal later HaveNoRoom
   pub done : result ≡ status.Done → new.write_faults ≡ old.write_faults
+  pub goes_on : result ≡ status.RecordFault → or_stop ≡ false → new.write_faults ≡ old.write_faults
   pub only : OnlyWrites old new
 
-pub told_by : (result : Status) (seen_short seen_failed short failed : Bool) (end : ServeEnd) (journal begun later : Option (List Entry)) (old new : StreamView) (first : Taped) (after : Recording)
-    → result ≡ status_of_recorded seen_short seen_failed end → seen_short ≡ short → seen_failed ≡ failed
-    → begun ≡ journal → first ≡ taped old false false first_recording → Leads begun later first (taped new failed short after)
-    → Told result journal later old new
-told_by result seen_short seen_failed short failed end journal begun later old new first after is same_short same_failed same made began =
-    let led : Leads journal later (taped old false false first_recording) (taped new failed short after) =
-    since_made journal begun later old first (taped new failed short after) same made began in
-    let ends : result ≡ status_of_recorded short failed end = is ∙ ap (λ (s : Bool). status_of_recorded s seen_failed end) same_short ∙ ap (λ (f : Bool). status_of_recorded short f end) same_failed in
+pub told_by : (or_stop begun_stop seen_stop : Bool) (result : Status) (seen_ended seen_failed short failed : Bool) (end : ServeEnd) (journal begun later : Option (List Entry)) (old new : StreamView) (first : Taped) (left : Recording)
+    → result ≡ status_of_recorded seen_ended seen_failed end → seen_ended ≡ ended short seen_stop failed → seen_failed ≡ failed
+    → seen_stop ≡ begun_stop → begun_stop ≡ or_stop → begun ≡ journal → first ≡ taped old false false first_recording
+    → Leads begun_stop begun later first (taped new failed short left)
+    → Told or_stop result journal later old new
+told_by or_stop begun_stop seen_stop result seen_ended seen_failed short failed end journal begun later old new first left is same_ended same_failed kept_stop same_stop same made began =
+    let led : Leads or_stop journal later (taped old false false first_recording) (taped new failed short left) =
+    since_made or_stop journal begun later old first (taped new failed short left) same made
+    (subst (λ (s : Bool). Leads s begun later first (taped new failed short left)) same_stop began) in
+    let is_ended : seen_ended ≡ ended short or_stop failed = same_ended ∙ ap (λ (s : Bool). ended short s failed) (kept_stop ∙ same_stop) in
+    let ends : result ≡ status_of_recorded (ended short or_stop failed) failed end = is ∙ ap (λ (s : Bool). status_of_recorded s seen_failed end) is_ended
+    ∙ ap (λ (f : Bool). status_of_recorded (ended short or_stop failed) f end) same_failed in
     record {
-      records = subst (λ (r : Status). RecordsExactly r journal later old new) (sym ends) (records_by short failed end after journal later old new led);
+      records = subst (λ (r : Status). HoldsOfAdded journal later (Records or_stop r old new)) (sym ends) (records_by or_stop short failed end left journal later old new led);
       write = λ wrote. broken_by journal later old new led.entries led.grows
-          (subst (λ (broken : Bool). BreaksFor false false broken old.write_faults new.write_faults (is_full (recording_after first_recording led.entries))) (failed_by short failed end (sym ends ∙ wrote)) led.writes.cause);
-      done = λ finished. subst (λ (broken : Bool). BreaksFor false false broken old.write_faults new.write_faults (is_full (recording_after first_recording led.entries))) (whole_by short failed end (sym ends ∙ finished)) led.writes.cause;
+          (subst (λ (broken : Bool). BreaksFor false false broken old.write_faults new.write_faults (is_full (recording_after first_recording led.entries))) (failed_by (ended short or_stop failed) failed end (sym ends ∙ wrote)) led.writes.cause);
+      done = λ finished. subst (λ (broken : Bool). BreaksFor false false broken old.write_faults new.write_faults (is_full (recording_after first_recording led.entries))) (whole_by (ended short or_stop failed) failed end (sym ends ∙ finished)) led.writes.cause;
+      goes_on = λ told. goes_on_by or_stop short failed end old.write_faults new.write_faults (is_full (recording_after first_recording led.entries)) led.writes.cause (sym ends ∙ told);
       only = led.writes.only;
     }

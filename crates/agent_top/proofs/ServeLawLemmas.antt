@@ -8,13 +8,12 @@ use Rattle.world_ports.specs.declared.events.Door.{Door}
 use Rattle.world_ports.specs.declared.events.Door.TheVariants.{Clients, Children}
 use Rattle.agent_model.specs.Events.{Timed}
 use Rattle.agent_model.specs.Runs.{AllFit, run}
-use Rattle.agent_model.specs.State.{State, first_state}
+use Rattle.agent_model.specs.State.{Settings, State, first_state}
 use Rattle.loop_model.specs.LegalJournal.{LoopState, after_if, comes_next, events_brought}
 use Rattle.loop_model.specs.Lines.{empty_line}
 use Rattle.loop_model.specs.Things.{same_door}
 use Rattle.loop_model.proofs.FittingLemmas.{IsAwaited, entry-fits, first_awaited, fit-append}
 use Rattle.ready_loop.specs.Serving.{Setting, Stage, Unbound, HalfBound, Running, Refused, after_bind, begun, bound, children_path, gone_on, may_come, ran, running_if, stage_if}
-use Rattle.agent_top.specs.Words.{served_with}
 use Rattle.agent_top.specs.ServeLaw.{ServesLawfully, agent_at, call_events, calls_events, later_events}
 use Rattle.agent_top.proofs.LawfulRunLemmas.{lawful_run}
 use Rattle.agent_top.proofs.ServeFairLemmas.{then_some, turns}
@@ -146,10 +145,10 @@ calls-fit setting stage to (next ∷ later) fit legal =
     (sym step.1)
     (fit-append (agent_at setting stage) (call_events stage next) (calls_events setting step.0 later) both.0 rest)
 
-pub serves_lawfully : (life : Option ℕ) (setting : Setting) (old new : Option (List Entry))
-    → setting.state ≡ first_state (served_with life) → ServesLawfully life setting old new
-serves_lawfully life setting old new first = λ calls to told legal.
+pub serves_lawfully : (settings : Settings) (setting : Setting) (old new : Option (List Entry))
+    → setting.state ≡ first_state settings → ServesLawfully settings setting old new
+serves_lawfully settings setting old new first = λ calls to told legal.
     let events = calls_events setting Unbound calls in
-    lawful_run (served_with life) events (agent_at setting to)
+    lawful_run settings events (agent_at setting to)
     (subst (λ (state : State). AllFit state events) first (calls-fit setting Unbound to calls tt legal))
     (calls-run setting Unbound to calls legal ∙ ap (λ (state : State). run state events) first)

@@ -7,25 +7,23 @@ use Rattle.std.proofs.lemmas.Slice.Eq.{bytes_eq-Decides}
 use Rattle.world_ports.specs.declared.entry.Entry.{Entry}
 use Rattle.world_ports.specs.Journal.{Grows}
 use Rattle.agent_model.specs.State.{State, first_state}
-use Rattle.serve_words.specs.Serve.{begins, is_set, life_in, value_of}
+use Rattle.replay_run.specs.Choices.{served_with}
+use Rattle.serve_words.specs.Serve.{begins, is_set, life_in, limit_in, value_of}
 use Rattle.ready_loop.specs.Serving.{RunsOut, Serves, Setting, Unbound}
 use Rattle.ready_loop.specs.declared.outcome.ServeEnd.{ServeEnd}
 use Rattle.ready_loop.specs.declared.outcome.ServeEnd.TheVariants as ends
 use Rattle.agent_top.specs.ServeProgram.{ServesExactly, status_of_serving}
 use Rattle.agent_top.specs.declared.status.Status.{Status}
-use Rattle.agent_top.specs.Words.{IsServe, replay_life, served_with, texts_of}
+use Rattle.agent_top.specs.Words.{IsServe, replay_settings, texts_of}
 
 -- a word isn't both
 not_both : (word : List ℕ) → bytes_eq word (codes "serve") ≡ true → bytes_eq word (codes "replay") ≡ false
 not_both word is = rw ((bytes_eq-Decides word (codes "serve")).0 is) refl
 
 -- words of `serve` ask for no schedule
-pub no_replay : (words : List (List ℕ)) → begins words ≡ true → replay_life words ≡ None
+pub no_replay : (words : List (List ℕ)) → begins words ≡ true → replay_settings words ≡ None
 no_replay [] is = refl
-no_replay (word ∷ []) is = rw (not_both word is) refl
-no_replay (word ∷ option ∷ []) is = refl
-no_replay (word ∷ option ∷ life ∷ []) is = rw (not_both word is) refl
-no_replay (word ∷ option ∷ life ∷ more ∷ words) is = refl
+no_replay (word ∷ words) is = rw (not_both word is) refl
 
 -- each end says what its status says
 pub serves_by : (is_recorded : Bool) (end : ServeEnd) (setting : Setting) (old new : Option (List Entry))
@@ -41,15 +39,16 @@ some_same : {one other : List ℕ} → Some one ≡ Some other → one ≡ other
 some_same same = cc
 
 -- the words say this setting
-said : (words : List (String Global)) (setting : Setting) (path : List ℕ) (until_idle : Bool) (life : Option ℕ) → IsServe words setting → Some path ≡ value_of (codes "path") (texts_of words) → until_idle ≡ is_set (value_of (codes "until-idle") (texts_of words)) → life ≡ life_in (texts_of words) → record { path = path; until_idle = until_idle; state = first_state (served_with life) } ≡ setting
-said words setting path until_idle life is at idle lives =
+said : (words : List (String Global)) (setting : Setting) (path : List ℕ) (until_idle : Bool) (life limit : Option ℕ) → IsServe words setting → Some path ≡ value_of (codes "path") (texts_of words) → until_idle ≡ is_set (value_of (codes "until-idle") (texts_of words)) → life ≡ life_in (texts_of words) → limit ≡ limit_in (texts_of words) → record { path = path; until_idle = until_idle; state = first_state (served_with life limit) } ≡ setting
+said words setting path until_idle life limit is at idle lives limits =
     let paths : path ≡ setting.path = some_same (at ∙ is.path) in
-    rw (paths, idle, lives, ← is.until_idle, ← is.state) refl
+    let begun : first_state (served_with life limit) ≡ setting.state = rw (lives, limits) (sym is.state) in
+    rw (paths, idle, begun, ← is.until_idle) refl
 
 -- what is said of the loop's end is said of the words' setting
-pub serves_words : (is_recorded : Bool) (words : List (String Global)) (setting : Setting) (path : List ℕ) (until_idle : Bool) (life : Option ℕ) (state : State) (result : Status) (old new : Option (List Entry)) → IsServe words setting → Some path ≡ value_of (codes "path") (texts_of words) → until_idle ≡ is_set (value_of (codes "until-idle") (texts_of words)) → life ≡ life_in (texts_of words) → state ≡ first_state (served_with life) → ServesExactly is_recorded (record { path = path; until_idle = until_idle; state = state }) result old new → ServesExactly is_recorded setting result old new
-serves_words is_recorded words setting path until_idle life state result old new is at idle lives begun serves =
-    subst (λ (s : Setting). ServesExactly is_recorded s result old new) (said words setting path until_idle life is at idle lives)
+pub serves_words : (is_recorded : Bool) (words : List (String Global)) (setting : Setting) (path : List ℕ) (until_idle : Bool) (life limit : Option ℕ) (state : State) (result : Status) (old new : Option (List Entry)) → IsServe words setting → Some path ≡ value_of (codes "path") (texts_of words) → until_idle ≡ is_set (value_of (codes "until-idle") (texts_of words)) → life ≡ life_in (texts_of words) → limit ≡ limit_in (texts_of words) → state ≡ first_state (served_with life limit) → ServesExactly is_recorded (record { path = path; until_idle = until_idle; state = state }) result old new → ServesExactly is_recorded setting result old new
+serves_words is_recorded words setting path until_idle life limit state result old new is at idle lives limits begun serves =
+    subst (λ (s : Setting). ServesExactly is_recorded s result old new) (said words setting path until_idle life limit is at idle lives limits)
     (subst (λ (s : State). ServesExactly is_recorded (record { path = path; until_idle = until_idle; state = s }) result old new) begun serves)
 
 -- no call was made

@@ -9,10 +9,10 @@ use Rattle.agent_model.specs.Events.{Timed}
 use Rattle.agent_model.specs.Runs.{AllFit, history, run}
 use Rattle.agent_model.specs.State.{Settings, State, first_state}
 
--- each event may come in the state that it finds, and they lead to this state; and while neither the numbers of asks nor those of jobs are spent, a signature is put to
--- the helper exactly where what was done before says so; and whoever waits for the helper gets its first answer to the own
--- request, or is told that the helper was lost; and the messages that are put to the helper, and appended to what it is
--- owed, are those of what was asked for
+-- each event may come in the state that it finds, and they lead to this state; and while neither the numbers of asks
+-- nor those of jobs are spent, a signature is put to the helper exactly where what was done before says so; and whoever
+-- waits for the helper gets its first answer to the own request, or is told that the helper was lost; and the messages
+-- that are put to the helper, and appended to what it is owed, are those of what was asked for
 pub record IsLawfulRun (settings : Settings) (events : List Timed) (end : State) : Type 0 where
   pub fit : AllFit (first_state settings) events
   pub agent : end ≡ run (first_state settings) events

@@ -8,8 +8,9 @@
 --   schedule_text, specs/Lines.antt and Deeds.antt: the lines that are read, and those that are printed
 --   agent_model, specs/Step.antt: one step of the abstract agent
 --   agent_model, specs/Dispatch.antt: the table of requests
-use Rattle.std.specs.Prelude.{◌≡◌, ℕ, List, Option, None, IfSome}
+use Rattle.std.specs.Prelude.{◌≡◌, ℕ, List, None, IfSome}
 use Rattle.world_ports.specs.Causes.{Rose}
+use Rattle.agent_model.specs.State.{Settings}
 use Rattle.agent_top.specs.LawfulRun.{IsLawfulRun}
 use Rattle.agent_top.specs.declared.status.Status.{Status}
 use Rattle.agent_top.specs.declared.status.Status.TheVariants as status
@@ -26,21 +27,21 @@ status_of Memory = status.Memory
 status_of ReadFault = status.ReadFault
 status_of WriteFault = status.WriteFault
 
--- the output is what the abstract agent prints for the input, as far as the status says; identities that come without a
--- lifetime live for so many seconds
-abbrev pub ReplaysExactly : Option ℕ → Status → Seen → Seen → Type 0
+-- the output is what the abstract agent prints for the input, as far as the status says, with the settings that
+-- were chosen
+abbrev pub ReplaysExactly : Settings → Status → Seen → Seen → Type 0
 -- the input was read to its end, no line of it is refused, and all that it prints is written
-ReplaysExactly life status.Done old new = EndsDone life old new
+ReplaysExactly settings status.Done old new = EndsDone settings old new
 -- the first refused line of the input is this one, and all that the input prints is written
-ReplaysExactly life (status.ScheduleRefused line fault) old new = EndsRefused life line fault old new
+ReplaysExactly settings (status.ScheduleRefused line fault) old new = EndsRefused settings line fault old new
 -- a front of what the input prints is written
-ReplaysExactly life status.Memory old new = EndsEarly life old new
+ReplaysExactly settings status.Memory old new = EndsEarly settings old new
 -- a read failed, and all that the whole lines before it print is written
-ReplaysExactly life status.ReadFault old new = EndsAtReadFault life old new
+ReplaysExactly settings status.ReadFault old new = EndsAtReadFault settings old new
 -- a write failed, and a front of what the input prints is written
-ReplaysExactly life status.WriteFault old new = EndsAtWriteFault life old new
+ReplaysExactly settings status.WriteFault old new = EndsAtWriteFault settings old new
 -- the words were those of `replay`, no socket is bound, and nothing is waited for
-ReplaysExactly life other old new = ⊥
+ReplaysExactly settings other old new = ⊥
 
 -- the input was run to its end or to its first refused line, unless memory ran out
 abbrev pub IsComplete : Status → Type 0
@@ -62,16 +63,16 @@ pub record HasNoFault (old new : Seen) : Type 0 where
 
 -- where no read and no write failed, the run is complete, and it is finished where no line of the
 -- input is refused
-pub record Completes (life : Option ℕ) (result : Status) (old new : Seen) : Type 0 where
+pub record Completes (settings : Settings) (result : Status) (old new : Seen) : Type 0 where
   pub complete : HasNoFault old new → IsComplete result
   pub finished : HasNoFault old new →
-      IfSome old.input.left (λ input. (run_of life input).refused ≡ None → IsFinished result)
+      IfSome old.input.left (λ input. (run_of settings input).refused ≡ None → IsFinished result)
 
 -- the run of what was read is that of the events which its lines and their settlings bring, and so is that of the whole
 -- input, where that is told
-abbrev pub RunsLawfully : Option ℕ → Seen → Seen → Type 0
-RunsLawfully life old new = (bytes : List ℕ) → HasRead old new bytes → HoldsOfInput new.input.left bytes
-    (λ text. IsLawfulRun (settings_of life text) (events_of life text) (run_of life text).agent)
+abbrev pub RunsLawfully : Settings → Seen → Seen → Type 0
+RunsLawfully settings old new = (bytes : List ℕ) → HasRead old new bytes → HoldsOfInput new.input.left bytes
+    (λ text. IsLawfulRun (settings_of settings text) (events_of settings text) (run_of settings text).agent)
 
 -- the exit status
 abbrev pub code_of : Status → ℕ
@@ -83,3 +84,4 @@ code_of status.PollFault = 4
 code_of status.Memory = 5
 code_of status.ReadFault = 6
 code_of status.WriteFault = 7
+code_of status.RecordFault = 8

@@ -2,14 +2,13 @@
 --   ready_loop, specs/Serving.antt: how far a run of the loop is, by its calls
 --   loop_model, specs/LegalJournal.antt: what each call brings, and what has to come after it
 --   specs/LawfulRun.antt: the laws of the run of these events
-use Rattle.std.specs.Prelude.{◌≡◌, ℕ, List, [], ◌∷◌, ◌++◌, Option, Some, None}
+use Rattle.std.specs.Prelude.{◌≡◌, List, [], ◌∷◌, ◌++◌, Option, Some, None}
 use Rattle.world_ports.specs.Journal.{Grows}
 use Rattle.world_ports.specs.declared.entry.Entry.{Entry}
 use Rattle.agent_model.specs.Events.{Timed}
-use Rattle.agent_model.specs.State.{State}
+use Rattle.agent_model.specs.State.{Settings, State}
 use Rattle.loop_model.specs.LegalJournal.{events_brought}
 use Rattle.agent_top.specs.LawfulRun.{IsLawfulRun}
-use Rattle.agent_top.specs.Words.{served_with}
 use Rattle.ready_loop.specs.Serving.{Setting, Stage, Unbound, HalfBound, Running, Refused, gone_on, ran}
 
 -- what a call brings: events come once both listeners are bound
@@ -38,7 +37,7 @@ agent_at setting (Running reading) = reading.state
 agent_at setting Refused = setting.state
 
 -- the calls that were added lead to the state of the events which they bring, and their run is lawful
-abbrev pub ServesLawfully : Option ℕ → Setting → Option (List Entry) → Option (List Entry) → Type 0
-ServesLawfully life setting old new = (calls : List Entry) (to : Stage) → Grows old new calls
+abbrev pub ServesLawfully : Settings → Setting → Option (List Entry) → Option (List Entry) → Type 0
+ServesLawfully settings setting old new = (calls : List Entry) (to : Stage) → Grows old new calls
     → ran setting Unbound calls ≡ Some to
-    → IsLawfulRun (served_with life) (calls_events setting Unbound calls) (agent_at setting to)
+    → IsLawfulRun settings (calls_events setting Unbound calls) (agent_at setting to)

@@ -23,10 +23,9 @@ status_of_serving ends.BindFault = status.BindFault
 status_of_serving ends.PollFault = status.PollFault
 status_of_serving ends.Memory = status.Memory
 
--- the status of a recorded loop with this end, by whether memory ran out for the record and
--- whether that broke
+-- the status of a recorded loop with this end, by whether the calls ended with the record, and whether that broke
 abbrev pub status_of_recorded : Bool → Bool → ServeEnd → Status
-status_of_recorded true failed end = status.Memory
+status_of_recorded true failed end = status.RecordFault
 status_of_recorded false failed ends.Over = if failed then status.WriteFault else status.Done
 status_of_recorded false failed ends.Idle = if failed then status.WriteFault else status.Done
 status_of_recorded false failed ends.BindFault = status.BindFault
@@ -39,18 +38,16 @@ abbrev pub ServesExactly : Bool → Setting → Status → Option (List Entry) �
 -- the world told that nothing will become ready any more, or the loop was to end as soon as it is idle, and is
 ServesExactly is_recorded setting status.Done old new =
     RunsUpToPoll setting Unbound old new (Ok polled.Over) ⊎ RunsUntilIdle setting Unbound old new
--- there is no schedule
-ServesExactly is_recorded setting (status.ScheduleRefused line fault) old new = ⊥
--- the words were those of `serve`
-ServesExactly is_recorded setting status.Usage old new = ⊥
 -- the last call was a binding that failed
 ServesExactly is_recorded setting status.BindFault old new = RunsUpToBind setting Unbound old new
 -- the last call was a poll that failed
 ServesExactly is_recorded setting status.PollFault old new = RunsUpToPoll setting Unbound old new (Err fault.Failed)
 -- memory ran out after these calls
 ServesExactly is_recorded setting status.Memory old new = RunsOut setting Unbound old new
--- nothing is read
-ServesExactly is_recorded setting status.ReadFault old new = ⊥
--- the same, but that the record couldn't be written to its end
+-- the loop ended well, but the record couldn't be written to its end
 ServesExactly is_recorded setting status.WriteFault old new =
     (is_recorded ≡ true) × (RunsUpToPoll setting Unbound old new (Ok polled.Over) ⊎ RunsUntilIdle setting Unbound old new)
+-- the record ended, and the loop with it, after these calls
+ServesExactly is_recorded setting status.RecordFault old new = (is_recorded ≡ true) × RunsOut setting Unbound old new
+-- the words were those of `serve`, there is no schedule, and nothing is read
+ServesExactly is_recorded setting other old new = ⊥

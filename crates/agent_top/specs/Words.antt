@@ -1,25 +1,30 @@
 -- The words of the command line (ours: README.md).
-use Rattle.std.specs.Prelude.{◌≡◌, ◌&&◌, true, false, ℕ, List, [], ◌∷◌, Option, Some, None, nat_le, if◌then◌else◌, map, option_and_then, option_map, codes}
+use Rattle.std.specs.Prelude.{◌≡◌, true, false, ℕ, List, [], ◌∷◌, Option, Some, None, nat_le, if◌then◌else◌, map, option_and_then, codes}
 use Rattle.std.specs.Str.{bytes_eq}
 use Rattle.std.specs.String.{string_bytes}
 use Rattle.std.specs.declared.string.String.{String}
 use Rattle.std.specs.declared.alloc.Global.{Global}
-use Rattle.world_ports.specs.Life.{life_of}
-use Rattle.agent_model.specs.State.{Settings, first_state, usual_limits}
+use Rattle.agent_model.specs.State.{Settings, first_state}
 use Rattle.ready_loop.specs.Serving.{Setting}
+use Rattle.replay_run.specs.Choices.{lived_with, served_with, settings_with}
 use Rattle.schedule_text.specs.Numbers.{number_of}
-use Rattle.serve_words.specs.Serve.{is_set, is_usage, life_in, some_life, value_of}
+use Rattle.serve_words.specs.Serve.{is_set, is_usage, life_in, limit_in, value_of}
 
 -- the words, as text
 abbrev pub texts_of : List (String Global) → List (List ℕ)
 texts_of words = map string_bytes words
 
--- where the words are `replay` or `replay -t LIFE`: the lifetime of identities that come without one
-abbrev pub replay_life : List (List ℕ) → Option (Option ℕ)
-replay_life (command ∷ []) = if bytes_eq command (codes "replay") then Some None else None
-replay_life (command ∷ option ∷ life ∷ []) =
-    if bytes_eq command (codes "replay") && bytes_eq option (codes "-t") then option_map some_life (life_of life) else None
-replay_life _ = None
+-- the settings that the words behind `replay` choose: `-t LIFE`, `--confirm-limit SECONDS`, both in this order, or none
+abbrev pub choices : List (List ℕ) → Option Settings
+choices [] = settings_with None []
+choices (word ∷ []) = settings_with None (word ∷ [])
+choices (option ∷ life ∷ words) =
+    if bytes_eq option (codes "-t") then lived_with life words else settings_with None (option ∷ life ∷ words)
+
+-- where the words are `replay` and such choices: the settings of the schedule's agent
+abbrev pub replay_settings : List (List ℕ) → Option Settings
+replay_settings [] = None
+replay_settings (command ∷ words) = if bytes_eq command (codes "replay") then choices words else None
 
 -- what a drill is asked for: how many rounds, and what they are drawn from
 pub record Drilling : Type 0 where
@@ -46,24 +51,25 @@ drill_words _ = None
 abbrev pub IsDrill : List (String Global) → Drilling → Type 0
 IsDrill words asked = drill_words (texts_of words) ≡ Some asked
 
--- the words ask for the run of a schedule, with this lifetime
-abbrev pub IsReplay : List (String Global) → Option ℕ → Type 0
-IsReplay words life = replay_life (texts_of words) ≡ Some life
+-- the words ask for the run of a schedule, with these settings
+abbrev pub IsReplay : List (String Global) → Settings → Type 0
+IsReplay words settings = replay_settings (texts_of words) ≡ Some settings
 
--- the settings of an agent that is served, with this lifetime of identities that come without one
-abbrev pub served_with : Option ℕ → Settings
-served_with life = record { life = life; limits = usual_limits }
+-- the settings of an agent that is served, by the words of `serve`
+abbrev pub serve_settings : List (List ℕ) → Settings
+serve_settings words = served_with (life_in words) (limit_in words)
 
 -- the words are `serve` with its options, and this is what they say: where clients connect, whether the loop ends once
--- a client has come and none is left, and the lifetime of identities that come without one
+-- a client has come and none is left, the lifetime of identities that come without one, and how long a question to the user
+-- may stay open
 pub record IsServe (words : List (String Global)) (setting : Setting) : Type 0 where
   pub form : is_usage (texts_of words) ≡ false
   pub path : value_of (codes "path") (texts_of words) ≡ Some setting.path
   pub until_idle : setting.until_idle ≡ is_set (value_of (codes "until-idle") (texts_of words))
-  pub state : setting.state ≡ first_state (served_with (life_in (texts_of words)))
+  pub state : setting.state ≡ first_state (serve_settings (texts_of words))
 
 -- the words are none of the forms
 pub record IsUsage (words : List (String Global)) : Type 0 where
-  pub no_replay : replay_life (texts_of words) ≡ None
+  pub no_replay : replay_settings (texts_of words) ≡ None
   pub no_drill : drill_words (texts_of words) ≡ None
   pub no_serve : is_usage (texts_of words) ≡ true

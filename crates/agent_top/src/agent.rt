@@ -1,8 +1,9 @@
 //! The command `replay`.
 
-ghost use Rattle.std.specs.Prelude.{◌≡◌, ◌≢◌, ◌↔◌, ℕ, None, Option};
+ghost use Rattle.std.specs.Prelude.{◌≡◌, ◌≢◌, ◌↔◌, None};
+ghost use Rattle.agent_model.specs.State.{Settings};
 ghost use Rattle.agent_top.specs.Program.{ReplaysExactly, Completes, RunsLawfully, status_of};
-ghost use Rattle.agent_top.specs.Words.{IsReplay, replay_life, texts_of};
+ghost use Rattle.agent_top.specs.Words.{IsReplay, replay_settings, texts_of};
 ghost use Rattle.replay_run.specs.Claims.{Seen};
 ghost use Rattle.world_ports.specs.Streams.{OnlyReads, OnlyWrites};
 
@@ -32,25 +33,25 @@ pub fn replay_main<I: Source, O: Sink>(
     input: &mut I,
     output: &mut O,
 ) -> Status
-    ensures replays { (life : Option ℕ) → IsReplay words.now life → ReplaysExactly life result
+    ensures replays { (chosen : Settings) → IsReplay words.now chosen → ReplaysExactly chosen result
         (record { input = I.seen input.old; output = O.seen output.old })
         (record { input = I.seen input.new; output = O.seen output.new }) }
-    ensures completes { (life : Option ℕ) → IsReplay words.now life → Completes life result
+    ensures completes { (chosen : Settings) → IsReplay words.now chosen → Completes chosen result
         (record { input = I.seen input.old; output = O.seen output.old })
         (record { input = I.seen input.new; output = O.seen output.new }) }
-    ensures lawful { (life : Option ℕ) → IsReplay words.now life → RunsLawfully life
+    ensures lawful { (chosen : Settings) → IsReplay words.now chosen → RunsLawfully chosen
         (record { input = I.seen input.old; output = O.seen output.old })
         (record { input = I.seen input.new; output = O.seen output.new }) }
-    ensures usage { (result ≡ Status.Usage) ↔ (replay_life (texts_of words.now) ≡ None) }
-    ensures unused { replay_life (texts_of words.now) ≡ None
+    ensures usage { (result ≡ Status.Usage) ↔ (replay_settings (texts_of words.now) ≡ None) }
+    ensures unused { replay_settings (texts_of words.now) ≡ None
         → (input.new ≡ input.old) × (output.new ≡ output.old) }
     ensures no_socket { (result ≢ Status.BindFault) × (result ≢ Status.PollFault) }
     ensures input_only { OnlyReads (I.seen input.old) (I.seen input.new) }
     ensures output_only { OnlyWrites (O.seen output.old) (O.seen output.new) }
 {
-    let Some(words) = read_replay(words) else {
+    let Some(settings) = read_replay(words) else {
         return Status::Usage;
     };
-    let (end, _) = run_replay(alloc, words.life, input, output);
+    let (end, _) = run_replay(alloc, settings, input, output);
     status_of_end(end)
 }

@@ -1,7 +1,7 @@
 //! The command `serve` with a record of its calls.
 
-ghost use Rattle.std.specs.Prelude.{◌≡◌, ◌⊎◌, ◌≤◌, true};
-ghost use Rattle.agent_top.specs.RecordProgram.{AddedHaveNoRoom, RecordsExactly};
+ghost use Rattle.std.specs.Prelude.{◌≡◌, ◌⊎◌, ◌≤◌, false, true};
+ghost use Rattle.agent_top.specs.RecordProgram.{HaveNoRoom, HoldsOfAdded, Records};
 ghost use Rattle.agent_top.specs.ServeProgram.{ServesExactly, status_of_recorded};
 ghost use Rattle.loop_model.specs.Orderly.{IsOrderly};
 ghost use Rattle.world_ports.specs.Causes.{Rose};
@@ -15,12 +15,12 @@ use std::alloc::Global;
 use std::sync::Wait;
 use world_ports::{Sink, World};
 
-// The status of a recorded loop that ended so. Where memory ran out for the record, it may lack what the loop did.
-fn status_of_recorded(short: bool, broken: bool, end: ServeEnd) -> Status
-    ensures { result ≡ status_of_recorded short broken end }
+// The status of a recorded loop that ended so. Where its calls ended with the record, that may lack what the loop did.
+fn status_of_recorded(ended: bool, broken: bool, end: ServeEnd) -> Status
+    ensures { result ≡ status_of_recorded ended broken end }
 {
-    if short {
-        return Status::Memory;
+    if ended {
+        return Status::RecordFault;
     }
     match status_of_serving(end) {
         Status::Done if broken => Status::WriteFault,
@@ -28,7 +28,8 @@ fn status_of_recorded(short: bool, broken: bool, end: ServeEnd) -> Status
     }
 }
 
-// Serves clients over the world, and writes a record of its calls to the output.
+// Serves clients over the world, and writes a record of its calls to the output; by `or_stop` no call is made behind a
+// record that ended.
 pub fn serve_recorded<R: Wait, A: Core, W: World, O: Sink>(
     rt: &R,
     alloc: Global,
@@ -37,6 +38,7 @@ pub fn serve_recorded<R: Wait, A: Core, W: World, O: Sink>(
     output: &mut O,
     path: &str,
     until_idle: bool,
+    or_stop: bool,
 ) -> Status
     requires orderly { IsOrderly (A.state agent.old) }
     requires first { W.last_port world.old ≡ 0 }
@@ -45,20 +47,22 @@ pub fn serve_recorded<R: Wait, A: Core, W: World, O: Sink>(
     ensures serves { ServesExactly true
         (record { path = path.now; until_idle = until_idle; state = A.state agent.old }) result
         (W.journal world.old) (W.journal world.new) }
-    ensures records { RecordsExactly result (W.journal world.old) (W.journal world.new)
-        (O.seen output.old) (O.seen output.new) }
+    ensures records { HoldsOfAdded (W.journal world.old) (W.journal world.new)
+        (Records or_stop result (O.seen output.old) (O.seen output.new)) }
     ensures bind { result ≡ Status.BindFault → Rose (W.faults world.old) (W.faults world.new) }
     ensures poll { result ≡ Status.PollFault → Rose (W.faults world.old) (W.faults world.new) }
     ensures write { result ≡ Status.WriteFault
         → Rose (O.seen output.old).write_faults (O.seen output.new).write_faults
-        ⊎ AddedHaveNoRoom (W.journal world.old) (W.journal world.new) }
+        ⊎ HoldsOfAdded (W.journal world.old) (W.journal world.new) HaveNoRoom }
     ensures done { result ≡ Status.Done
+        → (O.seen output.new).write_faults ≡ (O.seen output.old).write_faults }
+    ensures goes_on { result ≡ Status.RecordFault → or_stop ≡ false
         → (O.seen output.new).write_faults ≡ (O.seen output.old).write_faults }
     ensures led { W.leads world.old world.new }
     ensures only { OnlyWrites (O.seen output.old) (O.seen output.new) }
 {
     let mut tape = Tape::new(alloc);
-    let mut recorder = Recorder::new(world, output, &mut tape);
+    let mut recorder = Recorder::new(world, output, &mut tape, or_stop);
     let end = serve(rt, alloc, agent, &mut recorder, path, until_idle);
-    status_of_recorded(recorder.short(), recorder.broken(), end)
+    status_of_recorded(recorder.ended(), recorder.broken(), end)
 }

@@ -2,29 +2,24 @@
 
 ghost use Rattle.std.specs.Prelude.{◌≡◌, ◌⊎◌, true, false};
 ghost use Rattle.ready_loop.specs.Serving.{Setting};
-ghost use Rattle.agent_top.specs.RecordProgram.{AddedHaveNoRoom, RecordsExactly};
+ghost use Rattle.agent_top.specs.RecordProgram.{HaveNoRoom, HoldsOfAdded, Records};
 ghost use Rattle.agent_top.specs.ServeFair.{ServesFairly};
 ghost use Rattle.agent_top.specs.ServeLaw.{ServesLawfully};
 ghost use Rattle.agent_top.specs.ServeProgram.{ServesExactly, status_of_serving};
-ghost use Rattle.agent_top.specs.Words.{IsServe, texts_of};
-ghost use Rattle.serve_words.specs.Serve.{is_recorded, is_usage, life_in};
+ghost use Rattle.agent_top.specs.Words.{IsServe, serve_settings, texts_of};
+ghost use Rattle.serve_words.specs.Serve.{ends_with_record, is_recorded, is_usage};
 ghost use Rattle.world_ports.specs.Causes.{Rose};
 ghost use Rattle.world_ports.specs.Streams.{OnlyWrites};
 
 use crate::recording::serve_recorded;
 use crate::status::Status;
-use agent_core::{Agent, Settings};
+use agent_core::Agent;
 use ready_loop::{ServeEnd, serve};
+use replay_run::served_settings;
 use serve_words::{ServeFault, read_serve};
 use std::alloc::Global;
 use std::sync::Wait;
 use world_ports::{Sink, World};
-
-// How many seconds a helper may leave an ask unanswered.
-const ASK_LIMIT: u32 = 60;
-
-// How many seconds the user has to answer a confirmation.
-const CONFIRM_LIMIT: u32 = 300;
 
 // The status of a loop that ended so.
 pub fn status_of_serving(end: ServeEnd) -> Status
@@ -52,10 +47,11 @@ pub fn serve_by<R: Wait, W: World, O: Sink>(
     ensures serves { (setting : Setting) → IsServe words.now setting
         → ServesExactly (is_recorded (texts_of words.now)) setting result (W.journal world.old) (W.journal world.new) }
     ensures records { (setting : Setting) → IsServe words.now setting → is_recorded (texts_of words.now) ≡ true
-        → RecordsExactly result (W.journal world.old) (W.journal world.new) (O.seen output.old) (O.seen output.new) }
+        → HoldsOfAdded (W.journal world.old) (W.journal world.new)
+        (Records (ends_with_record (texts_of words.now)) result (O.seen output.old) (O.seen output.new)) }
     ensures unrecorded { is_recorded (texts_of words.now) ≡ false → output.new ≡ output.old }
     ensures serves_lawfully { (setting : Setting) → IsServe words.now setting
-        → ServesLawfully (life_in (texts_of words.now)) setting (W.journal world.old) (W.journal world.new) }
+        → ServesLawfully (serve_settings (texts_of words.now)) setting (W.journal world.old) (W.journal world.new) }
     ensures serves_fairly { (setting : Setting) → IsServe words.now setting
         → ServesFairly setting (W.journal world.old) (W.journal world.new) }
     ensures usage { result ≡ Status.Usage → is_usage (texts_of words.now) ≡ true }
@@ -67,8 +63,10 @@ pub fn serve_by<R: Wait, W: World, O: Sink>(
     ensures poll { result ≡ Status.PollFault → Rose (W.faults world.old) (W.faults world.new) }
     ensures write { result ≡ Status.WriteFault
         → Rose (O.seen output.old).write_faults (O.seen output.new).write_faults
-        ⊎ AddedHaveNoRoom (W.journal world.old) (W.journal world.new) }
+        ⊎ HoldsOfAdded (W.journal world.old) (W.journal world.new) HaveNoRoom }
     ensures done { result ≡ Status.Done
+        → (O.seen output.new).write_faults ≡ (O.seen output.old).write_faults }
+    ensures goes_on { result ≡ Status.RecordFault → ends_with_record (texts_of words.now) ≡ false
         → (O.seen output.new).write_faults ≡ (O.seen output.old).write_faults }
     ensures led { W.leads world.old world.new }
     ensures only { OnlyWrites (O.seen output.old) (O.seen output.new) }
@@ -78,11 +76,7 @@ pub fn serve_by<R: Wait, W: World, O: Sink>(
         Err(ServeFault::Usage) => return Status::Usage,
         Err(ServeFault::Memory) => return Status::Memory,
     };
-    let settings = Settings {
-        default_life: served.life,
-        ask_limit: Some(ASK_LIMIT),
-        confirm_limit: Some(CONFIRM_LIMIT),
-    };
+    let settings = served_settings(served.life, served.confirm_limit);
     let mut agent = Agent::new(alloc, settings);
     let path = served.path.as_str();
     if served.recorded {
@@ -94,6 +88,7 @@ pub fn serve_by<R: Wait, W: World, O: Sink>(
             output,
             path,
             served.until_idle,
+            served.or_stop,
         );
     }
     status_of_serving(serve(rt, alloc, &mut agent, world, path, served.until_idle))

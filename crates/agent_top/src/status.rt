@@ -6,7 +6,7 @@ ghost use Rattle.agent_top.specs.Program.{code_of};
 use schedule_text::LineFault;
 use thiserror::Error;
 
-/// How a run of the program ended, in words for whoever started it. The exit statuses are 0 to 7 in this order.
+/// How a run of the program ended, in words for whoever started it. The exit statuses are 0 to 8 in this order.
 #[derive(Clone, Copy, Debug, PartialEq, Eq, Error)]
 pub enum Status {
     /// All was done.
@@ -16,7 +16,7 @@ pub enum Status {
     #[error("line {line} is refused: {}", told(.fault))]
     ScheduleRefused { line: u64, fault: LineFault },
     /// The words are none that the program takes.
-    #[error("usage: agent_prog serve -a PATH --helper PROGRAM [--helper-data PATH] [--relay PROGRAM --askpass PROGRAM] [-t LIFE] [--until-idle], or agent_prog replay [-t LIFE], or agent_prog drill N SEED")]
+    #[error("usage: agent_prog serve -a PATH --helper PROGRAM [--helper-data PATH] [--relay PROGRAM --askpass PROGRAM] [-t LIFE] [--confirm-limit SECONDS] [--until-idle], or agent_prog replay [-t LIFE] [--confirm-limit SECONDS], or agent_prog drill N SEED")]
     Usage,
     /// A socket could not be bound.
     #[error("a socket could not be bound")]
@@ -33,6 +33,10 @@ pub enum Status {
     /// The output could not be written.
     #[error("the output could not be written")]
     WriteFault,
+    /// The record ended, and the agent with it: memory ran out in one of its calls, or it could hold no more and the
+    /// agent was to stop then.
+    #[error("the record ended, and the agent with it")]
+    RecordFault,
 }
 
 // What a line's fault is.
@@ -62,6 +66,7 @@ impl Status {
             Status::Memory => 5,
             Status::ReadFault => 6,
             Status::WriteFault => 7,
+            Status::RecordFault => 8,
         }
     }
 }

@@ -1,16 +1,17 @@
 //! The program over any input, output and world.
 
-ghost use Rattle.std.specs.Prelude.{◌≡◌, ◌⊎◌, ℕ, None, Option, true, false};
+ghost use Rattle.std.specs.Prelude.{◌≡◌, ◌⊎◌, None, true, false};
+ghost use Rattle.agent_model.specs.State.{Settings};
 ghost use Rattle.agent_top.specs.DrillProgram.{DrillCompletes, DrillsExactly, DrillsLawfully};
 ghost use Rattle.agent_top.specs.Program.{ReplaysExactly, Completes, RunsLawfully};
-ghost use Rattle.agent_top.specs.RecordProgram.{AddedHaveNoRoom, RecordsExactly};
+ghost use Rattle.agent_top.specs.RecordProgram.{HaveNoRoom, HoldsOfAdded, Records};
 ghost use Rattle.agent_top.specs.ServeFair.{ServesFairly};
 ghost use Rattle.agent_top.specs.ServeLaw.{ServesLawfully};
 ghost use Rattle.agent_top.specs.ServeProgram.{ServesExactly};
-ghost use Rattle.agent_top.specs.Words.{Drilling, IsDrill, IsReplay, IsServe, IsUsage, drill_words, replay_life, texts_of};
+ghost use Rattle.agent_top.specs.Words.{Drilling, IsDrill, IsReplay, IsServe, IsUsage, drill_words, replay_settings, serve_settings, texts_of};
 ghost use Rattle.ready_loop.specs.Serving.{Setting};
 ghost use Rattle.replay_run.specs.Claims.{Seen};
-ghost use Rattle.serve_words.specs.Serve.{begins, is_recorded, life_in};
+ghost use Rattle.serve_words.specs.Serve.{begins, ends_with_record, is_recorded};
 ghost use Rattle.world_ports.specs.Causes.{Rose};
 ghost use Rattle.world_ports.specs.Streams.{OnlyReads, OnlyWrites};
 
@@ -28,9 +29,11 @@ use world_ports::{Sink, Source, World};
 ///
 /// With the word `replay` it runs the schedule that the input gives, and writes to the output what that
 /// prints. With `replay -t LIFE` identities that are added without a lifetime live so long: parts as in
-/// `1h30m`, or seconds; 0 stands for no lifetime. With `serve` and its options (crate serve_words) it
+/// `1h30m`, or seconds; 0 stands for no lifetime. With `--confirm-limit SECONDS` behind these a question to the user
+/// stays open for so long in a schedule of format 2. With `serve` and its options (crate serve_words) it
 /// serves clients over the world until that fails or, where it is asked to, until it is idle; with `--record`
-/// it writes what happens to the output, as a schedule without secrets: `records`. With
+/// it writes what happens to the output, as a schedule without secrets, and with `--record-or-stop` it makes no call
+/// behind one that it couldn't write: `records`. With
 /// `drill N SEED` it makes N requests that are drawn from a seed, and writes a line that sums up what came
 /// of them. With any other words it touches none of the three.
 ///
@@ -50,31 +53,35 @@ pub fn agent_main<R: Wait, W: World, I: Source, O: Sink>(
 ) -> Status
     requires { W.last_port world.old ≡ 0 }
     // of `replay`
-    ensures replays { (life : Option ℕ) → IsReplay words.now life → ReplaysExactly life result
+    ensures replays { (chosen : Settings) → IsReplay words.now chosen → ReplaysExactly chosen result
         (record { input = I.seen input.old; output = O.seen output.old })
         (record { input = I.seen input.new; output = O.seen output.new }) }
-    ensures completes { (life : Option ℕ) → IsReplay words.now life → Completes life result
+    ensures completes { (chosen : Settings) → IsReplay words.now chosen → Completes chosen result
         (record { input = I.seen input.old; output = O.seen output.old })
         (record { input = I.seen input.new; output = O.seen output.new }) }
-    ensures lawful { (life : Option ℕ) → IsReplay words.now life → RunsLawfully life
+    ensures lawful { (chosen : Settings) → IsReplay words.now chosen → RunsLawfully chosen
         (record { input = I.seen input.old; output = O.seen output.old })
         (record { input = I.seen input.new; output = O.seen output.new }) }
-    ensures replay_alone { (life : Option ℕ) → IsReplay words.now life → world.new ≡ world.old }
+    ensures replay_alone { (chosen : Settings) → IsReplay words.now chosen → world.new ≡ world.old }
     // of `serve`
     ensures serves { (setting : Setting) → IsServe words.now setting
         → ServesExactly (is_recorded (texts_of words.now)) setting result (W.journal world.old) (W.journal world.new) }
     ensures serves_lawfully { (setting : Setting) → IsServe words.now setting
-        → ServesLawfully (life_in (texts_of words.now)) setting (W.journal world.old) (W.journal world.new) }
+        → ServesLawfully (serve_settings (texts_of words.now)) setting (W.journal world.old) (W.journal world.new) }
     ensures serves_fairly { (setting : Setting) → IsServe words.now setting
         → ServesFairly setting (W.journal world.old) (W.journal world.new) }
     ensures records { (setting : Setting) → IsServe words.now setting → is_recorded (texts_of words.now) ≡ true
-        → RecordsExactly result (W.journal world.old) (W.journal world.new) (O.seen output.old) (O.seen output.new) }
+        → HoldsOfAdded (W.journal world.old) (W.journal world.new)
+        (Records (ends_with_record (texts_of words.now)) result (O.seen output.old) (O.seen output.new)) }
     ensures write { (setting : Setting) → IsServe words.now setting → result ≡ Status.WriteFault
         → Rose (O.seen output.old).write_faults (O.seen output.new).write_faults
-        ⊎ AddedHaveNoRoom (W.journal world.old) (W.journal world.new) }
+        ⊎ HoldsOfAdded (W.journal world.old) (W.journal world.new) HaveNoRoom }
     ensures done { (setting : Setting) → IsServe words.now setting → result ≡ Status.Done
         → (O.seen output.new).write_faults ≡ (O.seen output.old).write_faults }
-    ensures serve_alone { replay_life (texts_of words.now) ≡ None
+    ensures goes_on { (setting : Setting) → IsServe words.now setting → result ≡ Status.RecordFault
+        → ends_with_record (texts_of words.now) ≡ false
+        → (O.seen output.new).write_faults ≡ (O.seen output.old).write_faults }
+    ensures serve_alone { replay_settings (texts_of words.now) ≡ None
         → (input.new ≡ input.old) × (drill_words (texts_of words.now) ≡ None
         → is_recorded (texts_of words.now) ≡ false → output.new ≡ output.old) }
     // of `drill`

@@ -1,48 +1,50 @@
 //! The words of the command line.
 
-ghost use Rattle.std.specs.Prelude.{◌≡◌, ◌≤◌, IfSome, option_map};
-ghost use Rattle.agent_top.specs.Words.{drill_words, replay_life, rounds_in, texts_of};
-ghost use Rattle.serve_words.specs.Serve.{some_life};
+ghost use Rattle.std.specs.Prelude.{◌≡◌, ◌≤◌, IfSome, codes, option_map};
+ghost use Rattle.std.specs.Str.{bytes_eq};
+ghost use Rattle.agent_core.specs.Parts.{settings_of};
+ghost use Rattle.agent_top.specs.Words.{choices, drill_words, replay_settings, rounds_in, texts_of};
 
+use agent_core::Settings;
+use replay_run::{read_lived, read_with};
 use schedule_text::read_number;
-use world_ports::read_life;
 
-/// What the words of the command `replay` say.
-#[derive(Clone, Copy, Debug, PartialEq, Eq)]
-pub struct ReplayWords {
-    /// The lifetime, in seconds, of identities that are added without one.
-    pub life: Option<u32>,
-}
-
-/// Reads `replay` or `replay -t LIFE`, where a lifetime of 0 stands for none. `None` for all other words.
-pub fn read_replay(words: &[String]) -> Option<ReplayWords>
-    ensures { option_map (λ w. w.life) result ≡ replay_life (texts_of words.now) }
+/// Reads `replay` with `-t LIFE`, `--confirm-limit SECONDS`, both in this order or neither: the settings that they
+/// choose. `None` for all other words.
+pub fn read_replay(words: &[String]) -> Option<Settings>
+    ensures { option_map settings_of result ≡ replay_settings (texts_of words.now) }
 {
     match words {
-        [command] => {
+        [command, chosen @ ..] => {
             if command.as_str() != "replay" {
                 return None;
             }
-            Some(ReplayWords { life: None })
-        }
-        [command, option, life] => {
-            if command.as_str() != "replay" || option.as_str() != "-t" {
-                return None;
-            }
-            let life = default_life(read_life(life.as_bytes())?);
-            Some(ReplayWords { life })
+            read_choices(chosen)
         }
         _ => None,
     }
 }
 
-// A lifetime of 0 is none.
-fn default_life(seconds: u32) -> Option<u32>
-    ensures { result ≡ some_life seconds }
+// Whether the next word says a lifetime.
+fn names_life(word: &str) -> bool
+    ensures { result ≡ bytes_eq word.now (codes "-t") }
 {
-    match seconds {
-        0 => None,
-        _ => Some(seconds),
+    word == "-t"
+}
+
+// Reads what stands behind the command.
+fn read_choices(words: &[String]) -> Option<Settings>
+    ensures { option_map settings_of result ≡ choices (texts_of words.now) }
+{
+    match words {
+        [] => read_with(None, words),
+        [_] => read_with(None, words),
+        [option, life, further @ ..] => {
+            if names_life(option.as_str()) {
+                return read_lived(life.as_str(), further);
+            }
+            read_with(None, words)
+        }
     }
 }
 

@@ -6,7 +6,7 @@ use Rattle.std.proofs.lemmas.List.Elements.{filter_map-append}
 use Rattle.world_ports.specs.declared.Moment.{Moment}
 use Rattle.agent_model.specs.Actions.{Action, Answered, Asked, ForBinding, ForSignature, Granted, Lost, Over, Proved, Purpose, Raised, Requested}
 use Rattle.agent_model.specs.Runs.{Stamped, history, stamped}
-use Rattle.agent_model.specs.State.{State, first_state}
+use Rattle.agent_model.specs.State.{Settings, State, first_state}
 use Rattle.agent_model.specs.Step.{step}
 use Rattle.replay_run.specs.Replay.{course, events_of, parts_of, run_of, settings_of, start_run}
 use Rattle.replay_run.specs.Told.{Told, Barred, Came, events_in}
@@ -54,8 +54,8 @@ signed-told state (Came line before timed ∷ later) end is =
     ∙ sym (ap (λ (s : State). signed_in (history s (timed ∷ events_in later))) is.0)
 signed-told state (Barred line fault ∷ later) end is = signed-told state later end is
 
-pub all_signed : (life : Option ℕ) (text : List ℕ)
-    → map without_line (puts life text) ≡ signed_in (history (first_state (settings_of life text)) (events_of life text))
+pub all_signed : (settings : Settings) (text : List ℕ)
+    → map without_line (puts settings text) ≡ signed_in (history (first_state (settings_of settings text)) (events_of settings text))
 unfolding puts_from
-all_signed life text =
-    signed-told (first_state (settings_of life text)) (course true (start_run life) (parts_of text)).told (run_of life text).agent (schedule-course life text)
+all_signed settings text =
+    signed-told (first_state (settings_of settings text)) (course true (start_run settings) (parts_of text)).told (run_of settings text).agent (schedule-course settings text)

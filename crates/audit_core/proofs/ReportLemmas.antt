@@ -3,6 +3,7 @@ use Rattle.std.proofs.Common.{◌≡◌, ◌==◌, ℕ, suc, List, [], ◌∷◌
 use Rattle.std.proofs.lemmas.Bool.Decides.{nat_tests}
 use Rattle.std.proofs.lemmas.Option.{same_Some}
 use Rattle.world_ports.specs.Streams.{StreamView}
+use Rattle.agent_model.specs.State.{Settings}
 use Rattle.schedule_text.specs.declared.fault.LineFault.{LineFault}
 use Rattle.replay_run.specs.Feeding.{Wrote}
 use Rattle.replay_run.specs.Replay.{output_of, run_of}
@@ -57,13 +58,13 @@ agreed_by (Some fault) found line puts is = absurd cc
 agreed_by None (Some difference) line puts is = absurd cc
 agreed_by None None line puts is = record { refused_is = refl; found_is = refl }
 
-lawful_record : (life : Option ℕ) (text : List ℕ) → (run_of life text).refused ≡ None
-    → IsLawfulRecord life text
-lawful_record life text accepted = record {
+lawful_record : (settings : Settings) (text : List ℕ) → (run_of settings text).refused ≡ None
+    → IsLawfulRecord settings text
+lawful_record settings text accepted = record {
   accepted = accepted;
-  agent = run-schedule life text;
-  lawful = schedule-lawful life text;
-  listed = all_signed life text;
+  agent = run-schedule settings text;
+  lawful = schedule-lawful settings text;
+  listed = all_signed settings text;
 }
 
 -- the report of a verdict, by what was found
@@ -73,9 +74,9 @@ reports (Some fault) found line puts = refl
 reports None (Some difference) line puts = refl
 reports None None line puts = refl
 
-report_is : (life : Option ℕ) (text deeds : List ℕ)
-    → report (verdict_of life text deeds) ≡ report_by (finding_of (verdict_of life text deeds)) (puts life text)
-report_is life text deeds = reports (run_of life text).refused (first_difference (output_of life text) deeds) (run_of life text).line (puts life text)
+report_is : (settings : Settings) (text deeds : List ℕ)
+    → report (verdict_of settings text deeds) ≡ report_by (finding_of (verdict_of settings text deeds)) (puts settings text)
+report_is settings text deeds = reports (run_of settings text).refused (first_difference (output_of settings text) deeds) (run_of settings text).line (puts settings text)
 
 differs_by : (verdict : Verdict) (line : ℕ) → findings.Differs line ≡ finding_of verdict
     → verdict ≡ Differs line
@@ -92,48 +93,48 @@ bad_by (IsBad other) line is = cc
 -- ---- the end
 
 -- the report of what was found was not all written
-stops_of : (stop : Stop) (finding : Finding) (life : Option ℕ) (text deeds : List ℕ) (before after : StreamView)
-    → finding ≡ finding_of (verdict_of life text deeds)
-    → Stops stop (report_by finding (puts life text)) before after
-    → Stops stop (report (verdict_of life text deeds)) before after
-stops_of stop finding life text deeds before after is stopped =
+stops_of : (stop : Stop) (finding : Finding) (settings : Settings) (text deeds : List ℕ) (before after : StreamView)
+    → finding ≡ finding_of (verdict_of settings text deeds)
+    → Stops stop (report_by finding (puts settings text)) before after
+    → Stops stop (report (verdict_of settings text deeds)) before after
+stops_of stop finding settings text deeds before after is stopped =
     subst (λ (t : List ℕ). Stops stop t before after)
-    (ap (λ (f : Finding). report_by f (puts life text)) is ∙ sym (report_is life text deeds)) stopped
+    (ap (λ (f : Finding). report_by f (puts settings text)) is ∙ sym (report_is settings text deeds)) stopped
 
-ends_written : (finding : Finding) (life : Option ℕ) (text deeds : List ℕ) (before after : StreamView)
-    → finding ≡ finding_of (verdict_of life text deeds)
-    → Wrote before after (report_by finding (puts life text))
-    → EndsAudit life text deeds (status_of finding) before after
-ends_written findings.Agrees life text deeds before after is wrote =
-    let both = agreed_by (run_of life text).refused (first_difference (output_of life text) deeds) (run_of life text).line (puts life text) (sym is) in
+ends_written : (finding : Finding) (settings : Settings) (text deeds : List ℕ) (before after : StreamView)
+    → finding ≡ finding_of (verdict_of settings text deeds)
+    → Wrote before after (report_by finding (puts settings text))
+    → EndsAudit settings text deeds (status_of finding) before after
+ends_written findings.Agrees settings text deeds before after is wrote =
+    let both = agreed_by (run_of settings text).refused (first_difference (output_of settings text) deeds) (run_of settings text).line (puts settings text) (sym is) in
     record {
-      prints = same_text (output_of life text) deeds both.found_is;
-      lawful = lawful_record life text both.refused_is;
+      prints = same_text (output_of settings text) deeds both.found_is;
+      lawful = lawful_record settings text both.refused_is;
       wrote = wrote;
     }
-ends_written (findings.Differs line) life text deeds before after is wrote = record {
-  is = differs_by (verdict_of life text deeds) line is;
+ends_written (findings.Differs line) settings text deeds before after is wrote = record {
+  is = differs_by (verdict_of settings text deeds) line is;
   wrote = wrote;
 }
-ends_written (findings.IsBad line) life text deeds before after is wrote = record {
-  is = bad_by (verdict_of life text deeds) line is;
+ends_written (findings.IsBad line) settings text deeds before after is wrote = record {
+  is = bad_by (verdict_of settings text deeds) line is;
   wrote = wrote;
 }
 
-pub ends_audit : {T : Type 0} (finding : Finding) (written : Result T Stop) (life : Option ℕ) (text deeds : List ℕ) (before after : StreamView)
-    → finding ≡ finding_of (verdict_of life text deeds)
-    → Writes written (report_by finding (puts life text)) before after
-    → EndsAudit life text deeds (status_by finding written) before after
-ends_audit finding (Ok done) life text deeds before after is writes = ends_written finding life text deeds before after is writes
-ends_audit finding (Err stops.Memory) life text deeds before after is writes = stops_of stops.Memory finding life text deeds before after is writes
-ends_audit finding (Err stops.Write) life text deeds before after is writes = stops_of stops.Write finding life text deeds before after is writes
+pub ends_audit : {T : Type 0} (finding : Finding) (written : Result T Stop) (settings : Settings) (text deeds : List ℕ) (before after : StreamView)
+    → finding ≡ finding_of (verdict_of settings text deeds)
+    → Writes written (report_by finding (puts settings text)) before after
+    → EndsAudit settings text deeds (status_by finding written) before after
+ends_audit finding (Ok done) settings text deeds before after is writes = ends_written finding settings text deeds before after is writes
+ends_audit finding (Err stops.Memory) settings text deeds before after is writes = stops_of stops.Memory finding settings text deeds before after is writes
+ends_audit finding (Err stops.Write) settings text deeds before after is writes = stops_of stops.Write finding settings text deeds before after is writes
 
 -- ---- files
 
 -- both texts are those of the files
 pub audits_by : (held : List ℕ → Option (List ℕ)) (asked : Asked) (text deeds : List ℕ) (result : AuditStatus) (before after : StreamView)
     → IsTextOf (held asked.recording) text → IsTextOf (held asked.deeds) deeds
-    → EndsAudit asked.life text deeds result before after → Audits held asked result before after
+    → EndsAudit asked.settings text deeds result before after → Audits held asked result before after
 audits_by held asked text deeds status.Yes before after text_is deeds_are ends =
     record { text = text; deeds = deeds; text_is = text_is; deeds_are = deeds_are; ends = ends }
 audits_by held asked text deeds (status.Differs line) before after text_is deeds_are ends =

@@ -7,7 +7,7 @@ use Rattle.world_ports.specs.Journal.{Grows}
 use Rattle.world_ports.specs.Streams.{StreamView}
 use Rattle.agent_laws.specs.History.{HasNumbers, IsLawful}
 use Rattle.agent_model.specs.Runs.{history, run}
-use Rattle.agent_model.specs.State.{first_state}
+use Rattle.agent_model.specs.State.{Settings, first_state}
 use Rattle.replay_run.specs.Feeding.{Wrote}
 use Rattle.replay_run.specs.Replay.{events_of, output_of, run_of, settings_of}
 use Rattle.audit_core.specs.declared.comparison.Finding.{Finding}
@@ -54,38 +54,38 @@ status_by finding (Err stop) = status_at stop
 -- a record that is run to its end: its run is that of the events which its lines and their settlings bring; while
 -- neither the numbers of asks nor those of jobs are spent, a signature is put to the helper in it exactly where what was
 -- done before says so; and these requests are all that were put, in their order
-pub record IsLawfulRecord (life : Option ℕ) (text : List ℕ) : Type 0 where
-  pub accepted : (run_of life text).refused ≡ None
-  pub agent : (run_of life text).agent ≡ run (first_state (settings_of life text)) (events_of life text)
-  pub lawful : HasNumbers (run_of life text).agent
-      → IsLawful life [] (history (first_state (settings_of life text)) (events_of life text))
-  pub listed : map without_line (puts life text)
-      ≡ signed_in (history (first_state (settings_of life text)) (events_of life text))
+pub record IsLawfulRecord (settings : Settings) (text : List ℕ) : Type 0 where
+  pub accepted : (run_of settings text).refused ≡ None
+  pub agent : (run_of settings text).agent ≡ run (first_state (settings_of settings text)) (events_of settings text)
+  pub lawful : HasNumbers (run_of settings text).agent
+      → IsLawful settings.life [] (history (first_state (settings_of settings text)) (events_of settings text))
+  pub listed : map without_line (puts settings text)
+      ≡ signed_in (history (first_state (settings_of settings text)) (events_of settings text))
 
 -- the deeds are what the record prints, and all that was put in it is listed, and how much that is
-pub record IsAgreed (life : Option ℕ) (text deeds : List ℕ) (before after : StreamView) : Type 0 where
-  pub prints : output_of life text ≡ deeds
-  pub lawful : IsLawfulRecord life text
-  pub wrote : Wrote before after (yes_report (puts life text))
+pub record IsAgreed (settings : Settings) (text deeds : List ℕ) (before after : StreamView) : Type 0 where
+  pub prints : output_of settings text ≡ deeds
+  pub lawful : IsLawfulRecord settings text
+  pub wrote : Wrote before after (yes_report (puts settings text))
 
 -- this was found, and its line was written
-pub record IsFound (verdict : Verdict) (life : Option ℕ) (text deeds : List ℕ) (before after : StreamView)
+pub record IsFound (verdict : Verdict) (settings : Settings) (text deeds : List ℕ) (before after : StreamView)
     : Type 0 where
-  pub is : verdict_of life text deeds ≡ verdict
+  pub is : verdict_of settings text deeds ≡ verdict
   pub wrote : Wrote before after (report verdict)
 
 -- what the end of an audit says of its texts and of the sink
-abbrev pub EndsAudit : Option ℕ → List ℕ → List ℕ → AuditStatus → StreamView → StreamView → Type 0
-EndsAudit life text deeds status.Yes before after = IsAgreed life text deeds before after
-EndsAudit life text deeds (status.Differs line) before after = IsFound (Differs line) life text deeds before after
-EndsAudit life text deeds status.Usage before after = ⊥
-EndsAudit life text deeds status.FileFault before after = ⊥
-EndsAudit life text deeds (status.BadRecord line) before after = IsFound (IsBad line) life text deeds before after
+abbrev pub EndsAudit : Settings → List ℕ → List ℕ → AuditStatus → StreamView → StreamView → Type 0
+EndsAudit settings text deeds status.Yes before after = IsAgreed settings text deeds before after
+EndsAudit settings text deeds (status.Differs line) before after = IsFound (Differs line) settings text deeds before after
+EndsAudit settings text deeds status.Usage before after = ⊥
+EndsAudit settings text deeds status.FileFault before after = ⊥
+EndsAudit settings text deeds (status.BadRecord line) before after = IsFound (IsBad line) settings text deeds before after
 -- want of memory says nothing of the texts: a front of the report is written
-EndsAudit life text deeds status.Memory before after =
-    Stops stops.Memory (report (verdict_of life text deeds)) before after
-EndsAudit life text deeds status.WriteFault before after =
-    Stops stops.Write (report (verdict_of life text deeds)) before after
+EndsAudit settings text deeds status.Memory before after =
+    Stops stops.Memory (report (verdict_of settings text deeds)) before after
+EndsAudit settings text deeds status.WriteFault before after =
+    Stops stops.Write (report (verdict_of settings text deeds)) before after
 
 -- ---- files
 
@@ -139,7 +139,7 @@ pub record HasAudited (held : List ℕ → Option (List ℕ)) (asked : Asked) (r
   pub deeds : List ℕ
   pub text_is : IsTextOf (held asked.recording) text
   pub deeds_are : IsTextOf (held asked.deeds) deeds
-  pub ends : EndsAudit asked.life text deeds result before after
+  pub ends : EndsAudit asked.settings text deeds result before after
 
 -- by how the program ended, where the words are of a form and the files tell what they hold: nothing was written before
 -- both were read

@@ -1,6 +1,7 @@
 -- The signing requests that the run of a schedule puts to a helper (ours). The file is read from its end.
 use Rattle.std.specs.Prelude.{ℕ, true, List, [], Option, None, Some}
 use Rattle.std.specs.List.{filter_map, flat_map}
+use Rattle.agent_model.specs.State.{Settings}
 use Rattle.agent_model.specs.Actions.{Action, Answered, Asked, ForBinding, ForSignature, Granted, Lost, Over, Proved, Purpose, Raised, Requested}
 use Rattle.agent_model.specs.Runs.{Stamped}
 use Rattle.agent_model.specs.Step.{step}
@@ -39,8 +40,8 @@ unfoldable pub puts_from : Run → List (List ℕ) → List Put
 puts_from run parts = flat_map puts_in (course true run parts).told
 
 -- all that a schedule puts, where identities that come without a lifetime live for so many seconds
-abbrev pub puts : Option ℕ → List ℕ → List Put
-puts life text = puts_from (start_run life) (parts_of text)
+abbrev pub puts : Settings → List ℕ → List Put
+puts settings text = puts_from (start_run settings) (parts_of text)
 
 -- ---- the same without lines
 

@@ -2,6 +2,7 @@
 use Rattle.std.specs.Prelude.{ℕ, suc, List, [], ◌∷◌, ◌++◌, length, codes, decimal, Option, None, Some, if◌then◌else◌}
 use Rattle.std.specs.List.{flat_map}
 use Rattle.std.specs.Str.{bytes_eq}
+use Rattle.agent_model.specs.State.{Settings}
 use Rattle.hex.specs.Hex.{encode_lower}
 use Rattle.schedule_text.specs.declared.fault.LineFault.{LineFault}
 use Rattle.audit_core.specs.Puts.{puts}
@@ -43,10 +44,10 @@ verdict_by None (Some difference) line puts = Differs difference
 verdict_by None None line puts = Agrees puts
 
 -- what an audit of a record and of deeds finds, where identities that come without a lifetime live for so many seconds
-abbrev pub verdict_of : Option ℕ → List ℕ → List ℕ → Verdict
-verdict_of life text deeds =
-    verdict_by (run_of life text).refused (first_difference (output_of life text) deeds)
-    (run_of life text).line (puts life text)
+abbrev pub verdict_of : Settings → List ℕ → List ℕ → Verdict
+verdict_of settings text deeds =
+    verdict_by (run_of settings text).refused (first_difference (output_of settings text) deeds)
+    (run_of settings text).line (puts settings text)
 
 -- ---- reports
 

@@ -1,10 +1,11 @@
 -- Literal records, deeds and reports (ours).
 use Rattle.std.specs.Prelude.{ℕ, List, codes, None}
+use Rattle.replay_run.specs.Choices.{served_with}
 use Rattle.audit_core.specs.Reports.{report, verdict_of}
 
 -- the report of a record and deeds
 abbrev pub audit : List ℕ → List ℕ → List ℕ
-audit text deeds = report (verdict_of None text deeds)
+audit text deeds = report (verdict_of (served_with None None) text deeds)
 
 -- a client adds a key and asks for a signature with it
 abbrev pub used : List ℕ

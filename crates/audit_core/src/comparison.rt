@@ -1,10 +1,12 @@
 //! What a record prints, compared with deeds piece by piece, and where they first differ.
 
 ghost use Rattle.std.specs.Prelude.{◌≡◌, ◌≤◌, ◌<◌, ◌+◌, ◌-◌, ◌^◌, ◌==◌, ◌++◌, ◌∷◌, List, ℕ, IfOk, [], false, if◌then◌else◌, suc};
+ghost use Rattle.agent_core.specs.Parts.{settings_of};
 ghost use Rattle.audit_core.specs.Passes.{difference, finding_by, finding_of};
 ghost use Rattle.audit_core.specs.Reports.{verdict_of};
 
 use crate::lines::{put_end, run_next};
+use agent_core::Settings;
 use replay_run::Replay;
 use std::alloc::{AllocError, Global};
 
@@ -114,13 +116,13 @@ fn found(run: &Replay, difference: Option<u64>) -> Finding
 /// Runs the record to its end, or to the first line that is refused, and compares what it prints with the deeds.
 pub fn compare(
     alloc: Global,
-    life: Option<u32>,
+    settings: Settings,
     text: &[u8],
     deeds: &[u8],
 ) -> Result<Finding, AllocError>
-    ensures { IfOk result (λ found. found ≡ finding_of (verdict_of life text.now deeds.now)) }
+    ensures { IfOk result (λ found. found ≡ finding_of (verdict_of (settings_of settings) text.now deeds.now)) }
 {
-    let mut run = Replay::new(alloc, life);
+    let mut run = Replay::new(alloc, settings);
     let mut out = Vec::new(alloc);
     let mut matching = Matching::new();
     let mut rest = text;

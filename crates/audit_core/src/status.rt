@@ -17,7 +17,7 @@ pub enum AuditStatus {
     #[error("the deeds aren't what an agent does for the record: they differ at line {line}")]
     Differs { line: u64 },
     /// The words are none that the program takes.
-    #[error("usage: audit_prog RECORD DEEDS [LIFE]")]
+    #[error("usage: audit_prog RECORD DEEDS [LIFE] [--confirm-limit SECONDS]")]
     Usage,
     /// A file could not be read, or it is too long.
     #[error("a file could not be read, or has more than 268435456 bytes")]

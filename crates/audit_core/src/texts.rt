@@ -6,9 +6,11 @@ ghost use Rattle.audit_core.specs.declared.status.AuditStatus.TheVariants as sta
 ghost use Rattle.world_ports.specs.Files.{OnlyReadsFiles};
 
 use crate::status::AuditStatus;
-use replay_run::LONGEST_SCHEDULE;
 use std::alloc::Global;
 use world_ports::{FileFault, Files};
+
+/// The most bytes of a file.
+const LONGEST_FILE: u64 = 268_435_456;
 
 /// The texts of a record and of its deeds.
 #[derive(Drop)]
@@ -17,7 +19,7 @@ pub struct Texts {
     pub deeds: Vec<u8>,
 }
 
-// The text of a file, which may be as long as a schedule, or how the program ends without it.
+// The text of a file, or how the program ends without it.
 fn read_text<F: Files>(alloc: Global, files: &mut F, path: &str) -> Result<Vec<u8>, AuditStatus>
     ensures read { (held : List ℕ → Option (List ℕ)) → (F.seen files.old).held ≡ Some held
         → IfOk result (λ text. IsTextOf (held path.now) text.items) }
@@ -29,7 +31,7 @@ fn read_text<F: Files>(alloc: Global, files: &mut F, path: &str) -> Result<Vec<u
     ensures faults { IfOk result (λ text. (F.seen files.new).faults ≡ (F.seen files.old).faults) }
     ensures only { OnlyReadsFiles (F.seen files.old) (F.seen files.new) }
 {
-    match files.read(alloc, path, LONGEST_SCHEDULE) {
+    match files.read(alloc, path, LONGEST_FILE) {
         Ok(text) => Ok(text),
         Err(FileFault::Memory) => Err(AuditStatus::Memory),
         Err(FileFault::Failed) => Err(AuditStatus::FileFault),

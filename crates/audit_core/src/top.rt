@@ -1,6 +1,7 @@
 //! The program that audits a record, over any files and any output.
 
 ghost use Rattle.std.specs.Prelude.{◌≡◌, ℕ, List, Option, Some};
+ghost use Rattle.agent_core.specs.Parts.{settings_of};
 ghost use Rattle.audit_core.specs.Program.{Audits, EndsAudit, StopsInOrder};
 ghost use Rattle.audit_core.specs.Words.{Asked, IsAsked, IsUsage};
 ghost use Rattle.audit_core.specs.declared.status.AuditStatus.TheVariants as status;
@@ -13,37 +14,39 @@ use crate::status::{AuditStatus, status_for};
 use crate::texts::read_texts;
 use crate::words::read_words;
 use crate::writing::write_report;
+use agent_core::Settings;
 use std::alloc::Global;
 use world_ports::{Files, Sink};
 
-/// Audits the text of a record and of its deeds, where identities that come without a lifetime live for `life` seconds.
+/// Audits the text of a record and of its deeds, where the record's agent has these settings.
 /// The record is run twice: nothing is written before the first run was compared to its end, and no report is kept.
 pub fn audit<O: Sink>(
     alloc: Global,
-    life: Option<u32>,
+    settings: Settings,
     recording: &[u8],
     deeds: &[u8],
     output: &mut O,
 ) -> AuditStatus
-    ensures ends { EndsAudit life recording.now deeds.now result
+    ensures ends { EndsAudit (settings_of settings) recording.now deeds.now result
         (O.seen output.old) (O.seen output.new) }
     ensures only { OnlyWrites (O.seen output.old) (O.seen output.new) }
 {
-    match compare(alloc, life, recording, deeds) {
+    match compare(alloc, settings, recording, deeds) {
         Ok(finding) => {
-            let written = write_report(alloc, life, recording, finding, output);
+            let written = write_report(alloc, settings, recording, finding, output);
             status_for(finding, written)
         }
         Err(_) => AuditStatus::Memory,
     }
 }
 
-/// The program: `words` are those of the command line after the program's name, `RECORD DEEDS` or `RECORD DEEDS LIFE`.
+/// The program: `words` are those of the command line after the program's name, RECORD, DEEDS and what they choose.
 ///
 /// Runs the schedule of the file RECORD again, compares what it prints with the file DEEDS, and reports each request for
 /// a signature that was put to the helper in it: or the first line that is refused, or else the first that differs. With
 /// LIFE identities that are added without a lifetime live so long: parts as in `1h30m`, or seconds; 0 stands for no
-/// lifetime. RECORD is read first, each of both once and whole. With any other words it touches nothing.
+/// lifetime. With `--confirm-limit SECONDS` a question to the user stays open for so long in a schedule of format 2. RECORD
+/// is read first, each of both once and whole. With any other words it touches nothing.
 ///
 /// Where the files tell what they hold, `audits` says of each end what was found and written. Where it is yes, the run
 /// that RECORD and DEEDS describe meets the law of history of agent_laws, and all signing requests that were put in it
@@ -73,7 +76,13 @@ pub fn audit_main<F: Files, O: Sink>(
         return AuditStatus::Usage;
     };
     match read_texts(alloc, files, asked.recording, asked.deeds) {
-        Ok(texts) => audit(alloc, asked.life, &texts.recording, &texts.deeds, output),
+        Ok(texts) => audit(
+            alloc,
+            asked.settings,
+            &texts.recording,
+            &texts.deeds,
+            output,
+        ),
         Err(status) => status,
     }
 }

@@ -1,9 +1,10 @@
-//! The words of the audit's command line: the record, its deeds, and a lifetime.
+//! The words of the audit's command line: the record, its deeds, and what is chosen for its run.
 
 ghost use Rattle.std.specs.Prelude.{◌≡◌, option_map};
-ghost use Rattle.audit_core.specs.Words.{asked_in, asked_of, some_life, texts_of};
+ghost use Rattle.audit_core.specs.Words.{asked_in, asked_of, texts_of};
 
-use world_ports::read_life;
+use agent_core::Settings;
+use replay_run::read_settings;
 
 /// What the words say.
 #[derive(Clone, Copy)]
@@ -12,38 +13,20 @@ pub struct Words<'a> {
     pub recording: &'a str,
     /// The file of its deeds.
     pub deeds: &'a str,
-    /// The lifetime, in seconds, of identities that are added without one.
-    pub life: Option<u32>,
+    /// The settings of the record's agent.
+    pub settings: Settings,
 }
 
-// Reads `RECORD DEEDS` or `RECORD DEEDS LIFE`, where a lifetime of 0 stands for none.
+// Reads RECORD and DEEDS, and behind them the words of `read_settings`.
 pub fn read_words(words: &[String]) -> Option<Words<'_>>
     ensures { option_map asked_of result ≡ asked_in (texts_of words.now) }
 {
     match words {
-        [recording, deeds] => Some(Words {
+        [recording, deeds, chosen @ ..] => Some(Words {
             recording: recording.as_str(),
             deeds: deeds.as_str(),
-            life: None,
+            settings: read_settings(chosen)?,
         }),
-        [recording, deeds, life] => {
-            let life = default_life(read_life(life.as_bytes())?);
-            Some(Words {
-                recording: recording.as_str(),
-                deeds: deeds.as_str(),
-                life,
-            })
-        }
         _ => None,
-    }
-}
-
-// A lifetime of 0 is none.
-fn default_life(seconds: u32) -> Option<u32>
-    ensures { result ≡ some_life seconds }
-{
-    match seconds {
-        0 => None,
-        _ => Some(seconds),
     }
 }

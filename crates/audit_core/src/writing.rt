@@ -2,6 +2,7 @@
 
 ghost use Rattle.std.specs.Prelude.{◌≡◌, ◌+◌, ◌++◌, codes, IfErr, IfOk, OnOk, [], length};
 ghost use Rattle.std.specs.List.{flat_map};
+ghost use Rattle.agent_core.specs.Parts.{settings_of};
 ghost use Rattle.audit_core.specs.Puts.{puts, puts_from};
 ghost use Rattle.audit_core.specs.Reports.{number_line, put_line};
 ghost use Rattle.audit_core.specs.Writing.{Lists, Writes, report_by, yes_report};
@@ -15,6 +16,7 @@ use crate::comparison::Finding;
 use crate::lines::run_next;
 use crate::noting::Noting;
 use crate::report::{put_sign, put_total};
+use agent_core::Settings;
 use replay_run::Replay;
 use std::alloc::{AllocError, Global};
 use world_ports::{Sink, write_all};
@@ -125,15 +127,15 @@ fn list_run<O: Sink>(
 // Runs a record anew, and writes the line of each request that it puts, and how many there are.
 fn write_yes<O: Sink>(
     alloc: Global,
-    life: Option<u32>,
+    settings: Settings,
     recording: &[u8],
     output: &mut O,
 ) -> Result<(), Stop>
-    ensures writes { Writes result (yes_report (puts life recording.now))
+    ensures writes { Writes result (yes_report (puts (settings_of settings) recording.now))
         (O.seen output.old) (O.seen output.new) }
     ensures only { OnlyWrites (O.seen output.old) (O.seen output.new) }
 {
-    let mut run = Replay::new(alloc, life);
+    let mut run = Replay::new(alloc, settings);
     match list_run(alloc, &mut run, recording, output) {
         Ok(count) => write_total(alloc, b"yes ", count, output),
         Err(stop) => Err(stop),
@@ -143,17 +145,17 @@ fn write_yes<O: Sink>(
 /// Writes the report of what was found of a record.
 pub fn write_report<O: Sink>(
     alloc: Global,
-    life: Option<u32>,
+    settings: Settings,
     recording: &[u8],
     finding: Finding,
     output: &mut O,
 ) -> Result<(), Stop>
-    ensures writes { Writes result (report_by finding (puts life recording.now))
+    ensures writes { Writes result (report_by finding (puts (settings_of settings) recording.now))
         (O.seen output.old) (O.seen output.new) }
     ensures only { OnlyWrites (O.seen output.old) (O.seen output.new) }
 {
     match finding {
-        Finding::Agrees => write_yes(alloc, life, recording, output),
+        Finding::Agrees => write_yes(alloc, settings, recording, output),
         Finding::Differs { line } => write_total(alloc, b"no ", line, output),
         Finding::IsBad { line } => write_total(alloc, b"bad ", line, output),
     }

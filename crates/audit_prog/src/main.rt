@@ -1,5 +1,5 @@
-//! An audit of a recorded run. `audit_prog RECORD DEEDS [LIFE]` runs the record again, compares what it prints with what
-//! an agent is said to have printed for it, and lists each signature that was asked for. `audit_main` of audit_core is
+//! An audit of a recorded run. `audit_prog RECORD DEEDS [LIFE] [--confirm-limit SECONDS]` runs the record again, compares
+//! what it prints with what an agent is said to have printed for it, and lists each signature that was asked for. `audit_main` of audit_core is
 //! the program; here are its words, its files and its output, and what it says on standard error.
 #![tactic(auto)]
 

@@ -2,6 +2,7 @@ pub mod DestinationLemmas
 pub mod ElementLemmas
 pub mod FieldLemmas
 pub mod HopLemmas
+pub mod PurposeLemmas
 pub mod ReadingLemmas
 pub mod SizeLemmas
 pub mod Theorems

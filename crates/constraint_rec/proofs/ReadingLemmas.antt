@@ -11,17 +11,21 @@ use Rattle.wire_core.proofs.Theorems.{uint32_at-uint32, uint32_is_front}
 use Rattle.constraint_rec.specs.declared.fault.TermFault.{TermFault}
 use Rattle.constraint_rec.specs.declared.fault.TermFault.TheVariants.{Short, Unknown, Twice, NoUses}
 use Rattle.constraint_rec.specs.declared.kind.Kind.{Kind}
-use Rattle.constraint_rec.specs.declared.kind.Kind.TheVariants.{Lifetime, Confirm, Uses, Destinations}
+use Rattle.constraint_rec.specs.declared.kind.Kind.TheVariants.{Lifetime, Confirm, Uses, Destinations, Purposes as ForPurposes}
 use Rattle.constraint_rec.specs.declared.terms.Terms.{Terms}
 use Rattle.constraint_rec.specs.declared.constraint.Constraint.{Constraint}
 use Rattle.constraint_rec.specs.Hops.{SpeltConstraint, list_text, constraint_of, IsDestination}
-use Rattle.constraint_rec.specs.Constraints.{Item, Life, Confirmation, UseCount, Rules, restrict_destination, uses_name, AreRules, IsUseCount, item_text, IsItem, with_item}
+use Rattle.constraint_rec.specs.Constraints.{Item, Life, Confirmation, UseCount, Rules, Purposes, purposes_name, purposes_text, restrict_destination, uses_name, AreRules, IsUseCount, item_text, IsItem, with_item}
 use Rattle.wire_core.specs.Readings.{◌>>=◌}
 use Rattle.constraint_rec.specs.HopReading.{field_at, rules_in}
-use Rattle.constraint_rec.specs.Reading.{kind_named, extension_at, kind_at, has_kind, with_life, some_uses, with_uses, with_rules, contents_at, new_contents_at, next_at}
+use Rattle.constraint_rec.specs.Reading.{kind_named, extension_at, kind_at, has_kind, with_life, some_uses, with_uses, with_rules, with_purposes, contents_at, new_contents_at, next_at}
 use Rattle.wire_core.proofs.ReadingLemmas.{bind_ok}
 use Rattle.constraint_rec.proofs.FieldLemmas.{unguarded, field_is, field_again}
 use Rattle.constraint_rec.proofs.DestinationLemmas.{rules_are, rules_again}
+use Rattle.constraint_rec.proofs.PurposeLemmas.{purposes_again, purposes_are, text_is_short}
+use Rattle.constraint_rec.specs.PurposeReading.{purposes_in}
+use Rattle.key_purposes.specs.Purposes.{ArePurposes, word_of}
+use Rattle.key_purposes.specs.declared.purpose.Purpose.{Purpose}
 
 -- the kind of a constraint
 abbrev pub kind_of : Item → Kind
@@ -29,6 +33,7 @@ kind_of (Life seconds) = Lifetime
 kind_of Confirmation = Confirm
 kind_of (UseCount uses) = Uses
 kind_of (Rules rules) = Destinations
+kind_of (Purposes purposes) = ForPurposes
 
 -- a constraint that the terms have none of the kind of stands in front of the rest
 pub record IsNext (terms : Terms) (bytes : List ℕ) (after : Terms) (rest : List ℕ) : Type 0 where
@@ -153,18 +158,46 @@ uses_are_next terms bytes contents after rest named small read =
       added = number.3;
     }
 
+-- purposes are read from a name and contents
+purposes_are_next : (terms : Terms) (bytes contents : List ℕ) (after : Terms) (rest : List ℕ) → bytes ≡ string purposes_name ++ contents → IsBytes contents →
+    new_contents_at terms (ForPurposes, contents) ≡ Ok (after, rest) → IsNext terms (255 ∷ bytes) after rest
+unfolding contents_at
+purposes_are_next terms bytes contents after rest named small read =
+    let open_ = unguarded (has_kind terms ForPurposes) (contents_at ForPurposes terms contents) (after, rest) Twice read in
+    let text = bind_ok (field_at contents) (with_purposes terms) (after, rest) open_.1 in
+    let purposes = bind_ok (purposes_in text.0.0) (λ purposes. Ok (record terms { purposes = purposes }, text.0.1)) (after, rest) text.2 in
+    let inner = field_is contents text.0.0 text.0.1 small text.1 in
+    let is = purposes_are text.0.0 purposes.0 inner.inside purposes.1 in
+    let whole : Terms × List ℕ = (record terms { purposes = purposes.0 }, text.0.1) in
+    let same : whole ≡ (after, rest) = let e = purposes.2 in cc in
+    let behind : text.0.1 ≡ rest = ap (λ (x : Terms × List ℕ). x.1) same in
+    let listed : contents ≡ string (purposes_text purposes.0) ++ rest =
+    inner.parts ∙ ap (λ (list : List ℕ). string list ++ text.0.1) is.text ∙ ap (λ (tail : List ℕ). string (purposes_text purposes.0) ++ tail) behind in
+    record {
+      item = Purposes purposes.0;
+      text = ap (λ (tail : List ℕ). 255 ∷ tail) (named ∙ ap (λ (tail : List ℕ). string purposes_name ++ tail) listed
+          ∙ sym (append_assoc (string purposes_name) (string (purposes_text purposes.0)) rest));
+      left = subst IsBytes behind inner.left;
+      fit = is.are;
+      is_new = open_.0;
+      added = ap (λ (x : Terms × List ℕ). x.0) (sym same);
+    }
+
 -- by the name of the extension
-extension_by_name : (terms : Terms) (bytes name contents : List ℕ) (after : Terms) (rest : List ℕ) (is_rules is_uses : Bool) →
-    bytes_eq name restrict_destination ≡ is_rules → bytes_eq name uses_name ≡ is_uses → bytes ≡ string name ++ contents → IsBytes contents →
-    (cond is_rules (Ok (Destinations, contents)) (cond is_uses (Ok (Uses, contents)) (Err Unknown)) >>= new_contents_at terms) ≡ Ok (after, rest) →
+extension_by_name : (terms : Terms) (bytes name contents : List ℕ) (after : Terms) (rest : List ℕ) (is_rules is_uses is_purposes : Bool) →
+    bytes_eq name restrict_destination ≡ is_rules → bytes_eq name uses_name ≡ is_uses → bytes_eq name purposes_name ≡ is_purposes → bytes ≡ string name ++ contents → IsBytes contents →
+    (cond is_rules (Ok (Destinations, contents)) (cond is_uses (Ok (Uses, contents)) (cond is_purposes (Ok (ForPurposes, contents)) (Err Unknown))) >>= new_contents_at terms) ≡ Ok (after, rest) →
     IsNext terms (255 ∷ bytes) after rest
-extension_by_name terms bytes name contents after rest true is_uses rules uses parts small read =
+extension_by_name terms bytes name contents after rest true is_uses is_purposes rules uses purposes parts small read =
     let known : name ≡ restrict_destination = (bytes_eq-Decides name restrict_destination).0 rules in
     rules_are_next terms bytes contents after rest (parts ∙ ap (λ (n : List ℕ). string n ++ contents) known) small read
-extension_by_name terms bytes name contents after rest false true rules uses parts small read =
+extension_by_name terms bytes name contents after rest false true is_purposes rules uses purposes parts small read =
     let known : name ≡ uses_name = (bytes_eq-Decides name uses_name).0 uses in
     uses_are_next terms bytes contents after rest (parts ∙ ap (λ (n : List ℕ). string n ++ contents) known) small read
-extension_by_name terms bytes name contents after rest false false rules uses parts small read = absurd cc
+extension_by_name terms bytes name contents after rest false false true rules uses purposes parts small read =
+    let known : name ≡ purposes_name = (bytes_eq-Decides name purposes_name).0 purposes in
+    purposes_are_next terms bytes contents after rest (parts ∙ ap (λ (n : List ℕ). string n ++ contents) known) small read
+extension_by_name terms bytes name contents after rest false false false rules uses purposes parts small read = absurd cc
 
 -- an extension is read from a name and contents
 extension_is_next : (terms : Terms) (bytes : List ℕ) (after : Terms) (rest : List ℕ) → IsBytes bytes →
@@ -173,7 +206,7 @@ extension_is_next terms bytes after rest small read =
     let kind = bind_ok (extension_at bytes) (new_contents_at terms) (after, rest) read in
     let name = bind_ok (field_at bytes) kind_named kind.0 kind.1 in
     let front = field_is bytes name.0.0 name.0.1 small name.1 in
-    extension_by_name terms bytes name.0.0 name.0.1 after rest (bytes_eq name.0.0 restrict_destination) (bytes_eq name.0.0 uses_name) refl refl
+    extension_by_name terms bytes name.0.0 name.0.1 after rest (bytes_eq name.0.0 restrict_destination) (bytes_eq name.0.0 uses_name) (bytes_eq name.0.0 purposes_name) refl refl refl
     front.parts front.left (ap (λ (r : Result (Kind × List ℕ) TermFault). r >>= new_contents_at terms) name.2 ∙ kind.2)
 
 -- by the byte at the front
@@ -206,7 +239,19 @@ pub uses_name_is_short : length uses_name < 2 ^ 32
 unfolding uses_name
 uses_name_is_short = lit< tt
 
+pub purposes_name_is_short : length purposes_name < 2 ^ 32
+unfolding purposes_name
+purposes_name_is_short = lit< tt
+
 -- the names differ
+purposes_no_rules : bytes_eq purposes_name restrict_destination ≡ false
+unfolding purposes_name restrict_destination
+purposes_no_rules = refl
+
+purposes_no_uses : bytes_eq purposes_name uses_name ≡ false
+unfolding purposes_name uses_name
+purposes_no_uses = refl
+
 names_differ : bytes_eq uses_name restrict_destination ≡ false
 unfolding uses_name restrict_destination
 names_differ = refl
@@ -222,6 +267,12 @@ uses_named_again : (rest : List ℕ) → extension_at (string uses_name ++ rest)
 uses_named_again rest =
     ap (λ (r : Result (List ℕ × List ℕ) TermFault). r >>= kind_named) (field_again uses_name rest uses_name_is_short)
     ∙ rw (names_differ, (bytes_eq-Decides uses_name uses_name).1 refl) refl
+
+-- an extension of the third name holds purposes
+purposes_named_again : (rest : List ℕ) → extension_at (string purposes_name ++ rest) ≡ Ok (ForPurposes, rest)
+purposes_named_again rest =
+    ap (λ (r : Result (List ℕ × List ℕ) TermFault). r >>= kind_named) (field_again purposes_name rest purposes_name_is_short)
+    ∙ rw (purposes_no_rules, purposes_no_uses, (bytes_eq-Decides purposes_name purposes_name).1 refl) refl
 
 -- only no elements are seen as none
 pub unmapped : (rules : List SpeltConstraint) → map constraint_of rules ≡ [] → rules ≡ []
@@ -245,6 +296,14 @@ uses_again terms uses rest is =
     let some : eqb uses 0 ≡ false = ne_eqb uses 0 (λ none. omega (arith, none, is.some)) in
     rw (uint32_at-uint32 uses rest is.short, some) refl
 
+-- contents that are purposes are read
+purposes_read : (terms : Terms) (purposes : List Purpose) (rest : List ℕ) → ArePurposes (map word_of purposes) purposes →
+    contents_at ForPurposes terms (string (purposes_text purposes) ++ rest) ≡ Ok (with_item terms (Purposes purposes), rest)
+unfolding contents_at
+purposes_read terms purposes rest is =
+    ap (λ (r : Result (List ℕ × List ℕ) TermFault). r >>= with_purposes terms) (field_again (purposes_text purposes) rest (text_is_short purposes is))
+    ∙ ap (λ (r : Result (List Purpose) TermFault). r >>= λ list. Ok (record terms { purposes = list }, rest)) (purposes_again purposes is)
+
 -- a constraint is read
 pub next_at-item : (terms : Terms) (item : Item) (rest : List ℕ) → IsItem item → has_kind terms (kind_of item) ≡ false →
     next_at terms (item_text item ++ rest) ≡ Ok (with_item terms item, rest)
@@ -261,3 +320,8 @@ next_at-item terms (Rules rules) rest fit is_new =
     ∙ ap (λ (r : Result (Kind × List ℕ) TermFault). r >>= new_contents_at terms) (named_again (string (list_text rules) ++ rest))
     ∙ ap (λ (b : Bool). cond b (Err Twice) (contents_at Destinations terms (string (list_text rules) ++ rest))) is_new
     ∙ contents_again terms rules rest fit
+next_at-item terms (Purposes purposes) rest fit is_new =
+    ap (λ (tail : List ℕ). extension_at tail >>= new_contents_at terms) (append_assoc (string purposes_name) (string (purposes_text purposes)) rest)
+    ∙ ap (λ (r : Result (Kind × List ℕ) TermFault). r >>= new_contents_at terms) (purposes_named_again (string (purposes_text purposes) ++ rest))
+    ∙ ap (λ (b : Bool). cond b (Err Twice) (contents_at ForPurposes terms (string (purposes_text purposes) ++ rest))) is_new
+    ∙ purposes_read terms purposes rest fit

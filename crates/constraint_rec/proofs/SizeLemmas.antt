@@ -96,3 +96,10 @@ pub four_parts : (start first second third fourth a b c d : List ℕ) → start 
 four_parts start first second third fourth a b c d none one two three four =
     four ∙ ap (λ (s : List ℕ). s ++ d) (three_parts start first second third a b c none one two three)
     ∙ append_assoc a (b ++ c) d ∙ ap (λ (s : List ℕ). a ++ s) (append_assoc b c d)
+
+-- five parts
+pub five_parts : (start first second third fourth fifth a b c d e : List ℕ) → start ≡ [] → first ≡ start ++ a → second ≡ first ++ b → third ≡ second ++ c →
+    fourth ≡ third ++ d → fifth ≡ fourth ++ e → fifth ≡ a ++ (b ++ (c ++ (d ++ e)))
+five_parts start first second third fourth fifth a b c d e none one two three four five =
+    five ∙ ap (λ (s : List ℕ). s ++ e) (four_parts start first second third fourth a b c d none one two three four)
+    ∙ append_assoc a (b ++ (c ++ d)) e ∙ ap (λ (s : List ℕ). a ++ s) (append_assoc b (c ++ d) e ∙ ap (λ (s : List ℕ). b ++ s) (append_assoc c d e))

@@ -7,7 +7,7 @@ use Rattle.constraint_rec.specs.declared.fault.TermFault.{TermFault}
 use Rattle.constraint_rec.specs.declared.fault.TermFault.TheVariants.{Memory}
 use Rattle.constraint_rec.specs.declared.terms.Terms.{Terms}
 use Rattle.constraint_rec.specs.Hops.{constraint_of}
-use Rattle.constraint_rec.specs.Constraints.{no_terms, Item, Life, Confirmation, UseCount, Rules, item_text, IsItem, is_alike, with_item, with_items, IsConstraints}
+use Rattle.constraint_rec.specs.Constraints.{no_terms, Item, Life, Confirmation, UseCount, Rules, Purposes, item_text, IsItem, is_alike, with_item, with_items, IsConstraints}
 use Rattle.wire_core.specs.Readings.{◌>>=◌}
 use Rattle.constraint_rec.specs.Reading.{has_kind, next_at, terms_up_to, terms_of}
 use Rattle.constraint_rec.proofs.FieldLemmas.{nonempty_test}
@@ -89,6 +89,7 @@ some_text (Life seconds) = omega arith
 some_text Confirmation = omega arith
 some_text (UseCount uses) = omega arith
 some_text (Rules rules) = omega arith
+some_text (Purposes purposes) = omega arith
 
 -- by the number of constraints
 are_read : (count : ℕ) (terms : Terms) (bytes : List ℕ) (after : Terms) → IsBytes bytes → length bytes ≤ count →
@@ -127,19 +128,28 @@ has_kind-with terms (Life seconds) (Life others) fit = refl
 has_kind-with terms (Life seconds) Confirmation fit = refl
 has_kind-with terms (Life seconds) (UseCount uses) fit = refl
 has_kind-with terms (Life seconds) (Rules rules) fit = refl
+has_kind-with terms (Life seconds) (Purposes purposes) fit = refl
 has_kind-with terms Confirmation (Life seconds) fit = refl
 has_kind-with terms Confirmation Confirmation fit = refl
 has_kind-with terms Confirmation (UseCount uses) fit = refl
 has_kind-with terms Confirmation (Rules rules) fit = refl
+has_kind-with terms Confirmation (Purposes purposes) fit = refl
 has_kind-with terms (UseCount uses) (Life seconds) fit = refl
 has_kind-with terms (UseCount uses) Confirmation fit = refl
 has_kind-with terms (UseCount uses) (UseCount others) fit = refl
 has_kind-with terms (UseCount uses) (Rules rules) fit = refl
+has_kind-with terms (UseCount uses) (Purposes purposes) fit = refl
 has_kind-with terms (Rules rules) (Life seconds) fit = refl
 has_kind-with terms (Rules rules) Confirmation fit = refl
 has_kind-with terms (Rules rules) (UseCount uses) fit = refl
 has_kind-with terms (Rules rules) (Rules others) fit =
     rw (nonempty_test (map constraint_of others) (λ none. fit.some (unmapped others none))) refl
+has_kind-with terms (Rules rules) (Purposes purposes) fit = refl
+has_kind-with terms (Purposes purposes) (Life seconds) fit = refl
+has_kind-with terms (Purposes purposes) Confirmation fit = refl
+has_kind-with terms (Purposes purposes) (UseCount uses) fit = refl
+has_kind-with terms (Purposes purposes) (Rules rules) fit = refl
+has_kind-with terms (Purposes purposes) (Purposes others) fit = rw (nonempty_test others fit.some) refl
 
 -- constraints that are alike have one kind
 alike_kinds : (item other : Item) → is_alike item other ≡ true → kind_of item ≡ kind_of other
@@ -147,18 +157,27 @@ alike_kinds (Life seconds) (Life others) same = refl
 alike_kinds (Life seconds) Confirmation same = absurd cc
 alike_kinds (Life seconds) (UseCount uses) same = absurd cc
 alike_kinds (Life seconds) (Rules rules) same = absurd cc
+alike_kinds (Life seconds) (Purposes purposes) same = absurd cc
 alike_kinds Confirmation (Life seconds) same = absurd cc
 alike_kinds Confirmation Confirmation same = refl
 alike_kinds Confirmation (UseCount uses) same = absurd cc
 alike_kinds Confirmation (Rules rules) same = absurd cc
+alike_kinds Confirmation (Purposes purposes) same = absurd cc
 alike_kinds (UseCount uses) (Life seconds) same = absurd cc
 alike_kinds (UseCount uses) Confirmation same = absurd cc
 alike_kinds (UseCount uses) (UseCount others) same = refl
 alike_kinds (UseCount uses) (Rules rules) same = absurd cc
+alike_kinds (UseCount uses) (Purposes purposes) same = absurd cc
 alike_kinds (Rules rules) (Life seconds) same = absurd cc
 alike_kinds (Rules rules) Confirmation same = absurd cc
 alike_kinds (Rules rules) (UseCount uses) same = absurd cc
 alike_kinds (Rules rules) (Rules others) same = refl
+alike_kinds (Rules rules) (Purposes purposes) same = absurd cc
+alike_kinds (Purposes purposes) (Life seconds) same = absurd cc
+alike_kinds (Purposes purposes) Confirmation same = absurd cc
+alike_kinds (Purposes purposes) (UseCount uses) same = absurd cc
+alike_kinds (Purposes purposes) (Rules rules) same = absurd cc
+alike_kinds (Purposes purposes) (Purposes others) same = refl
 
 -- a constraint is like itself
 alike_itself : (item : Item) → is_alike item item ≡ true
@@ -166,6 +185,7 @@ alike_itself (Life seconds) = refl
 alike_itself Confirmation = refl
 alike_itself (UseCount uses) = refl
 alike_itself (Rules rules) = refl
+alike_itself (Purposes purposes) = refl
 
 -- one more constraint of a new kind counts once
 counted : (terms : Terms) (first item : Item) (items : List Item) (is : Bool) → IsItem first → is_alike item first ≡ is →
@@ -266,3 +286,4 @@ terms_are_read bytes terms is =
     none_had Confirmation once = omega arith
     none_had (UseCount uses) once = omega arith
     none_had (Rules rules) once = omega arith
+    none_had (Purposes purposes) once = omega arith

@@ -6,11 +6,12 @@ use Rattle.wire_core.specs.Fields.{uint32_at}
 use Rattle.constraint_rec.specs.declared.fault.TermFault.{TermFault}
 use Rattle.constraint_rec.specs.declared.fault.TermFault.TheVariants.{Short, Unknown, Twice, NoUses}
 use Rattle.constraint_rec.specs.declared.kind.Kind.{Kind}
-use Rattle.constraint_rec.specs.declared.kind.Kind.TheVariants.{Lifetime, Confirm, Uses, Destinations}
+use Rattle.constraint_rec.specs.declared.kind.Kind.TheVariants.{Lifetime, Confirm, Uses, Destinations, Purposes}
 use Rattle.constraint_rec.specs.declared.terms.Terms.{Terms}
-use Rattle.constraint_rec.specs.Constraints.{no_terms, restrict_destination, uses_name}
+use Rattle.constraint_rec.specs.Constraints.{no_terms, purposes_name, restrict_destination, uses_name}
 use Rattle.wire_core.specs.Readings.{◌>>=◌}
 use Rattle.constraint_rec.specs.HopReading.{is_empty, field_at, rules_in}
+use Rattle.constraint_rec.specs.PurposeReading.{purposes_in}
 
 -- ---- a row for each kind: its byte, whether terms have it, and its contents
 
@@ -19,6 +20,7 @@ abbrev pub kind_named : List ℕ × List ℕ → Result (Kind × List ℕ) TermF
 kind_named name =
     if bytes_eq name.0 restrict_destination then Ok (Destinations, name.1)
     else if bytes_eq name.0 uses_name then Ok (Uses, name.1)
+    else if bytes_eq name.0 purposes_name then Ok (Purposes, name.1)
     else Err Unknown
 
 -- the kind of the extension whose name is at the front, and the bytes that follow
@@ -40,6 +42,7 @@ has_kind terms Lifetime = is_some terms.life
 has_kind terms Confirm = terms.confirm
 has_kind terms Uses = is_some terms.uses
 has_kind terms Destinations = not (is_empty terms.rules)
+has_kind terms Purposes = not (is_empty terms.purposes)
 
 -- the terms with this lifetime, and the bytes that follow
 abbrev pub with_life : Terms → ℕ × List ℕ → Result (Terms × List ℕ) TermFault
@@ -61,12 +64,17 @@ with_uses terms uses = Ok (record terms { uses = Some uses.0 }, uses.1)
 abbrev pub with_rules : Terms → List ℕ × List ℕ → Result (Terms × List ℕ) TermFault
 with_rules terms contents = rules_in contents.0 >>= λ rules. Ok (record terms { rules = rules }, contents.1)
 
+-- the terms with the purposes that the contents are, and the bytes that follow
+abbrev pub with_purposes : Terms → List ℕ × List ℕ → Result (Terms × List ℕ) TermFault
+with_purposes terms contents = purposes_in contents.0 >>= λ purposes. Ok (record terms { purposes = purposes }, contents.1)
+
 -- the terms with what the contents of this kind say, and the bytes that follow
 unfoldable pub contents_at : Kind → Terms → List ℕ → Result (Terms × List ℕ) TermFault
 contents_at Lifetime terms bytes = ok_or (uint32_at bytes) Short >>= with_life terms
 contents_at Confirm terms bytes = Ok (record terms { confirm = true }, bytes)
 contents_at Uses terms bytes = uses_at bytes >>= with_uses terms
 contents_at Destinations terms bytes = field_at bytes >>= with_rules terms
+contents_at Purposes terms bytes = field_at bytes >>= with_purposes terms
 
 -- ---- one after another
 

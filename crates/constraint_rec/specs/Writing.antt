@@ -1,13 +1,15 @@
--- Constraints as they are written: lifetime, confirmation, number of uses, destination constraints, each
--- where it is there.
-use Rattle.std.specs.Prelude.{ℕ, ◌^◌, ◌<◌, Bool, true, false, List, [], ◌∷◌, ◌++◌, map, length, All, Option, Some, None, IfSome}
+-- Constraints as they are written: lifetime, confirmation, number of uses, destination constraints, purposes,
+-- each where it is there.
+use Rattle.std.specs.Prelude.{◌≢◌, ℕ, ◌^◌, ◌<◌, Bool, true, false, List, [], ◌∷◌, ◌++◌, map, length, All, Option, Some, None, IfSome}
 use Rattle.std.specs.List.{flat_map}
+use Rattle.key_purposes.specs.Purposes.{ArePurposes, word_of}
+use Rattle.key_purposes.specs.declared.purpose.Purpose.{Purpose}
 use Rattle.constraint_rec.specs.declared.key_spec.KeySpec.{KeySpec}
 use Rattle.constraint_rec.specs.declared.constraint.Hop.{Hop}
 use Rattle.constraint_rec.specs.declared.constraint.Constraint.{Constraint}
 use Rattle.constraint_rec.specs.declared.terms.Terms.{Terms}
 use Rattle.constraint_rec.specs.Hops.{SpeltKey, SpeltHop, SpeltConstraint, list_text, IsDestination}
-use Rattle.constraint_rec.specs.Constraints.{Item, Life, Confirmation, UseCount, Rules, IsUseCount, item_text}
+use Rattle.constraint_rec.specs.Constraints.{Item, Life, Confirmation, UseCount, Rules, Purposes, IsUseCount, item_text}
 
 -- ---- how they are spelled
 
@@ -51,23 +53,35 @@ abbrev pub rule_items : List Constraint → List Item
 rule_items [] = []
 rule_items (rule ∷ rules) = Rules (map spelt_constraint (rule ∷ rules)) ∷ []
 
+-- the purposes in one extension, where there are any
+abbrev pub purpose_items : List Purpose → List Item
+purpose_items [] = []
+purpose_items (purpose ∷ purposes) = Purposes (purpose ∷ purposes) ∷ []
+
 -- the constraints of the terms, in the order in which they are written
 abbrev pub items_of : Terms → List Item
 items_of terms =
-    life_items terms.life ++ (confirm_items terms.confirm ++ (use_items terms.uses ++ rule_items terms.rules))
+    life_items terms.life ++ (confirm_items terms.confirm ++ (use_items terms.uses ++ (rule_items terms.rules
+    ++ purpose_items terms.purposes)))
 
 -- the text of the terms
 unfoldable pub constraints_bytes : Terms → List ℕ
 constraints_bytes terms = flat_map item_text (items_of terms)
 
--- the number of uses and the destination constraints, each by itself, meet the rules of the format
+-- the purposes are named by their words, where there are any
+abbrev pub AreNamed : List Purpose → Type 0
+AreNamed purposes = purposes ≢ [] → ArePurposes (map word_of purposes) purposes
+
+-- the number of uses, the destination constraints and the purposes, each by itself, meet the rules of the format
 pub record MeetsRules (terms : Terms) : Type 0 where
   pub uses : IfSome terms.uses IsUseCount
   pub rules : All IsDestination terms.rules
+  pub purposes : AreNamed terms.purposes
 
--- the number of uses is one that a constraint may have, each destination constraint meets the rules of the format, and the
--- text of all fits its field, so that each text in it does
+-- the number of uses is one that a constraint may have, each destination constraint and the purposes meet the rules of the
+-- format, and the text of all destination constraints fits its field, so that each text in it does
 pub record IsWritable (terms : Terms) : Type 0 where
   pub uses : IfSome terms.uses IsUseCount
   pub rules : All IsDestination terms.rules
+  pub purposes : AreNamed terms.purposes
   pub short : length (list_text (map spelt_constraint terms.rules)) < 2 ^ 32

@@ -2,7 +2,9 @@
 
 ghost use Rattle.std.specs.Prelude.{◌≡◌};
 ghost use Rattle.constraint_rec.specs.declared.fault.TermFault.TheVariants.{Short as TooShort, Memory};
+ghost use Rattle.constraint_rec.specs.PurposeReading.{term_fault};
 
+use key_purposes::PurposeFault;
 use std::alloc::{AllocError, AllocFailed};
 use wire_core::Short;
 
@@ -31,6 +33,10 @@ pub enum TermFault {
     Memory = 10,
     /// The number of uses is 0.
     NoUses = 11,
+    /// The list of purposes is empty.
+    NoPurposes = 12,
+    /// A purpose is longer than 255 bytes, or none that is known, or comes again, or follows 64 others.
+    BadPurpose = 13,
 }
 
 impl From<Short> for TermFault {
@@ -38,6 +44,18 @@ impl From<Short> for TermFault {
 
     fn from(_short: Short) -> TermFault {
         TermFault::Short
+    }
+}
+
+impl From<PurposeFault> for TermFault {
+    ghost from_gives = { λ of_word fault. fault ≡ term_fault of_word };
+
+    fn from(fault: PurposeFault) -> TermFault {
+        match fault {
+            PurposeFault::Missing => TermFault::NoPurposes,
+            PurposeFault::Memory => TermFault::Memory,
+            _ => TermFault::BadPurpose,
+        }
     }
 }
 

@@ -1,7 +1,7 @@
 //! The kinds of constraints, and reading which one comes next, by draft-miller-ssh-agent.
 
 ghost use Rattle.std.specs.Prelude.{◌≡◌, ◌<◌, length, OnOk, MatchResult, Ok, Err};
-ghost use Rattle.constraint_rec.specs.Constraints.{restrict_destination, uses_name};
+ghost use Rattle.constraint_rec.specs.Constraints.{purposes_name, restrict_destination, uses_name};
 ghost use Rattle.constraint_rec.specs.Reading.{extension_at, kind_at};
 
 use crate::fault::TermFault;
@@ -14,6 +14,7 @@ pub enum Kind {
     Confirm,
     Uses,
     Destinations,
+    Purposes,
 }
 
 /// The name of the extension that holds destination constraints.
@@ -32,6 +33,14 @@ pub fn uses_name() -> &'static [u8]
     b"uses-v00@example.com".as_slice()
 }
 
+/// The name of the extension that holds purposes.
+#[tactic(auto, unfolding(crate::specs::Constraints::purposes_name))]
+pub fn purposes_name() -> &'static [u8]
+    ensures { result.now ≡ purposes_name }
+{
+    b"purposes-v00@example.com".as_slice()
+}
+
 /// Takes the name of an extension. A refused call may have moved the cursor.
 fn take_extension(from: &mut Cursor<'_>) -> Result<Kind, TermFault>
     ensures exact { MatchResult result (λ kind. extension_at from.old ≡ Ok (kind, from.new))
@@ -43,6 +52,8 @@ fn take_extension(from: &mut Cursor<'_>) -> Result<Kind, TermFault>
         Ok(Kind::Destinations)
     } else if name == uses_name() {
         Ok(Kind::Uses)
+    } else if name == purposes_name() {
+        Ok(Kind::Purposes)
     } else {
         Err(TermFault::Unknown)
     }

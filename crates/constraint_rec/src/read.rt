@@ -10,6 +10,7 @@ ghost use Rattle.constraint_rec.specs.Writing.{IsWritable};
 use crate::destination::read_destinations;
 use crate::fault::TermFault;
 use crate::kind::{Kind, take_kind};
+use crate::purposes::read_purposes;
 use crate::terms::Terms;
 use std::alloc::Global;
 use wire_core::Cursor;
@@ -23,6 +24,7 @@ fn has(terms: &Terms, kind: Kind) -> bool
         Kind::Confirm => terms.confirm,
         Kind::Uses => terms.uses.is_some(),
         Kind::Destinations => !terms.rules.is_empty(),
+        Kind::Purposes => !terms.purposes.is_empty(),
     }
 }
 
@@ -54,6 +56,7 @@ fn take_constraint(alloc: Global, from: &mut Cursor<'_>, terms: &mut Terms) -> R
         Kind::Confirm => terms.confirm = true,
         Kind::Uses => terms.uses = Some(take_uses(from)?),
         Kind::Destinations => terms.rules = read_destinations(alloc, from.take_string()?)?,
+        Kind::Purposes => terms.purposes = read_purposes(alloc, from.take_string()?)?,
     }
     Ok(())
 }

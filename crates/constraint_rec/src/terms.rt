@@ -1,9 +1,10 @@
-//! The constraints of one key together: lifetime, confirmation, uses and destinations.
+//! The constraints of one key together: lifetime, confirmation, uses, destinations and purposes.
 
 ghost use Rattle.std.specs.Prelude.{◌≡◌};
 ghost use Rattle.constraint_rec.specs.Constraints.{no_terms};
 
 use crate::constraint::Constraint;
+use key_purposes::Purpose;
 use plain_lists::PlainList;
 use std::alloc::Global;
 
@@ -18,6 +19,8 @@ pub struct Terms {
     pub uses: Option<u32>,
     /// Where the key may be used. Empty where it may be used anywhere.
     pub rules: PlainList<Constraint>,
+    /// What the key's signatures may be for. Empty where they may be for anything.
+    pub purposes: PlainList<Purpose>,
 }
 
 impl Terms {
@@ -30,6 +33,7 @@ impl Terms {
             confirm: false,
             uses: None,
             rules: PlainList::new(alloc),
+            purposes: PlainList::new(alloc),
         }
     }
 }

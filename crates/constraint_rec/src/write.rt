@@ -6,12 +6,14 @@ ghost use Rattle.wire_text.specs.Wire.{string};
 ghost use Rattle.constraint_rec.specs.Hops.{key_text, hop_text, constraint_text, list_text};
 ghost use Rattle.constraint_rec.specs.Constraints.{IsConstraints, item_text};
 ghost use Rattle.constraint_rec.specs.Reading.{terms_of};
-ghost use Rattle.constraint_rec.specs.Writing.{spelt_key, spelt_hop, spelt_constraint, life_items, confirm_items, use_items, rule_items, constraints_bytes, IsWritable};
+ghost use Rattle.constraint_rec.specs.Writing.{spelt_key, spelt_hop, spelt_constraint, life_items, confirm_items, use_items, rule_items, purpose_items, constraints_bytes, IsWritable, AreNamed};
 
 use crate::constraint::{Constraint, Hop};
 use crate::key_spec::KeySpec;
-use crate::kind::{restrict_destination, uses_name};
+use crate::kind::{purposes_name, restrict_destination, uses_name};
+use crate::purposes::purposes_text;
 use crate::terms::Terms;
+use key_purposes::Purpose;
 use std::alloc::{AllocError, Global};
 use wire_core::{put_string, put_u8, put_u32};
 
@@ -127,6 +129,20 @@ fn put_rules(out: &mut Vec<u8>, rules: &[Constraint]) -> Result<(), AllocError>
     Ok(())
 }
 
+fn put_purposes(out: &mut Vec<u8>, purposes: &[Purpose]) -> Result<(), AllocError>
+    requires { AreNamed purposes.now }
+    ensures { OnOk result (out.new.items
+        ≡ out.old.items ++ flat_map item_text (purpose_items purposes.now)) }
+{
+    if !purposes.is_empty() {
+        put_u8(out, 255)?;
+        put_string(out, purposes_name())?;
+        let text = purposes_text(*out.allocator(), purposes)?;
+        put_string(out, &text)?;
+    }
+    Ok(())
+}
+
 fn constraints_text(alloc: Global, terms: &Terms) -> Result<Vec<u8>, AllocError>
     requires { IsWritable terms.now }
     ensures ok { IfOk result (λ text. text.items ≡ constraints_bytes terms.now) }
@@ -137,11 +153,12 @@ fn constraints_text(alloc: Global, terms: &Terms) -> Result<Vec<u8>, AllocError>
     put_confirm(&mut text, terms.confirm)?;
     put_uses(&mut text, terms.uses)?;
     put_rules(&mut text, terms.rules.as_slice())?;
+    put_purposes(&mut text, terms.purposes.as_slice())?;
     Ok(text)
 }
 
-/// Appends the lifetime, confirmation, the number of uses and the destination constraints, each
-/// where it is there.
+/// Appends the lifetime, confirmation, the number of uses, the destination constraints and the purposes, each where it
+/// is there.
 pub fn write_constraints(out: &mut Vec<u8>, terms: &Terms) -> Result<(), AllocError>
     requires { IsWritable terms.now }
     ensures ok { OnOk result (out.new.items ≡ out.old.items ++ constraints_bytes terms.now) }

@@ -1,7 +1,7 @@
 -- What is visible and what is denied, by the newest binding.
-use Rattle.std.proofs.Common.{◌≡◌, ℕ, ◌-◌, ◌==◌, Bool, true, false, List, [], ◌∷◌, length, Option, Some, None, Ok, Err, refl, sym, ap, ◌∙◌, arith}
+use Rattle.std.proofs.Common.{◌≡◌, ◌<◌, ◌≤◌, cond, ℕ, ◌-◌, ◌==◌, Bool, true, false, List, [], ◌∷◌, length, Option, Some, None, Ok, Err, refl, sym, ap, ◌∙◌, arith}
 use Rattle.std.specs.Prelude.{◌&&◌, not, is_none}
-use Rattle.std.proofs.lemmas.Bool.{ne_eqb}
+use Rattle.std.proofs.lemmas.Bool.{le-ltb, lt-ltb, ne_eqb}
 use Rattle.std.proofs.lemmas.Bool.Decides.{nat_tests}
 use Rattle.constraint_rec.specs.declared.constraint.Constraint.{Constraint}
 use Rattle.constraint_rec.specs.HopReading.{is_empty}
@@ -11,7 +11,7 @@ use Rattle.userauth_blob.specs.declared.fault.AuthFault.{AuthFault}
 use Rattle.std.specs.List.{slice_get}
 use Rattle.dest_rule.proofs.ChainLemmas.{newest-last}
 use Rattle.dest_rule.specs.Chains.{Binding, newest, newest_after}
-use Rattle.dest_rule.specs.Rules.{Grounds, bad_place, bad_place_in, goes_on, visible, Denial, Unbound, NotUserAuth, BadHop, denial_of_newest, denial_of_place, denial_of_login, denial}
+use Rattle.dest_rule.specs.Rules.{Grounds, bad_place, bad_place_in, goes_on, visible, Denial, Unbound, NotUserAuth, LongUser, BadHop, denial_of_newest, denial_of_place, denial_of_login, denial}
 
 -- a list of some elements isn't empty
 not_empty : {A : Type 0} (x : A) (xs : List A) → is_empty (x ∷ xs) ≡ false
@@ -79,6 +79,18 @@ denial-no_login rules blob [] message wall binding fault is read = absurd cc
 denial-no_login rules blob (first ∷ later) message wall binding fault is read =
     ap (λ a. denial_of_login a rules wall first later) read
 
+-- one of a long user is denied
+pub denial-long_user : (rules : List Constraint) (blob : List ℕ) (chain : List Binding) (message : List ℕ)
+    (wall : ℕ) (binding : Binding) (auth : Login) → newest chain ≡ Some binding
+    → auth_of message blob ≡ Ok auth → 4096 < length auth.user
+    → denial rules blob chain message wall ≡ Some LongUser
+unfolding denial
+denial-long_user rules blob [] message wall binding auth is read long = absurd cc
+denial-long_user rules blob (first ∷ later) message wall binding auth is read long =
+    let rest = denial_of_place (bad_place (on_login rules auth.user wall) first later) auth first later in
+    ap (λ a. denial_of_login a rules wall first later) read
+    ∙ ap (λ b. cond b (Some LongUser) rest) (lt-ltb _ _ long)
+
 -- nothing is behind the only binding
 only_one : (first : Binding) (later : List Binding) → is_empty later ≡ (length (first ∷ later) == 1)
 only_one first later = grind (arith, nat_tests)
@@ -95,11 +107,13 @@ by_place None auth first later binding is =
 -- a login is, by the place and the newest binding
 pub denial-login : (rules : List Constraint) (blob : List ℕ) (chain : List Binding) (message : List ℕ)
     (wall : ℕ) (binding : Binding) (auth : Login) → newest chain ≡ Some binding
-    → auth_of message blob ≡ Ok auth → denial rules blob chain message wall
+    → auth_of message blob ≡ Ok auth → length auth.user ≤ 4096 → denial rules blob chain message wall
     ≡ denial_by_place (bad_place_in (on_login rules auth.user wall) chain) auth binding (length chain == 1)
 unfolding denial
-denial-login rules blob [] message wall binding auth is read = absurd cc
-denial-login rules blob (first ∷ later) message wall binding auth is read =
+denial-login rules blob [] message wall binding auth is read short = absurd cc
+denial-login rules blob (first ∷ later) message wall binding auth is read short =
+    let rest = denial_of_place (bad_place (on_login rules auth.user wall) first later) auth first later in
     let last : newest_after first later ≡ binding = cc in
     ap (λ a. denial_of_login a rules wall first later) read
+    ∙ ap (λ b. cond b (Some LongUser) rest) (le-ltb _ _ short)
     ∙ by_place (bad_place (on_login rules auth.user wall) first later) auth first later binding last

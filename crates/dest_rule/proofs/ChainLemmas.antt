@@ -3,13 +3,13 @@ use Rattle.std.proofs.Common.{◌≡◌, ℕ, zero, suc, ◌-◌, ◌+◌, ◌<�
 use Rattle.std.specs.Prelude.{All, IsOk, ◌≢◌, ◌↔◌}
 use Rattle.std.specs.List.{slice_get, sum_by}
 use Rattle.std.specs.Str.{bytes_eq}
-use Rattle.std.proofs.lemmas.Bool.{leb-true, ltb-true}
+use Rattle.std.proofs.lemmas.Bool.{and_parts, leb-true, ltb-true}
 use Rattle.std.proofs.lemmas.Slice.Eq.{bytes_eq-Decides}
 use Rattle.std.proofs.lemmas.List.Elements.{All-append}
 use Rattle.std.proofs.lemmas.List.Sums.{sum_by_push}
 use Rattle.wire_text.specs.Bounds.{longest_body}
 use Rattle.key_blob.specs.PublicKeys.{public_key_of}
-use Rattle.dest_rule.specs.Chains.{Binding, New, Same, Refuse, ChainFull, OtherKey, SessionLength, newest, newest_after, find_session, has_room, is_open, is_session, judge_known, judge_open, judge, bound, IsChain, most_bindings}
+use Rattle.dest_rule.specs.Chains.{Binding, New, Same, Refuse, ChainFull, OtherKey, SessionLength, newest, newest_after, find_session, has_room, is_open, is_session, judge_known, judge_open, judge, bound, IsChain, most_bindings, most_names, names_len}
 
 -- the newest binding stands at the end
 newest_at : (first : Binding) (later : List Binding)
@@ -65,16 +65,14 @@ pub new_has_room : (host_key session : List ℕ) (chain : List Binding)
 unfolding judge
 new_has_room host_key session chain new = session_has_room _ host_key session chain new
 
--- with room there are fewer than 16, and the host keys with this one are small
+-- with room there are fewer than 16, and the host keys with this one are small and name few
 room_is : (host_key : List ℕ) (chain : List Binding) → has_room host_key chain ≡ true
     → (length chain < most_bindings) × (length host_key + sum_by (λ one. length one.host_key) chain ≤ longest_body)
+    × (names_len (public_key_of host_key) + sum_by (λ one. names_len (public_key_of one.host_key)) chain ≤ most_names)
 room_is host_key chain room =
-    let both = by_tests (nat_lt (length chain) most_bindings) _ room in
-    (ltb-true _ _ both.0, leb-true _ _ both.1)
-  where
-    by_tests : (few small : Bool) → (few && small) ≡ true → (few ≡ true) × (small ≡ true)
-    by_tests true small is = (refl, is)
-    by_tests false small is = absurd cc
+    let named = and_parts _ _ room in
+    let both = and_parts _ _ named.0 in
+    (ltb-true _ _ both.0, leb-true _ _ both.1, leb-true _ _ named.1)
 
 -- a chain stays one with a new binding
 pub IsChain-bound : (chain : List Binding) (binding : Binding) → IsChain chain
@@ -85,6 +83,7 @@ IsChain-bound chain binding is new key =
     record {
       few = omega (arith, room.0, length-append chain (binding ∷ []));
       small = omega (arith, room.1, sum_by_push (λ (one : Binding). length one.host_key) chain binding);
+      named = omega (arith, room.2, sum_by_push (λ (one : Binding). names_len (public_key_of one.host_key)) chain binding);
       keys = All-append (λ one. IsOk (public_key_of one.host_key)) chain (binding ∷ []) is.keys
           (all_one (λ one. IsOk (public_key_of one.host_key)) binding key);
     }

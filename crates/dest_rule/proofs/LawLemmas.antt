@@ -1,7 +1,7 @@
 -- What the laws say of hops, sessions and logins.
-use Rattle.std.proofs.Common.{◌≡◌, ◌≢◌, ◌==◌, ℕ, suc, Bool, true, false, List, [], ◌∷◌, length, Option, Some, None, Result, Ok, Err, refl, sym, ap, ◌∙◌, subst, cond}
+use Rattle.std.proofs.Common.{◌≡◌, ◌≢◌, ◌==◌, ◌≤◌, nat_lt, ℕ, suc, Bool, true, false, List, [], ◌∷◌, length, Option, Some, None, Result, Ok, Err, refl, sym, ap, ◌∙◌, subst, cond}
 use Rattle.std.specs.List.{list_any, slice_get}
-use Rattle.std.proofs.lemmas.Bool.{both_ways, and_parts, and_left, or_from}
+use Rattle.std.proofs.lemmas.Bool.{ltb-false, both_ways, and_parts, and_left, or_from}
 use Rattle.std.proofs.lemmas.Option.{slice_get_within}
 use Rattle.std.proofs.lemmas.Slice.Eq.{bytes_eq-Decides}
 use Rattle.key_blob.specs.PublicKeys.{KeyParts, public_key_of}
@@ -12,7 +12,7 @@ use Rattle.userauth_blob.specs.UserAuths.{Login}
 use Rattle.userauth_blob.specs.Reading.{auth_of}
 use Rattle.userauth_blob.specs.declared.fault.AuthFault.{AuthFault}
 use Rattle.dest_rule.specs.Chains.{Binding, newest_after}
-use Rattle.dest_rule.specs.Rules.{Grounds, fits_key, fits_hop, is_hop, is_pair, on_the_way, is_good, bad_place_from, bad_place, permits_way, visible, Denial, OtherSession, denial_of_newest, denial_of_place, denial_of_login, denial}
+use Rattle.dest_rule.specs.Rules.{Grounds, fits_key, fits_hop, is_hop, is_pair, on_the_way, is_good, bad_place_from, bad_place, permits_way, visible, Denial, LongUser, OtherSession, denial_of_newest, denial_of_place, denial_of_login, denial}
 use Rattle.constraint_rec.specs.HopReading.{is_empty}
 use Rattle.dest_rule.specs.Places.{key_before, is_good_there, is_good_at, IsPlaceIn}
 use Rattle.dest_rule.proofs.OrderLemmas.{by_rules, none_bad, is_pair-anyone, login_is_a_way}
@@ -92,6 +92,21 @@ signed_place : (place : Option ℕ) (auth : Login) (first : Binding) (later : Li
 signed_place (Some place) auth first later none = absurd cc
 signed_place None auth first later none = (refl, none)
 
+-- a login that isn't denied has a short user
+signed_short : (long : Bool) (rest : Option Denial) → cond long (Some LongUser) rest ≡ None
+    → (long ≡ false) × (rest ≡ None)
+signed_short true rest none = absurd cc
+signed_short false rest none = (refl, none)
+
+-- the same of one that was read, and what holds of its place
+signed_user : (rules : List Constraint) (wall : ℕ) (first : Binding) (later : List Binding) (auth : Login)
+    → denial_of_login (Ok auth) rules wall first later ≡ None
+    → (length auth.user ≤ 4096)
+    × (denial_of_place (bad_place (by_rules rules (Some auth.user) wall) first later) auth first later ≡ None)
+signed_user rules wall first later auth none =
+    let both = signed_short (nat_lt 4096 (length auth.user)) _ none in
+    (ltb-false _ _ both.0, both.1)
+
 -- a session that isn't another
 signed_session : (same : Bool) (rest : Option Denial) → cond same rest (Some OtherSession) ≡ None → same ≡ true
 signed_session true rest none = refl
@@ -104,7 +119,8 @@ signed_login : (read : Result Login AuthFault) (rules : List Constraint) (wall :
     → (bad_place (by_rules rules (Some auth.user) wall) first later ≡ None)
     × (denial_of_newest auth (newest_after first later) (is_empty later) ≡ None)
 signed_login read rules wall first later auth is none =
-    signed_place _ auth first later (ap (λ r. denial_of_login r rules wall first later) (sym is) ∙ none)
+    signed_place _ auth first later (signed_user rules wall first later auth
+    (ap (λ r. denial_of_login r rules wall first later) (sym is) ∙ none)).1
 
 -- the session is the newest
 pub signed_is_newest : (rules : List Constraint) (blob : List ℕ) (first : Binding) (later : List Binding)
@@ -114,6 +130,15 @@ unfolding denial
 signed_is_newest rules blob first later message wall auth none is =
     let newest = signed_login (auth_of message blob) rules wall first later auth is none in
     (bytes_eq-Decides auth.session (newest_after first later).session).0 (signed_session _ _ newest.1)
+
+-- the user has at most 4096 bytes
+pub signed_user_is_short : (rules : List Constraint) (blob : List ℕ) (chain : List Binding)
+    (message : List ℕ) (wall : ℕ) (auth : Login) → denial rules blob chain message wall ≡ None
+    → auth_of message blob ≡ Ok auth → length auth.user ≤ 4096
+unfolding denial
+signed_user_is_short rules blob [] message wall auth none is = absurd cc
+signed_user_is_short rules blob (first ∷ later) message wall auth none is =
+    (signed_user rules wall first later auth (ap (λ r. denial_of_login r rules wall first later) (sym is) ∙ none)).0
 
 -- without a binding there is a denial
 pub unbound_is_denied : (rules : List Constraint) (blob message : List ℕ) (wall : ℕ)
@@ -135,7 +160,8 @@ signed_way : (read : Result Login AuthFault) (rules : List Constraint) (wall : �
     (later : List Binding) → denial_of_login read rules wall first later ≡ None
     → permits_way (by_rules rules None wall) first later ≡ true
 signed_way (Ok auth) rules wall first later none =
-    login_is_a_way rules auth.user wall first later (signed_place _ auth first later none).0
+    login_is_a_way rules auth.user wall first later
+    (signed_place _ auth first later (signed_user rules wall first later auth none).1).0
 signed_way (Err fault) rules wall first later none = absurd cc
 
 -- so its key is visible

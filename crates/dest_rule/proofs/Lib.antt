@@ -1,4 +1,5 @@
 pub mod ChainLemmas
+pub mod HopLemmas
 pub mod PlaceLemmas
 pub mod AnswerLemmas
 pub mod OrderLemmas

@@ -1,7 +1,7 @@
 -- Whether destination constraints permit a chain of bindings, and with it the use of a key (ours,
 -- over the records of OpenSSH's PROTOCOL.agent, "restrict-destination-v00@openssh.com key constraint
 -- extension").
-use Rattle.std.specs.Prelude.{ℕ, suc, Bool, true, false, not, List, [], ◌∷◌, Option, Some, None, Result, Ok, Err, is_none, ◌&&◌, ◌||◌, if◌then◌else◌}
+use Rattle.std.specs.Prelude.{ℕ, suc, Bool, true, false, not, nat_lt, List, [], ◌∷◌, length, Option, Some, None, Result, Ok, Err, is_none, ◌&&◌, ◌||◌, if◌then◌else◌}
 use Rattle.std.specs.List.{list_any}
 use Rattle.std.specs.Str.{bytes_eq}
 use Rattle.pattern_core.specs.Patterns.{is_match, is_nothing}
@@ -19,7 +19,7 @@ use Rattle.dest_rule.specs.Chains.{Binding, newest_after}
 use Rattle.key_blob.specs.Validity.{is_valid}
 -- why an identity under constraints isn't used
 pub use Rattle.dest_rule.specs.declared.denial.Denial.{Denial}
-pub use Rattle.dest_rule.specs.declared.denial.Denial.TheVariants.{Unbound, NotUserAuth, Hop as BadHop, OtherSession, NoHostKey, OtherHostKey}
+pub use Rattle.dest_rule.specs.declared.denial.Denial.TheVariants.{Unbound, NotUserAuth, LongUser, Hop as BadHop, OtherSession, NoHostKey, OtherHostKey}
 
 -- ---- a hop
 
@@ -162,13 +162,14 @@ denial_of_place (Some place) login binding later = Some (BadHop place)
 denial_of_place None login binding later =
     denial_of_newest login (newest_after binding later) (is_empty later)
 
--- why a message that was read isn't permitted: it has to be a login
+-- why a message that was read isn't permitted: it has to be a login, of a user of at most 4096 bytes (ours)
 abbrev pub denial_of_login : Result Login AuthFault → List Constraint → ℕ → Binding → List Binding
     → Option Denial
 denial_of_login (Err fault) rules wall binding later = Some (NotUserAuth fault)
 denial_of_login (Ok login) rules wall binding later =
     let grounds : Grounds = record { rules = rules; user = Some login.user; wall = wall } in
-    denial_of_place (bad_place grounds binding later) login binding later
+    if nat_lt 4096 (length login.user) then Some LongUser
+    else denial_of_place (bad_place grounds binding later) login binding later
 
 -- why the key of this blob, under these constraints, isn't to sign the message for a connection so
 -- bound

@@ -73,8 +73,12 @@ ending host_key session = record { host_key = host_key; session = session; forwa
 abbrev pub for_root : List Constraint → ℕ → Grounds
 for_root rules wall = record { rules = rules; user = Some (codes "root"); wall = wall }
 
--- what the key 1 signs for `root` to log in to a session, bound to a host key or not
-abbrev pub login_of : List ℕ → Option (List ℕ) → List ℕ
-login_of session host_key =
-    signed_text (record { session = session; user = codes "root"; host_key = host_key })
+-- what the key 1 signs for a user to log in to a session, bound to a host key or not
+abbrev pub login_as : List ℕ → List ℕ → Option (List ℕ) → List ℕ
+login_as user session host_key =
+    signed_text (record { session = session; user = user; host_key = host_key })
     (codes "ssh-ed25519") (key 1)
+
+-- the same for `root`
+abbrev pub login_of : List ℕ → Option (List ℕ) → List ℕ
+login_of session host_key = login_as (codes "root") session host_key

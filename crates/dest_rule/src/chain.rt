@@ -5,10 +5,11 @@ ghost use Rattle.std.specs.List.{sum_by};
 ghost use Rattle.std.specs.Option.{option_copied};
 ghost use Rattle.wire_text.specs.Bounds.{longest_body};
 ghost use Rattle.key_blob.specs.PublicKeys.{public_key_of};
-ghost use Rattle.dest_rule.specs.Chains.{IsChain, New, has_room, is_session, newest, find_session, is_open, judge, bound, no_chain};
+ghost use Rattle.dest_rule.specs.Chains.{IsChain, New, has_room, most_names, names_len, is_session, newest, find_session, is_open, judge, bound, no_chain};
 
 use crate::binding::Binding;
 use crate::fault::{ChainFault, Next};
+use key_blob::read_public;
 use plain_lists::Bytes;
 use std::alloc::{AllocError, Global};
 use std::marker::Model;
@@ -18,6 +19,9 @@ const MOST_BINDINGS: usize = 16;
 
 /// The most bytes of all host keys of a connection's bindings.
 const MOST_KEY_BYTES: usize = 262_144;
+
+/// The most bytes of principals of all host keys of a connection's bindings.
+const MOST_NAMES: usize = 1024;
 
 /// The longest session identifier, in bytes.
 const LONGEST_SESSION: usize = 128;
@@ -83,12 +87,39 @@ fn host_keys_len(bindings: &[Binding]) -> usize
     len
 }
 
+/// How many bytes of principals a host key's certificate names, where it is one.
+fn names_len(host_key: &[u8]) -> usize
+    ensures { result ≡ names_len (public_key_of host_key.now) }
+{
+    let Ok(key) = read_public(host_key) else {
+        return 0;
+    };
+    match key.certificate {
+        Some(certificate) => certificate.principals.len(),
+        None => 0,
+    }
+}
+
+/// How many bytes of principals the host keys of these name in all.
+fn all_names_len(bindings: &[Binding]) -> usize
+    requires { sum_by (λ one. names_len (public_key_of one.host_key)) bindings.now ≤ most_names }
+    ensures { result ≡ sum_by (λ one. names_len (public_key_of one.host_key)) bindings.now }
+{
+    let mut len = 0;
+    for binding in bindings {
+        len += names_len(binding.host_key.as_slice());
+    }
+    len
+}
+
 /// Whether these have room for one more, of this host key.
 fn has_room(bindings: &[Binding], host_key: &[u8]) -> bool
     requires { IsChain bindings.now }
     ensures { result ≡ has_room host_key.now bindings.now }
 {
-    bindings.len() < MOST_BINDINGS && host_key.len() <= MOST_KEY_BYTES - host_keys_len(bindings)
+    bindings.len() < MOST_BINDINGS
+        && host_key.len() <= MOST_KEY_BYTES - host_keys_len(bindings)
+        && names_len(host_key) <= MOST_NAMES - all_names_len(bindings)
 }
 
 /// A binding of these parts.
@@ -175,7 +206,7 @@ impl Chain {
         Ok(())
     }
 
-    /// The bindings, lent: at most 16, with at most 262144 bytes of host keys in all.
+    /// The bindings, lent: at most 16, with at most 262144 bytes of host keys and 1024 of principals in all.
     pub(crate) fn bindings(&self) -> &[Binding]
         ensures value { result.now ≡ self.now.bindings }
         ensures chain { IsChain self.now.bindings }

@@ -12,6 +12,8 @@ pub enum Denial {
     Unbound,
     /// The message is no login by this key.
     NotUserAuth(AuthFault),
+    /// The login's user has more than 4096 bytes.
+    LongUser,
     /// The constraints don't permit the hop to the host at this place of the chain, from 0, or what
     /// follows doesn't suit its forwarding.
     Hop { place: u32 },

@@ -1,6 +1,6 @@
 //! Laws of chains and constraints, beside the calls.
 
-ghost use Rattle.std.specs.Prelude.{◌≡◌, ◌≢◌, ◌↔◌, ◌<◌, ℕ, Bool, true, List, [], ◌∷◌, length, Contains, Option, Some, None, Ok, IsOk};
+ghost use Rattle.std.specs.Prelude.{◌≡◌, ◌≢◌, ◌↔◌, ◌<◌, ◌≤◌, ℕ, Bool, true, List, [], ◌∷◌, length, Contains, Option, Some, None, Ok, IsOk};
 ghost use Rattle.std.specs.List.{slice_get};
 ghost use Rattle.key_blob.specs.PublicKeys.{public_key_of};
 ghost use Rattle.userauth_blob.specs.UserAuths.{Login};
@@ -78,6 +78,13 @@ pub fn only_the_newest_session_is_signed_for()
         (message : List ℕ) (wall : ℕ) (auth : Login)
         → denial rules blob (first ∷ later) message wall ≡ None → auth_of message blob ≡ Ok auth
         → auth.session ≡ (newest_after first later).session }
+{}
+
+/// No login of a user of more than 4096 bytes is signed.
+pub fn a_long_user_is_not_signed_for()
+    ensures { (rules : List Constraint) (blob : List ℕ) (chain : List Binding) (message : List ℕ)
+        (wall : ℕ) (auth : Login) → denial rules blob chain message wall ≡ None
+        → auth_of message blob ≡ Ok auth → length auth.user ≤ 4096 }
 {}
 
 /// Nothing is signed for a connection that is bound to no host.

@@ -20,10 +20,10 @@ pub use denial::Denial;
 pub use fault::{ChainFault, Next};
 pub use laws::{
     a_bad_place_is_the_least, a_chain_has_room_for_what_is_new, a_known_session_is_never_new,
-    every_hop_is_permitted_by_a_constraint, from_the_origin_alone_there_is_no_second_hop,
-    more_constraints_permit_no_less, nothing_is_signed_for_an_unbound_connection,
-    only_the_newest_session_is_signed_for, the_mark_counts_only_without_bindings,
-    what_may_be_signed_is_visible,
+    a_long_user_is_not_signed_for, every_hop_is_permitted_by_a_constraint,
+    from_the_origin_alone_there_is_no_second_hop, more_constraints_permit_no_less,
+    nothing_is_signed_for_an_unbound_connection, only_the_newest_session_is_signed_for,
+    the_mark_counts_only_without_bindings, what_may_be_signed_is_visible,
 };
 pub use rows::{
     a_certificate_counts_for_its_host_in_time, a_key_is_visible_where_it_leads_on,

@@ -2,8 +2,8 @@
 
 ghost use Rattle.std.specs.Prelude.{◌≡◌, true, false, [], ◌∷◌, codes, replicate, Some, None};
 ghost use Rattle.dest_rule.specs.Chains.{New, Same, Refuse, AuthBound, OtherKey, ChainFull, SessionLength, judge};
-ghost use Rattle.dest_rule.specs.Rules.{bad_place, visible, OtherSession, NoHostKey, OtherHostKey, BadHop, denial};
-ghost use Rattle.dest_rule.specs.Samples.{key, certificate_for, origin, known, known_for, certified, to_go, passing, ending, for_root, login_of};
+ghost use Rattle.dest_rule.specs.Rules.{bad_place, visible, OtherSession, NoHostKey, OtherHostKey, BadHop, LongUser, denial};
+ghost use Rattle.dest_rule.specs.Samples.{key, certificate_for, origin, known, known_for, certified, to_go, passing, ending, for_root, login_as, login_of};
 
 /// The hops on the way count, and not only the newest; so do users, and the end that is left.
 pub fn each_hop_counts()
@@ -44,7 +44,7 @@ pub fn a_certificate_counts_for_its_host_in_time()
         (ending (certificate_for (codes "scylla.example.org")) (5 ∷ [])) [] ≡ Some 0 }
 {}
 
-/// A login is to the newest session, and bound to its host key.
+/// A login is to the newest session, and bound to its host key; its user has 4096 bytes at most.
 pub fn a_login_is_to_the_newest_host()
     ensures permitted { denial (to_go origin (known 2) ∷ to_go (known 2) (known 3) ∷ []) (key 1)
         (passing (key 2) (5 ∷ []) ∷ ending (key 3) (6 ∷ []) ∷ [])
@@ -63,10 +63,14 @@ pub fn a_login_is_to_the_newest_host()
     ensures hop { denial (to_go origin (known 2) ∷ []) (key 1)
         (passing (key 2) (5 ∷ []) ∷ ending (key 3) (6 ∷ []) ∷ [])
         (login_of (5 ∷ []) (Some (key 3))) 0 ≡ Some (BadHop 1) }
+    ensures long { denial (to_go origin (known 2) ∷ []) (key 1) (ending (key 3) (5 ∷ []) ∷ [])
+        (login_as (replicate 4097 7) (6 ∷ []) None) 0 ≡ Some LongUser }
+    ensures longest { denial (to_go origin (known 2) ∷ []) (key 1) (ending (key 2) (5 ∷ []) ∷ [])
+        (login_as (replicate 4096 7) (5 ∷ []) None) 0 ≡ None }
 {}
 
-/// Sessions have 1 to 128 bytes, a chain has 16 bindings at most and 262144 bytes of host keys, and
-/// nothing follows a login.
+/// Sessions have 1 to 128 bytes, a chain has 16 bindings at most, 262144 bytes of host keys and 1024 of
+/// principals, and nothing follows a login.
 pub fn bindings_are_judged_in_order()
     ensures new { judge (key 2) (replicate 128 7) [] ≡ New }
     ensures long { judge (key 2) (replicate 129 7) [] ≡ Refuse SessionLength }
@@ -82,6 +86,10 @@ pub fn bindings_are_judged_in_order()
         (replicate 15 (passing (replicate 17472 7) (5 ∷ []))) ≡ Refuse ChainFull }
     ensures fits { judge (replicate 64 7) (6 ∷ [])
         (replicate 15 (passing (replicate 17472 7) (5 ∷ []))) ≡ New }
+    ensures named { judge (certificate_for (replicate 509 7)) (6 ∷ [])
+        (passing (certificate_for (replicate 508 7)) (5 ∷ []) ∷ []) ≡ Refuse ChainFull }
+    ensures names_fit { judge (certificate_for (replicate 508 7)) (6 ∷ [])
+        (passing (certificate_for (replicate 508 7)) (5 ∷ []) ∷ []) ≡ New }
 {}
 
 /// A key is visible where it can be used, or could be behind the newest host.

@@ -11,6 +11,9 @@ use crate::grounds::Grounds;
 use constraint_rec::Constraint;
 use userauth_blob::{UserAuth, read_userauth};
 
+/// The longest user of a login, in bytes: each is tried against the pattern of each constraint.
+const LONGEST_USER: usize = 4096;
+
 /// Whether an identity under these constraints is listed to a connection, and may be replaced and
 /// removed by it, at `wall`, in seconds since 1970.
 ///
@@ -56,8 +59,8 @@ fn check_newest(auth: &UserAuth<'_>, newest: &Binding, is_only: bool) -> Result<
 /// Whether the key of this blob, which has these constraints, may sign `message` for a connection
 /// at `wall`, in seconds since 1970.
 ///
-/// It may where the message is a login to the newest host that the connection is bound to, and the
-/// constraints permit each hop on the way there, and the user at its end. For no constraints
+/// It may where the message is a login to the newest host that the connection is bound to, of a user of
+/// at most 4096 bytes, and the constraints permit each hop on the way there, and the user at its end. For no constraints
 /// nothing is permitted: a key that has none isn't asked about.
 pub fn may_sign(
     rules: &[Constraint],
@@ -74,6 +77,9 @@ pub fn may_sign(
         return Err(Denial::Unbound);
     };
     let auth = read_userauth(message, blob)?;
+    if auth.user.len() > LONGEST_USER {
+        return Err(Denial::LongUser);
+    }
     let grounds = Grounds {
         rules,
         user: Some(auth.user),

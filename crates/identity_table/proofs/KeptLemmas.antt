@@ -149,12 +149,14 @@ kept_after new keys others len blob true is_blob is_len all fits =
 kept_after new keys others len blob false is_blob is_len all over =
     omega (arith, kept_len-put new keys, is_len, subst (λ (b : List ℕ). others + kept_if (find_identity b keys) ≡ kept_len keys) (sym is_blob) all, over)
 
--- what one takes, by its private string's length and its constraints
-pub kept_by-parts : (new : HeldKey) (private : ℕ) (rules : List Constraint) → length new.private ≡ private → new.rules ≡ rules →
-    kept_by new ≡ private + sum_by (λ (rule : Constraint). hop_len rule.from + hop_len rule.to) rules
-kept_by-parts new private rules is_private is_rules =
-    ap (λ (n : ℕ). n + sum_by (λ (rule : Constraint). hop_len rule.from + hop_len rule.to) new.rules) is_private
-    ∙ ap (λ (all : List Constraint). private + sum_by (λ (rule : Constraint). hop_len rule.from + hop_len rule.to) all) is_rules
+-- what one takes, by the lengths of its private string and its purposes, and its constraints
+pub kept_by-parts : (new : HeldKey) (private purposes : ℕ) (rules : List Constraint) → length new.private ≡ private →
+    length new.purposes ≡ purposes → new.rules ≡ rules →
+    kept_by new ≡ private + 320 * purposes + sum_by (λ (rule : Constraint). hop_len rule.from + hop_len rule.to) rules
+kept_by-parts new private purposes rules is_private are_purposes is_rules =
+    ap (λ (n : ℕ). n + 320 * length new.purposes + sum_by (λ (rule : Constraint). hop_len rule.from + hop_len rule.to) new.rules) is_private
+    ∙ ap (λ (n : ℕ). private + 320 * n + sum_by (λ (rule : Constraint). hop_len rule.from + hop_len rule.to) new.rules) are_purposes
+    ∙ ap (λ (all : List Constraint). private + 320 * purposes + sum_by (λ (rule : Constraint). hop_len rule.from + hop_len rule.to) all) is_rules
 
 -- they aren't where one message lists them and they take no more than 8 MiB
 pub room_for_all : (keys : List HeldKey) → answer_len keys ≤ max_answer → kept_len keys ≤ 8388608 → is_full keys ≡ false

@@ -1,6 +1,6 @@
 -- The identities that an agent holds (draft-miller-ssh-agent, "Adding keys to the agent"). That they
 -- are a list in order of first addition is as in OpenSSH's ssh-agent.
-use Rattle.std.specs.Prelude.{◌≡◌, ℕ, ◌+◌, ◌-◌, ◌≤◌, ◌==◌, nat_lt, ◌||◌, Bool, List, [], ◌∷◌, length, filter, Option, Some, None, IfSome, if◌then◌else◌}
+use Rattle.std.specs.Prelude.{◌≡◌, ℕ, ◌+◌, ◌*◌, ◌-◌, ◌≤◌, ◌==◌, nat_lt, ◌||◌, Bool, List, [], ◌∷◌, length, filter, Option, Some, None, IfSome, if◌then◌else◌}
 use Rattle.std.specs.List.{find, sum_by}
 use Rattle.std.specs.Str.{bytes_eq}
 use Rattle.wire_text.specs.Bounds.{longest_body}
@@ -9,6 +9,7 @@ use Rattle.lists.specs.Keyed.{find_by}
 use Rattle.constraint_rec.specs.declared.constraint.Constraint.{Constraint}
 use Rattle.constraint_rec.specs.declared.constraint.Hop.{Hop}
 use Rattle.constraint_rec.specs.declared.terms.Terms.{Terms}
+use Rattle.key_purposes.specs.declared.purpose.Purpose.{Purpose}
 use Rattle.key_blob.specs.declared.added.AddedKey.{AddedKey}
 use Rattle.identity_table.specs.Deaths.{death_of, lives_at, on_clock, earlier}
 
@@ -22,6 +23,7 @@ pub record HeldKey : Type 0 where
   pub confirm : Bool
   pub uses : Option ℕ
   pub rules : List Constraint
+  pub purposes : List Purpose
 
 -- the identities in order of first addition, the greatest second given, the last number given, and
 -- the lifetime of those that come without one
@@ -117,14 +119,17 @@ max_answer = longest_body
 
 -- ---- the room that they take (ours)
 
--- what a hop takes: its user and its host, each of its keys, and 64 bytes more for it and for each
+-- what a hop takes: its user, its host eight times, since each list may hold it against principals, each
+-- of its keys, and 64 bytes more for it and for each
 abbrev pub hop_len : Hop → ℕ
 hop_len hop =
-    64 + length hop.user + length hop.host + sum_by (λ key. 64 + length key.blob) hop.keys
+    64 + length hop.user + 8 * length hop.host + sum_by (λ key. 64 + length key.blob) hop.keys
 
--- what an identity takes, beside its entry: its private string and the hops of its constraints
+-- what an identity takes, beside its entry: its private string, 320 bytes for each of its purposes, which is more
+-- than one has, and the hops of its constraints
 abbrev pub kept_by : HeldKey → ℕ
-kept_by key = length key.private + sum_by (λ rule. hop_len rule.from + hop_len rule.to) key.rules
+kept_by key =
+    length key.private + 320 * length key.purposes + sum_by (λ rule. hop_len rule.from + hop_len rule.to) key.rules
 
 -- how much one takes, where it is there
 abbrev pub kept_if : Option HeldKey → ℕ
@@ -190,6 +195,7 @@ identity_of number key comment death terms = record {
   confirm = terms.confirm;
   uses = terms.uses;
   rules = terms.rules;
+  purposes = terms.purposes;
 }
 
 -- the identity that an addition at this second makes

@@ -7,6 +7,7 @@ ghost use Rattle.identity_table.specs.Deaths.{on_clock};
 use crate::deadline::Deadline;
 use constraint_rec::{Constraint, Terms};
 use key_blob::AddedKey;
+use key_purposes::Purpose;
 use plain_lists::{Bytes, PlainList};
 use secret_buf::SecretBytes;
 use std::alloc::{AllocError, Global};
@@ -31,6 +32,7 @@ struct Held {
     confirm: bool,
     uses: Option<u32>,
     rules: PlainList<Constraint>,
+    purposes: PlainList<Purpose>,
 }
 
 impl Model for Identity {
@@ -47,6 +49,7 @@ impl Model for Identity {
       confirm = identity.held.value.confirm;
       uses = identity.held.value.uses;
       rules = identity.held.value.rules;
+      purposes = identity.held.value.purposes;
     } };
 }
 
@@ -68,6 +71,7 @@ impl Identity {
             confirm,
             uses,
             rules,
+            purposes,
         } = terms;
         let held = Box::new(
             alloc,
@@ -80,6 +84,7 @@ impl Identity {
                 confirm,
                 uses,
                 rules,
+                purposes,
             },
         )?;
         Ok(Identity { held })
@@ -139,6 +144,13 @@ impl Identity {
         ensures { result.now ≡ self.now.rules }
     {
         self.held.rules.as_slice()
+    }
+
+    /// What its signatures may be for. Empty where they may be for anything.
+    pub fn purposes(&self) -> &[Purpose]
+        ensures { result.now ≡ self.now.purposes }
+    {
+        self.held.purposes.as_slice()
     }
 
     /// The second from which it is dead, where the clock comes to it.

@@ -32,7 +32,7 @@ pub struct Records {
     deaths: BTreeMap<(u64, u64), u64>,
     // How long the answer is that lists all.
     pub listed: usize,
-    // How much room the private strings and the constraints of all take.
+    // How much room the private strings, the purposes and the constraints of all take.
     pub kept: usize,
     // The number of the last addition.
     pub last: u64,
@@ -121,15 +121,16 @@ impl Records {
         blob: &[u8],
         private: usize,
         comment: &[u8],
+        purposes: usize,
         rules: &[Constraint],
     ) -> bool
         requires { IsIndexed self.now }
         ensures { (new : HeldKey) → new.blob ≡ blob.now → length new.private ≡ private →
-            new.comment ≡ comment.now → new.rules ≡ rules.now →
+            new.comment ≡ comment.now → length new.purposes ≡ purposes → new.rules ≡ rules.now →
             result ≡ not (is_full (put_identity new (held self.now))) }
     {
         let lists = fits(self.others_len(blob), blob, comment);
-        let takes = is_room_beside(self.others_kept(blob), private, rules);
+        let takes = is_room_beside(self.others_kept(blob), private, purposes, rules);
         lists && takes
     }
 
@@ -419,7 +420,11 @@ fn room_of_held(identity: &Identity) -> usize
     requires { kept_by identity.now ≤ 8388608 }
     ensures { result ≡ kept_by identity.now }
 {
-    room_of(identity.private().len(), identity.rules())
+    room_of(
+        identity.private().len(),
+        identity.purposes().len(),
+        identity.rules(),
+    )
 }
 
 // Whether an answer of `others` bytes has room for one more blob and comment.

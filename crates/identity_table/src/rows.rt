@@ -1,9 +1,9 @@
 //! Examples, written out, of the room that identities take.
 
-ghost use Rattle.std.specs.Prelude.{◌≡◌, ◌≤◌, ◌+◌, true, false, [], ◌∷◌, codes, replicate};
+ghost use Rattle.std.specs.Prelude.{◌≡◌, ◌≤◌, ◌+◌, ◌*◌, true, false, [], ◌∷◌, codes, replicate};
 ghost use Rattle.identity_table.specs.Identities.{HeldKey, answer_len, hop_len, is_full, kept_by, max_answer};
 
-/// A hop takes its user, its host and its keys, and 64 bytes for itself and for each key.
+/// A hop takes its user, its host eight times and its keys, and 64 bytes for itself and for each key.
 pub fn a_hop_is_counted_to_the_byte()
     ensures origin { hop_len (record { user = []; host = []; keys = [] }) ≡ 64 }
     ensures host { hop_len (record {
@@ -11,7 +11,7 @@ pub fn a_hop_is_counted_to_the_byte()
       host = codes "web";
       keys = record { blob = codes "12345"; authority = false }
           ∷ record { blob = []; authority = true } ∷ [];
-    }) ≡ 64 + 2 + 3 + 64 + 5 + 64 }
+    }) ≡ 64 + 2 + 8 * 3 + 64 + 5 + 64 }
 {}
 
 /// 32 identities that take 262144 bytes each fill the table, and one byte more is too much.

@@ -88,6 +88,7 @@ impl Table {
             key.blob.as_slice(),
             key.private.len(),
             comment,
+            terms.purposes.len(),
             terms.rules.as_slice(),
         );
         if !room {

@@ -1,2 +1,2 @@
 pub mod MessageLemmas
-mod WordLemmas
+pub mod WordLemmas

@@ -4,7 +4,7 @@ use Rattle.std.specs.Prelude.{All, codes, nat_lt}
 use Rattle.std.specs.List.{AllByRecursion, IsDistinct, list_any}
 use Rattle.std.specs.Str.{bytes_eq}
 use Rattle.std.proofs.lemmas.List.{append-nil, length-append, map-append, take-append-drop}
-use Rattle.std.proofs.lemmas.List.Elements.{All-nil, All-push}
+use Rattle.std.proofs.lemmas.List.Elements.{All-cons, All-head, All-nil, All-push, All-tail}
 use Rattle.std.proofs.lemmas.Slice.Eq.{bytes_eq-Decides}
 use Rattle.std.proofs.lemmas.Bool.Decides.{nat_tests}
 use Rattle.wire_core.specs.Readings.{◌>>=◌}
@@ -16,7 +16,7 @@ use Rattle.key_purposes.specs.Purposes.{ArePurposes, IsPurpose, in_namespace, is
 
 -- ---- one word
 
-record IsNamed (word : List ℕ) (purpose : Purpose) : Type 0 where
+pub record IsNamed (word : List ℕ) (purpose : Purpose) : Type 0 where
   pub spelt : word ≡ word_of purpose
   pub good : IsPurpose purpose
 
@@ -48,7 +48,7 @@ named_is word purpose read =
     first false false false false at_a at_b at_c at_d is = absurd cc
 
 -- one purpose more
-record Adds (held : List Purpose) (word : List ℕ) (after : List Purpose) : Type 0 where
+pub record Adds (held : List Purpose) (word : List ℕ) (after : List Purpose) : Type 0 where
   pub purpose : Purpose
   pub named : IsNamed word purpose
   pub more : after ≡ held ++ purpose ∷ []
@@ -56,7 +56,7 @@ record Adds (held : List Purpose) (word : List ℕ) (after : List Purpose) : Typ
   pub short : length word ≤ 255
   pub once : list_any (λ one. is_same one purpose) held ≡ false
 
-word_adds : (held : List Purpose) (word : List ℕ) (after : List Purpose) → with_word held word ≡ Ok after → Adds held word after
+pub word_adds : (held : List Purpose) (word : List ℕ) (after : List Purpose) → with_word held word ≡ Ok after → Adds held word after
 unfolding with_word
 word_adds held word after read = by_tests (nat_lt (length held) 64) (nat_lt 255 (length word)) refl refl read
   where
@@ -140,3 +140,63 @@ words_are words purposes read =
     let start : Are [] [] = record { named = refl; each = All-nil _; few = omega arith; short = All-nil _; once = once_none } in
     let are = subst (λ (l : List Purpose). Are words l) some.0 (are_all [] words [] found.0 start found.1) in
     record { named = are.named; each = are.each; some = some.1; few = are.few; short = are.short; once = are.once }
+
+-- ---- words of purposes are read again
+
+namespace_again : (namespace : List ℕ) → namespace ≢ [] → in_namespace namespace ≡ Ok (Namespace namespace)
+namespace_again [] some = absurd (some refl)
+namespace_again (byte ∷ namespace) some = refl
+
+named_again : (purpose : Purpose) → IsPurpose purpose → purpose_named (word_of purpose) ≡ Ok purpose
+unfolding purpose_named
+named_again Login is = refl
+named_again (Namespace namespace) is = namespace_again namespace is
+named_again AnyNamespace is = refl
+named_again Other is = refl
+
+-- a purpose behind others that are distinct with it isn't one of them
+not_yet : (held : List Purpose) (purpose : Purpose) (others : List Purpose) → IsDistinct is_same (held ++ purpose ∷ others)
+    → list_any (λ one. is_same one purpose) held ≡ false
+unfolding IsDistinct
+not_yet [] purpose others once = refl
+not_yet (one ∷ held) purpose others once =
+    rw (here held once.0) (not_yet held purpose others once.1)
+  where
+    here : (before : List Purpose) → AllByRecursion (λ other. is_same one other ≡ false) (before ++ purpose ∷ others) → is_same one purpose ≡ false
+    here [] each = each.0
+    here (first ∷ before) each = here before each.1
+
+adds_again : (held : List Purpose) (purpose : Purpose) → IsPurpose purpose → length held < 64 → length (word_of purpose) ≤ 255
+    → list_any (λ one. is_same one purpose) held ≡ false → with_word held (word_of purpose) ≡ Ok (held ++ purpose ∷ [])
+unfolding with_word
+adds_again held purpose is few short once =
+    let room : nat_lt (length held) 64 ≡ true = grind (arith, nat_tests, few) in
+    let within : nat_lt 255 (length (word_of purpose)) ≡ false = grind (arith, nat_tests, short) in
+    rw (room, within, named_again purpose is, once) refl
+
+all_again : (held purposes : List Purpose) → All IsPurpose purposes → length (held ++ purposes) ≤ 64
+    → All (λ purpose. length (word_of purpose) ≤ 255) purposes → IsDistinct is_same (held ++ purposes)
+    → with_words held (map word_of purposes) ≡ Ok (held ++ purposes)
+all_again held [] each few short once = ap (λ (l : List Purpose). Ok l) (sym (append-nil held))
+all_again held (purpose ∷ purposes) each few short once =
+    let room : length held < 64 = omega (arith, few, length-append held (purpose ∷ purposes)) in
+    let first = adds_again held purpose (All-head IsPurpose purpose purposes each) room
+    (All-head (λ p. length (word_of p) ≤ 255) purpose purposes short) (not_yet held purpose purposes once) in
+    let moved : (held ++ purpose ∷ []) ++ purposes ≡ held ++ purpose ∷ purposes = append_assoc held (purpose ∷ []) purposes in
+    rw first (subst (λ (l : List Purpose). with_words (held ++ purpose ∷ []) (map word_of purposes) ≡ Ok l) moved
+    (all_again (held ++ purpose ∷ []) purposes (All-tail IsPurpose purpose purposes each)
+    (subst (λ (l : List Purpose). length l ≤ 64) (sym moved) few)
+    (All-tail (λ p. length (word_of p) ≤ 255) purpose purposes short)
+    (subst (λ (l : List Purpose). IsDistinct is_same l) (sym moved) once)))
+
+-- what names purposes is read as they are
+pub words_again : (words : List (List ℕ)) (purposes : List Purpose) → ArePurposes words purposes → with_words [] words ≡ Ok purposes
+words_again words purposes are =
+    let short : All (λ word. length word ≤ 255) (map word_of purposes) = subst (λ (l : List (List ℕ)). All (λ word. length word ≤ 255) l) are.named are.short in
+    ap (with_words []) are.named ∙ all_again [] purposes are.each are.few (short_each purposes short) are.once
+  where
+    short_each : (all : List Purpose) → All (λ word. length word ≤ 255) (map word_of all) → All (λ p. length (word_of p) ≤ 255) all
+    short_each [] each = All-nil _
+    short_each (one ∷ others) each =
+        All-cons (λ p. length (word_of p) ≤ 255) one others (All-head (λ word. length word ≤ 255) (word_of one) (map word_of others) each)
+        (short_each others (All-tail (λ word. length word ≤ 255) (word_of one) (map word_of others) each))

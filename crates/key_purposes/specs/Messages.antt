@@ -93,6 +93,11 @@ abbrev pub may_be_for : Option (List Purpose) → List ℕ → List ℕ → Bool
 may_be_for None message blob = true
 may_be_for (Some purposes) message blob = are_for purposes message blob
 
+-- purposes let the key of this blob sign the message: where none are given, it signs any
+abbrev pub let_sign : List Purpose → List ℕ → List ℕ → Bool
+let_sign [] message blob = true
+let_sign (purpose ∷ purposes) message blob = are_for (purpose ∷ purposes) message blob
+
 -- ---- laws
 
 -- it is one of login, a namespace, and other data

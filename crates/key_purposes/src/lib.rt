@@ -15,7 +15,7 @@ pub use fault::PurposeFault;
 pub use laws::{
     a_message_is_for_one_thing, purposes_are_those_of_the_grammars, words_name_purposes,
 };
-pub use message::{Use, are_for, use_of};
-pub use purpose::Purpose;
-pub use reading::read_purposes;
+pub use message::{Use, are_for, let_sign, use_of};
+pub use purpose::{Purpose, put_word};
+pub use reading::{add_purpose, read_purposes};
 pub use rows::{each_message_has_its_use, words_are_read};

@@ -2,7 +2,7 @@
 
 ghost use Rattle.std.specs.Prelude.{◌≡◌};
 ghost use Rattle.sshsig_blob.specs.Reading.{signing_of};
-ghost use Rattle.key_purposes.specs.Messages.{allows, are_for, file_use, seen, use_of};
+ghost use Rattle.key_purposes.specs.Messages.{allows, are_for, file_use, let_sign, seen, use_of};
 
 use crate::purpose::Purpose;
 use sshsig_blob::read_sshsig;
@@ -63,4 +63,16 @@ pub fn are_for(purposes: &[Purpose], message: &[u8], blob: &[u8]) -> bool
 {
     let used = use_of(message, blob);
     purposes.iter().any(|purpose| allows(purpose, used))
+}
+
+/// Whether the key of this blob may sign this message: it is for one of the purposes, or none were given.
+///
+/// Takes no memory.
+pub fn let_sign(purposes: &[Purpose], message: &[u8], blob: &[u8]) -> bool
+    ensures { result ≡ let_sign purposes.now message.now blob.now }
+{
+    match purposes {
+        [] => true,
+        _ => are_for(purposes, message, blob),
+    }
 }

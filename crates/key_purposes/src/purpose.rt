@@ -1,9 +1,10 @@
 //! A purpose.
 
-ghost use Rattle.std.specs.Prelude.{◌≡◌};
-ghost use Rattle.key_purposes.specs.Purposes.{is_same};
+ghost use Rattle.std.specs.Prelude.{◌≡◌, ◌++◌, OnOk};
+ghost use Rattle.key_purposes.specs.Purposes.{is_same, word_of};
 
 use plain_lists::Bytes;
+use std::alloc::AllocError;
 
 /// What signatures may be for.
 #[derive(Debug, Drop)]
@@ -30,5 +31,20 @@ pub fn is_same(one: &Purpose, other: &Purpose) -> bool
         (Purpose::AnyNamespace, Purpose::AnyNamespace) => true,
         (Purpose::Other, Purpose::Other) => true,
         _ => false,
+    }
+}
+
+/// Appends the word that names a purpose.
+pub fn put_word(out: &mut Vec<u8>, purpose: &Purpose) -> Result<(), AllocError>
+    ensures { OnOk result (out.new.items ≡ out.old.items ++ word_of purpose.now) }
+{
+    match purpose {
+        Purpose::Login => out.extend_from_slice(b"login".as_slice()),
+        Purpose::Namespace(namespace) => {
+            out.extend_from_slice(b"sshsig:".as_slice())?;
+            out.extend_from_slice(namespace.as_slice())
+        }
+        Purpose::AnyNamespace => out.extend_from_slice(b"sshsig".as_slice()),
+        Purpose::Other => out.extend_from_slice(b"other".as_slice()),
     }
 }

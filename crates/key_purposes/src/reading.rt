@@ -66,9 +66,13 @@ fn put(purposes: &mut Vec<Purpose>, purpose: Purpose) -> Result<(), PurposeFault
     Ok(())
 }
 
-// Puts the purpose that the word names behind the others.
+/// Puts the purpose that the word names behind the others, which are fewer than 64 and don't have it.
 #[tactic(auto, unfolding(crate::specs::Purposes::with_word))]
-fn add(alloc: Global, purposes: &mut Vec<Purpose>, word: &[u8]) -> Result<(), PurposeFault>
+pub fn add_purpose(
+    alloc: Global,
+    purposes: &mut Vec<Purpose>,
+    word: &[u8],
+) -> Result<(), PurposeFault>
     ensures { MatchResult result (λ _. with_word purposes.old.items word.now ≡ Ok purposes.new.items)
         (λ fault. (fault ≡ Memory) ⊎ (with_word purposes.old.items word.now ≡ Err fault)) }
 {
@@ -100,7 +104,7 @@ pub fn read_purposes(alloc: Global, words: &[String]) -> Result<Vec<Purpose>, Pu
 {
     let mut purposes = Vec::new(alloc);
     'words: for word in words {
-        add(alloc, &mut purposes, word.as_bytes())?;
+        add_purpose(alloc, &mut purposes, word.as_bytes())?;
     }
     some(purposes)
 }

@@ -28,22 +28,23 @@ use Rattle.schedule_text.specs.declared.fault.LineFault.TheVariants.{TooLong}
 use Rattle.std.specs.List.{flat_map}
 use Rattle.world_ports.specs.Causes.{Rose}
 use Rattle.world_ports.specs.Streams.{StreamView, WritesPart}
+use Rattle.agent_model.specs.State.{Settings}
 
 -- ---- of which records it is said
 
 -- what is said of some records is said of those among them
-pub says-map : (Of To : (List ℕ → Type 0) → Type 0) → ((P : List ℕ → Type 0) → Of P → To P) → (ended : LogStatus) (life : Option ℕ) (before after : StreamView)
-    → Says Of ended life before after → Says To ended life before after
-says-map Of To map status.Whole life before after says = record { log = says.log; wrote = says.wrote; is = map (IsLogged status.Whole life says.log) says.is }
-says-map Of To map status.Waits life before after says = record { log = says.log; wrote = says.wrote; is = map (IsLogged status.Waits life says.log) says.is }
-says-map Of To map status.Usage life before after says = says
-says-map Of To map status.ReadFault life before after says = says
-says-map Of To map (status.BadRecord line) life before after says =
-    record { log = says.log; wrote = says.wrote; is = map (IsLogged (status.BadRecord line) life says.log) says.is }
-says-map Of To map status.Memory life before after says =
-    record { log = says.log; wrote = says.wrote; is = map (λ text. IsFront says.log (log_of life text)) says.is }
-says-map Of To map status.WriteFault life before after says = record {
-  front = record { log = says.front.log; wrote = says.front.wrote; is = map (λ text. IsFront says.front.log (log_of life text)) says.front.is };
+pub says-map : (Of To : (List ℕ → Type 0) → Type 0) → ((P : List ℕ → Type 0) → Of P → To P) → (ended : LogStatus) (settings : Settings) (before after : StreamView)
+    → Says Of ended settings before after → Says To ended settings before after
+says-map Of To map status.Whole settings before after says = record { log = says.log; wrote = says.wrote; is = map (IsLogged status.Whole settings says.log) says.is }
+says-map Of To map status.Waits settings before after says = record { log = says.log; wrote = says.wrote; is = map (IsLogged status.Waits settings says.log) says.is }
+says-map Of To map status.Usage settings before after says = says
+says-map Of To map status.ReadFault settings before after says = says
+says-map Of To map (status.BadRecord line) settings before after says =
+    record { log = says.log; wrote = says.wrote; is = map (IsLogged (status.BadRecord line) settings says.log) says.is }
+says-map Of To map status.Memory settings before after says =
+    record { log = says.log; wrote = says.wrote; is = map (λ text. IsFront says.log (log_of settings text)) says.is }
+says-map Of To map status.WriteFault settings before after says = record {
+  front = record { log = says.front.log; wrote = says.front.wrote; is = map (λ text. IsFront says.front.log (log_of settings text)) says.front.is };
   cause = says.cause;
 }
 
@@ -52,39 +53,39 @@ following-later : (bytes more : List ℕ) (P : List ℕ → Type 0) → Followin
 following-later bytes more P holds = λ rest. subst P (sym (append_assoc bytes more rest)) (holds (more ++ rest))
 
 -- the log ended before more was read
-pub halts-later : (ended : LogStatus) (life : Option ℕ) (bytes more : List ℕ) (start now : StreamView) → Halts ended life bytes start now → Halts ended life (bytes ++ more) start now
-halts-later status.Whole life bytes more start now halts = halts
-halts-later status.Waits life bytes more start now halts = halts
-halts-later status.Usage life bytes more start now halts = halts
-halts-later status.ReadFault life bytes more start now halts = halts
-halts-later (status.BadRecord line) life bytes more start now halts =
-    says-map (Following bytes) (Following (bytes ++ more)) (following-later bytes more) (status.BadRecord line) life start now halts
-halts-later status.Memory life bytes more start now halts =
-    says-map (Following bytes) (Following (bytes ++ more)) (following-later bytes more) status.Memory life start now halts
-halts-later status.WriteFault life bytes more start now halts =
-    says-map (Following bytes) (Following (bytes ++ more)) (following-later bytes more) status.WriteFault life start now halts
+pub halts-later : (ended : LogStatus) (settings : Settings) (bytes more : List ℕ) (start now : StreamView) → Halts ended settings bytes start now → Halts ended settings (bytes ++ more) start now
+halts-later status.Whole settings bytes more start now halts = halts
+halts-later status.Waits settings bytes more start now halts = halts
+halts-later status.Usage settings bytes more start now halts = halts
+halts-later status.ReadFault settings bytes more start now halts = halts
+halts-later (status.BadRecord line) settings bytes more start now halts =
+    says-map (Following bytes) (Following (bytes ++ more)) (following-later bytes more) (status.BadRecord line) settings start now halts
+halts-later status.Memory settings bytes more start now halts =
+    says-map (Following bytes) (Following (bytes ++ more)) (following-later bytes more) status.Memory settings start now halts
+halts-later status.WriteFault settings bytes more start now halts =
+    says-map (Following bytes) (Following (bytes ++ more)) (following-later bytes more) status.WriteFault settings start now halts
 
 -- ---- an end with the requests that wait
 
-module _ (Of : (List ℕ → Type 0) → Type 0) (ended : LogStatus) (life : Option ℕ) (first last : List ℕ) (start mid now : StreamView)
+module _ (Of : (List ℕ → Type 0) → Type 0) (ended : LogStatus) (settings : Settings) (first last : List ℕ) (start mid now : StreamView)
     (wrote : Wrote start mid first)
-    (hold : (P : List ℕ → Type 0) → ((text : List ℕ) → ended_of life text ≡ ended → log_of life text ≡ first ++ last → P text) → Of P)
-    (all : SaysAll Of ended life start now → Says Of ended life start now) where
-  says-part : WritesPart last mid now → SaysFront Of life start now
+    (hold : (P : List ℕ → Type 0) → ((text : List ℕ) → ended_of settings text ≡ ended → log_of settings text ≡ first ++ last → P text) → Of P)
+    (all : SaysAll Of ended settings start now → Says Of ended settings start now) where
+  says-part : WritesPart last mid now → SaysFront Of settings start now
   says-part part = record {
     log = first ++ part.1.front;
     wrote = Appends-trans start.written mid.written now.written first part.1.front wrote.written part.1.written;
-    is = hold (λ text. IsFront (first ++ part.1.front) (log_of life text)) (λ text ended_is log_is. record {
+    is = hold (λ text. IsFront (first ++ part.1.front) (log_of settings text)) (λ text ended_is log_is. record {
       more = part.0;
       is = append_assoc first part.1.front part.0 ∙ ap (λ (t : List ℕ). first ++ t) part.1.whole ∙ sym log_is;
     });
   }
 
-  says-done : (done : Result (Unit {0}) Stop) → Writes done last mid now → Says Of (status_by ended done) life start now
+  says-done : (done : Result (Unit {0}) Stop) → Writes done last mid now → Says Of (status_by ended done) settings start now
   says-done (Ok unit) writes = all (record {
     log = first ++ last;
     wrote = Wrote-then wrote writes;
-    is = hold (IsLogged ended life (first ++ last)) (λ text ended_is log_is. record { ended_is = ended_is; log_is = log_is });
+    is = hold (IsLogged ended settings (first ++ last)) (λ text ended_is log_is. record { ended_is = ended_is; log_is = log_is });
   })
   says-done (Err stops.Memory) part = says-part part
   says-done (Err stops.Write) stopped = record {
@@ -92,15 +93,15 @@ module _ (Of : (List ℕ → Type 0) → Type 0) (ended : LogStatus) (life : Opt
     cause = subst (λ (n : ℕ). Rose n now.write_faults) wrote.kept stopped.cause;
   }
 
-  pub says-with : (result : LogStatus) → EndsWith ended result last mid now → Says Of result life start now
-  says-with result ends = subst (λ (s : LogStatus). Says Of s life start now) (sym ends.is) (says-done ends.done ends.writes)
+  pub says-with : (result : LogStatus) → EndsWith ended result last mid now → Says Of result settings start now
+  says-with result ends = subst (λ (s : LogStatus). Says Of s settings start now) (sym ends.is) (says-done ends.done ends.writes)
 
 -- the ends of a refused line
-halts-done : (line : ℕ) (done : Result (Unit {0}) Stop) (life : Option ℕ) (bytes : List ℕ) (start now : StreamView)
-    → Says (Following bytes) (status_by (status.BadRecord line) done) life start now → Halts (status_by (status.BadRecord line) done) life bytes start now
-halts-done line (Ok unit) life bytes start now says = says
-halts-done line (Err stops.Memory) life bytes start now says = says
-halts-done line (Err stops.Write) life bytes start now says = says
+halts-done : (line : ℕ) (done : Result (Unit {0}) Stop) (settings : Settings) (bytes : List ℕ) (start now : StreamView)
+    → Says (Following bytes) (status_by (status.BadRecord line) done) settings start now → Halts (status_by (status.BadRecord line) done) settings bytes start now
+halts-done line (Ok unit) settings bytes start now says = says
+halts-done line (Err stops.Memory) settings bytes start now says = says
+halts-done line (Err stops.Write) settings bytes start now says = says
 
 -- ---- what is still to be seen
 
@@ -160,13 +161,13 @@ module _ (run : Run) (front : List ℕ) (part : HasNoLf front) (counted : IsCoun
 
 -- ---- ends
 
-module _ (life : Option ℕ) (bytes : List ℕ) (start mid : StreamView) (log : Logging) (is : IsLogging life bytes start mid log) where
+module _ (settings : Settings) (bytes : List ℕ) (start mid : StreamView) (log : Logging) (is : IsLogging settings bytes start mid log) where
   -- a front of the log is written
-  pub halts-memory : Halts status.Memory life bytes start mid
+  pub halts-memory : Halts status.Memory settings bytes start mid
   halts-memory = record {
     log = lines_of is.requests;
     wrote = is.wrote.written;
-    is = λ more. record { more = logged (log.sights ++ later life bytes start mid log is more) log.book; is = sym (log-led life bytes start mid log is more) };
+    is = λ more. record { more = logged (log.sights ++ later settings bytes start mid log is more) log.book; is = sym (log-led settings bytes start mid log is more) };
   }
 
   module _ (now : StreamView) where
@@ -174,24 +175,24 @@ module _ (life : Option ℕ) (bytes : List ℕ) (start mid : StreamView) (log : 
     abbrev tells : List ℕ
     tells = lines_of (see_all log.sights log.book).told
 
-    halts-part : WritesPart tells mid now → SaysFront (Following bytes) life start now
+    halts-part : WritesPart tells mid now → SaysFront (Following bytes) settings start now
     halts-part part =
         let first = lines_of is.requests in
         record {
           log = first ++ part.1.front;
           wrote = Appends-trans start.written mid.written now.written first part.1.front is.wrote.written part.1.written;
           is = λ more.
-              let rest = logged (later life bytes start mid log is more) (see_all log.sights log.book).book in
+              let rest = logged (later settings bytes start mid log is more) (see_all log.sights log.book).book in
               record {
                 more = part.0 ++ rest;
                 is =
                     append_assoc first part.1.front (part.0 ++ rest)
                     ∙ ap (λ (t : List ℕ). first ++ t) (sym (append_assoc part.1.front part.0 rest) ∙ ap (λ (t : List ℕ). t ++ rest) part.1.whole)
-                    ∙ sym (log-led life bytes start mid log is more ∙ ap (λ (t : List ℕ). first ++ t) (logged-append log.sights (later life bytes start mid log is more) log.book));
+                    ∙ sym (log-led settings bytes start mid log is more ∙ ap (λ (t : List ℕ). first ++ t) (logged-append log.sights (later settings bytes start mid log is more) log.book));
               };
         }
 
-    pub halts-telling : (stop : Stop) → Stops stop tells mid now → Halts (status_at stop) life bytes start now
+    pub halts-telling : (stop : Stop) → Stops stop tells mid now → Halts (status_at stop) settings bytes start now
     halts-telling stops.Memory part = halts-part part
     halts-telling stops.Write stopped = record {
       front = halts-part stopped.front;
@@ -203,21 +204,21 @@ module _ (life : Option ℕ) (bytes : List ℕ) (start mid : StreamView) (log : 
     waits = lines_of (open_in log.book)
 
     module _ (told : log.sights ≡ []) where
-      halts-bad : (line : ℕ) → ((more : List ℕ) → ended_of life (bytes ++ more) ≡ status.BadRecord line) → ((more : List ℕ) → later life bytes start mid log is more ≡ [])
-          → (result : LogStatus) → EndsWith (status.BadRecord line) result waits mid now → Halts result life bytes start now
+      halts-bad : (line : ℕ) → ((more : List ℕ) → ended_of settings (bytes ++ more) ≡ status.BadRecord line) → ((more : List ℕ) → later settings bytes start mid log is more ≡ [])
+          → (result : LogStatus) → EndsWith (status.BadRecord line) result waits mid now → Halts result settings bytes start now
       halts-bad line ended none result ends =
-          let says = says-done (Following bytes) (status.BadRecord line) life (lines_of is.requests) waits start mid now is.wrote
-          (λ P f. λ more. f (bytes ++ more) (ended more) (log-last life bytes start mid log is more told (none more)))
+          let says = says-done (Following bytes) (status.BadRecord line) settings (lines_of is.requests) waits start mid now is.wrote
+          (λ P f. λ more. f (bytes ++ more) (ended more) (log-last settings bytes start mid log is more told (none more)))
           (λ all. all) ends.done ends.writes in
-          subst (λ (s : LogStatus). Halts s life bytes start now) (sym ends.is) (halts-done line ends.done life bytes start now says)
+          subst (λ (s : LogStatus). Halts s settings bytes start now) (sym ends.is) (halts-done line ends.done settings bytes start now says)
 
       -- the last one
-      pub halts-refused : (fault : LineFault) → log.run.refused ≡ Some fault → (result : LogStatus) → EndsWith (status.BadRecord log.run.line) result waits mid now → Halts result life bytes start now
+      pub halts-refused : (fault : LineFault) → log.run.refused ≡ Some fault → (result : LogStatus) → EndsWith (status.BadRecord log.run.line) result waits mid now → Halts result settings bytes start now
       halts-refused fault refused result ends =
           halts-bad log.run.line
           (λ more.
-          let run_is : ran false (start_run life) (parts_of (bytes ++ more)) ≡ log.run =
-          ran-led life bytes start mid log is false more ∙ ran-refused false log.run fault (parts_of (log.pending ++ more)) refused in
+          let run_is : ran false (start_run settings) (parts_of (bytes ++ more)) ≡ log.run =
+          ran-led settings bytes start mid log is false more ∙ ran-refused false log.run fault (parts_of (log.pending ++ more)) refused in
           ap (λ (r : Run). ended_in r (bytes ++ more)) run_is
           ∙ ap (λ (f : Option LineFault). ended_by f log.run.line (length (whole_lines (bytes ++ more)) == length (bytes ++ more))) refused)
           (λ more. none-refused log.run fault (parts_of (whole_lines (log.pending ++ more))) refused)
@@ -225,12 +226,12 @@ module _ (life : Option ℕ) (bytes : List ℕ) (start mid : StreamView) (log : 
 
       -- the one that waits, which is too long
       pub halts-long : HasNoLf log.pending → IsCounted log.run → IsTooLong log.run log.pending → (result : LogStatus) → EndsWith (status.BadRecord (log.run.line + 1)) result waits mid now
-          → Halts result life bytes start now
+          → Halts result settings bytes start now
       halts-long part counted long result ends =
           halts-bad (log.run.line + 1)
           (λ more.
-          let run_is : ran false (start_run life) (parts_of (bytes ++ more)) ≡ (refuse TooLong log.run).run =
-          ran-led life bytes start mid log is false more ∙ ap (λ (t : Turned). t.run) (course-long log.run log.pending part counted long false more) in
+          let run_is : ran false (start_run settings) (parts_of (bytes ++ more)) ≡ (refuse TooLong log.run).run =
+          ran-led settings bytes start mid log is false more ∙ ap (λ (t : Turned). t.run) (course-long log.run log.pending part counted long false more) in
           let line_is : suc log.run.line ≡ log.run.line + 1 = omega arith in
           ap (λ (r : Run). ended_in r (bytes ++ more)) run_is ∙ ap (λ (l : ℕ). status.BadRecord l) line_is)
           (λ more. none-long log.run log.pending part counted long more)
@@ -240,16 +241,16 @@ module _ (life : Option ℕ) (bytes : List ℕ) (start mid : StreamView) (log : 
       lines-are : HasNoLf log.pending → whole_lines bytes ≡ is.lines
       lines-are part =
           ap whole_lines (sym (append-nil bytes))
-          ∙ whole-led life bytes start mid log is []
+          ∙ whole-led settings bytes start mid log is []
           ∙ ap (λ (p : List ℕ). is.lines ++ whole_lines p) (append-nil log.pending)
           ∙ ap (λ (w : List ℕ). is.lines ++ w) (whole-none log.pending part)
           ∙ append-nil is.lines
 
-      ended-at : IsCounted log.run → IsBegun log.run log.pending → (whole : Bool) → (length is.lines == length (is.lines ++ log.pending)) ≡ whole → ended_of life bytes ≡ ended_by None log.run.line whole
+      ended-at : IsCounted log.run → IsBegun log.run log.pending → (whole : Bool) → (length is.lines == length (is.lines ++ log.pending)) ≡ whole → ended_of settings bytes ≡ ended_by None log.run.line whole
       ended-at counted begun whole whole_is =
-          let run_is : ran false (start_run life) (parts_of bytes) ≡ log.run =
-          ap (λ (b : List ℕ). ran false (start_run life) (parts_of b)) (sym (append-nil bytes))
-          ∙ ran-led life bytes start mid log is false []
+          let run_is : ran false (start_run settings) (parts_of bytes) ≡ log.run =
+          ap (λ (b : List ℕ). ran false (start_run settings) (parts_of b)) (sym (append-nil bytes))
+          ∙ ran-led settings bytes start mid log is false []
           ∙ ap (λ (p : List ℕ). ran false log.run (parts_of p)) (append-nil log.pending)
           ∙ begun-same log.run log.pending begun in
           ap (λ (r : Run). ended_in r bytes) run_is
@@ -258,21 +259,21 @@ module _ (life : Option ℕ) (bytes : List ℕ) (start mid : StreamView) (log : 
           ∙ ap (λ (b : List ℕ). ended_by None log.run.line (length is.lines == length b)) (sym is.is)
           ∙ ap (λ (w : Bool). ended_by None log.run.line w) whole_is
 
-      log-at : HasNoLf log.pending → log_of life bytes ≡ lines_of is.requests ++ waits
+      log-at : HasNoLf log.pending → log_of settings bytes ≡ lines_of is.requests ++ waits
       log-at part =
-          ap (log_of life) (sym (append-nil bytes))
-          ∙ log-last life bytes start mid log is [] told
+          ap (log_of settings) (sym (append-nil bytes))
+          ∙ log-last settings bytes start mid log is [] told
           (none-empty log.run (whole_lines (log.pending ++ [])) (ap whole_lines (append-nil log.pending) ∙ whole-none log.pending part))
 
-      pub says-finished : (ended : LogStatus) → IsBegun log.run log.pending → ended_of life bytes ≡ ended → (SaysAll (Exactly bytes) ended life start now → Says (Exactly bytes) ended life start now)
-          → (result : LogStatus) → EndsWith ended result waits mid now → Says (Exactly bytes) result life start now
+      pub says-finished : (ended : LogStatus) → IsBegun log.run log.pending → ended_of settings bytes ≡ ended → (SaysAll (Exactly bytes) ended settings start now → Says (Exactly bytes) ended settings start now)
+          → (result : LogStatus) → EndsWith ended result waits mid now → Says (Exactly bytes) result settings start now
       says-finished ended begun ended_is all result ends =
-          says-with (Exactly bytes) ended life (lines_of is.requests) waits start mid now is.wrote
+          says-with (Exactly bytes) ended settings (lines_of is.requests) waits start mid now is.wrote
           (λ P f. f bytes ended_is (log-at begun.part)) all result ends
 
       -- by the line that isn't whole
       pub finished : (pending : List ℕ) → log.pending ≡ pending → IsCounted log.run → IsBegun log.run log.pending → (result : LogStatus) → EndsWith (end_of pending) result waits mid now
-          → Says (Exactly bytes) result life start now
+          → Says (Exactly bytes) result settings start now
       finished [] pending_is counted begun result ends =
           says-finished status.Whole begun (ended-at counted begun true (all-whole is.lines log.pending pending_is)) (λ all. all) result ends
       finished (byte ∷ rest) pending_is counted begun result ends =
@@ -284,6 +285,6 @@ module _ (life : Option ℕ) (bytes : List ℕ) (start mid : StreamView) (log : 
     -- the answer of the look at it
     pub line-answer : (told : log.sights ≡ []) (result : Option LogStatus)
         → MatchOption result ((log.run.refused ≡ None) × (now ≡ mid)) (λ ended. (fault : LineFault) × (log.run.refused ≡ Some fault) × EndsWith (status.BadRecord log.run.line) ended waits mid now)
-        → MatchOption result (IsLogging life bytes start now log) (λ ended. Halts ended life bytes start now)
-    line-answer told None answer = subst (λ (w : StreamView). IsLogging life bytes start w log) (sym answer.1) is
+        → MatchOption result (IsLogging settings bytes start now log) (λ ended. Halts ended settings bytes start now)
+    line-answer told None answer = subst (λ (w : StreamView). IsLogging settings bytes start w log) (sym answer.1) is
     line-answer told (Some ended) answer = halts-refused told answer.0 answer.1 ended answer.2

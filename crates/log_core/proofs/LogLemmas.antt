@@ -2,7 +2,7 @@
 use Rattle.std.proofs.Common.{◌≡◌, ℕ, List, [], ◌∷◌, ◌++◌, refl, ap, sym, ◌∙◌, append_assoc, Option, true}
 use Rattle.std.proofs.lemmas.Grind.{flat_map-append}
 use Rattle.std.specs.List.{flat_map}
-use Rattle.agent_model.specs.State.{State, first_state}
+use Rattle.agent_model.specs.State.{Settings, State, first_state}
 use Rattle.agent_model.specs.Step.{step}
 use Rattle.log_book.specs.Books.{Book, Seen, new_book, open_in, see, see_all, then_seen, told_of}
 use Rattle.log_book.specs.Lines.{told_line}
@@ -47,10 +47,10 @@ unfolding logged see_all
 logged-nil book = refl
 
 -- all of them are the log
-pub logged-all : (life : Option ℕ) (text : List ℕ) → logged (sights_of life (whole_lines text)) new_book ≡ log_of life text
+pub logged-all : (settings : Settings) (text : List ℕ) → logged (sights_of settings (whole_lines text)) new_book ≡ log_of settings text
 unfolding logged
-logged-all life text =
-    let all = see_all (sights_of life (whole_lines text)) new_book in
+logged-all settings text =
+    let all = see_all (sights_of settings (whole_lines text)) new_book in
     sym (lines_of-append all.told (open_in all.book))
 
 -- ---- the run that is seen
@@ -63,10 +63,10 @@ sights-told state (Came line before timed ∷ later) end is =
     ∙ ap (λ (s : State). run_sights s (timed ∷ events_in later)) (sym is.0)
 sights-told state (Barred line fault ∷ later) end is = sights-told state later end is
 
-pub all_seen : (life : Option ℕ) (text : List ℕ) → sights_of life text ≡ run_sights (first_state (settings_of life text)) (events_of life text)
+pub all_seen : (settings : Settings) (text : List ℕ) → sights_of settings text ≡ run_sights (first_state (settings_of settings text)) (events_of settings text)
 unfolding sights_from
-all_seen life text =
-    sights-told (first_state (settings_of life text)) (course true (start_run life) (parts_of text)).told (run_of life text).agent (schedule-course life text)
+all_seen settings text =
+    sights-told (first_state (settings_of settings text)) (course true (start_run settings) (parts_of text)).told (run_of settings text).agent (schedule-course settings text)
 
-pub all_told : (life : Option ℕ) (text : List ℕ) → requests_of life text ≡ told_in (first_state (settings_of life (whole_lines text))) (events_of life (whole_lines text))
-all_told life text = ap told_of (all_seen life (whole_lines text))
+pub all_told : (settings : Settings) (text : List ℕ) → requests_of settings text ≡ told_in (first_state (settings_of settings (whole_lines text))) (events_of settings (whole_lines text))
+all_told settings text = ap told_of (all_seen settings (whole_lines text))

@@ -19,20 +19,21 @@ use Rattle.replay_run.proofs.GoesOnLemmas.{no_lf-append}
 use Rattle.replay_run.proofs.RunLemmas.{course-line, course-refused}
 use Rattle.schedule_text.specs.declared.fault.LineFault.{LineFault}
 use Rattle.world_ports.specs.Streams.{StreamView}
+use Rattle.agent_model.specs.State.{Settings}
 
 -- ---- before the first read
 
 then-nothing : (run : Run) (turned : Turned) → turned ≡ then_turned (record { run = run; told = [] }) turned
 then-nothing run turned = refl
 
-pub log-start : (life : Option ℕ) (seen : StreamView) → IsLogging life [] seen seen (start_logging life)
+pub log-start : (settings : Settings) (seen : StreamView) → IsLogging settings [] seen seen (start_logging settings)
 unfolding see_all
-log-start life seen = record {
+log-start settings seen = record {
   lines = [];
   is = refl;
   whole = λ more. refl;
   told = [];
-  goes = λ ended more. then-nothing (start_run life) (course ended (start_run life) (parts_of more));
+  goes = λ ended more. then-nothing (start_run settings) (course ended (start_run settings) (parts_of more));
   seen = [];
   sights = refl;
   requests = [];
@@ -43,7 +44,7 @@ log-start life seen = record {
 -- ---- the log of the record
 
 -- what is seen of whole lines, and what is still to be seen behind them
-module _ (life : Option ℕ) (bytes : List ℕ) (start now : StreamView) (log : Logging) (is : IsLogging life bytes start now log) where
+module _ (settings : Settings) (bytes : List ℕ) (start now : StreamView) (log : Logging) (is : IsLogging settings bytes start now log) where
   abbrev pub later : List ℕ → List Sight
   later more = sights_from log.run (parts_of (whole_lines (log.pending ++ more)))
 
@@ -53,7 +54,7 @@ module _ (life : Option ℕ) (bytes : List ℕ) (start now : StreamView) (log : 
       ∙ ap whole_lines (append_assoc is.lines log.pending more)
       ∙ is.whole (log.pending ++ more)
 
-  sights-led : (more : List ℕ) → sights_of life (is.lines ++ more) ≡ is.seen ++ (log.sights ++ sights_from log.run (parts_of more))
+  sights-led : (more : List ℕ) → sights_of settings (is.lines ++ more) ≡ is.seen ++ (log.sights ++ sights_from log.run (parts_of more))
   unfolding sights_from
   sights-led more =
       let behind = (course true log.run (parts_of more)).told in
@@ -63,16 +64,16 @@ module _ (life : Option ℕ) (bytes : List ℕ) (start now : StreamView) (log : 
       ∙ append_assoc is.seen log.sights (flat_map sights_in behind)
 
   -- whatever follows
-  pub log-led : (more : List ℕ) → log_of life (bytes ++ more) ≡ lines_of is.requests ++ logged (log.sights ++ later more) log.book
+  pub log-led : (more : List ℕ) → log_of settings (bytes ++ more) ≡ lines_of is.requests ++ logged (log.sights ++ later more) log.book
   log-led more =
-      sym (logged-all life (bytes ++ more))
-      ∙ ap (λ (w : List ℕ). logged (sights_of life w) new_book) (whole-led more)
+      sym (logged-all settings (bytes ++ more))
+      ∙ ap (λ (w : List ℕ). logged (sights_of settings w) new_book) (whole-led more)
       ∙ ap (λ (s : List Sight). logged s new_book) (sights-led (whole_lines (log.pending ++ more)))
       ∙ logged-append is.seen (log.sights ++ later more) new_book
       ∙ ap (λ (s : Seen). lines_of s.told ++ logged (log.sights ++ later more) s.book) is.booked
 
   -- where nothing more is seen
-  pub log-last : (more : List ℕ) → log.sights ≡ [] → later more ≡ [] → log_of life (bytes ++ more) ≡ lines_of is.requests ++ lines_of (open_in log.book)
+  pub log-last : (more : List ℕ) → log.sights ≡ [] → later more ≡ [] → log_of settings (bytes ++ more) ≡ lines_of is.requests ++ lines_of (open_in log.book)
   log-last more told none =
       log-led more
       ∙ ap (λ (s : List Sight). lines_of is.requests ++ logged (s ++ later more) log.book) told
@@ -80,21 +81,21 @@ module _ (life : Option ℕ) (bytes : List ℕ) (start now : StreamView) (log : 
       ∙ ap (λ (l : List ℕ). lines_of is.requests ++ l) (logged-nil log.book)
 
   -- so far
-  pub log-so_far : HasNoLf log.pending → log.sights ≡ [] → log_so_far life bytes ≡ lines_of is.requests
+  pub log-so_far : HasNoLf log.pending → log.sights ≡ [] → log_so_far settings bytes ≡ lines_of is.requests
   unfolding sights_from course
   log-so_far part told =
       let lines_are : whole_lines bytes ≡ is.lines ++ [] =
       ap whole_lines (sym (append-nil bytes)) ∙ whole-led [] ∙ ap (λ (p : List ℕ). is.lines ++ whole_lines p) (append-nil log.pending) ∙ ap (λ (w : List ℕ). is.lines ++ w) (whole-none log.pending part) in
-      ap (λ (w : List ℕ). lines_of (see_all (sights_of life w) new_book).told) lines_are
+      ap (λ (w : List ℕ). lines_of (see_all (sights_of settings w) new_book).told) lines_are
       ∙ ap (λ (s : List Sight). lines_of (see_all s new_book).told) (sights-led [] ∙ ap (λ (s : List Sight). is.seen ++ (s ++ [])) told ∙ append-nil is.seen)
       ∙ ap (λ (s : Seen). lines_of s.told) is.booked
 
   -- ---- the run
 
-  pub ran-led : (ended : Bool) (more : List ℕ) → ran ended (start_run life) (parts_of (bytes ++ more)) ≡ ran ended log.run (parts_of (log.pending ++ more))
+  pub ran-led : (ended : Bool) (more : List ℕ) → ran ended (start_run settings) (parts_of (bytes ++ more)) ≡ ran ended log.run (parts_of (log.pending ++ more))
   ran-led ended more =
-      ap (λ (b : List ℕ). ran ended (start_run life) (parts_of (b ++ more))) (sym is.is)
-      ∙ ap (λ (b : List ℕ). ran ended (start_run life) (parts_of b)) (append_assoc is.lines log.pending more)
+      ap (λ (b : List ℕ). ran ended (start_run settings) (parts_of (b ++ more))) (sym is.is)
+      ∙ ap (λ (b : List ℕ). ran ended (start_run settings) (parts_of b)) (append_assoc is.lines log.pending more)
       ∙ ap (λ (t : Turned). t.run) (is.goes ended (log.pending ++ more))
 
 -- ---- steps
@@ -112,9 +113,9 @@ then-then : (run : Run) (told : List Told) (line later : Turned) → then_turned
 then-then run told line later =
     ap (λ (t : List Told). record { run = later.run; told = t }) (sym (append_assoc told line.told later.told))
 
-module _ (life : Option ℕ) (bytes : List ℕ) (start now : StreamView) (old new : Logging) (is : IsLogging life bytes start now old) where
+module _ (settings : Settings) (bytes : List ℕ) (start now : StreamView) (old new : Logging) (is : IsLogging settings bytes start now old) where
   -- a line was run
-  pub log-line : (line : List ℕ) → HasNoLf old.pending → HasNoLf line → old.sights ≡ [] → EndsLine old line new → IsLogging life (bytes ++ (line ++ 10 ∷ [])) start now new
+  pub log-line : (line : List ℕ) → HasNoLf old.pending → HasNoLf line → old.sights ≡ [] → EndsLine old line new → IsLogging settings (bytes ++ (line ++ 10 ∷ [])) start now new
   log-line line waits part told ends =
       let whole = old.pending ++ line in
       let next = whole_turned whole old.run in
@@ -133,7 +134,7 @@ module _ (life : Option ℕ) (bytes : List ℕ) (start now : StreamView) (old ne
             ∙ sym (text-behind is.lines whole (whole_lines more));
         told = is.told ++ next.told;
         goes = λ ended more.
-            ap (λ (b : List ℕ). course ended (start_run life) (parts_of b)) (text-behind is.lines whole more)
+            ap (λ (b : List ℕ). course ended (start_run settings) (parts_of b)) (text-behind is.lines whole more)
             ∙ is.goes ended (whole ++ 10 ∷ more)
             ∙ ap (then_turned (record { run = old.run; told = is.told })) (course-line ended old.run whole more (no_lf-append old.pending line waits part))
             ∙ then-then old.run is.told next (course ended next.run (parts_of more))
@@ -149,10 +150,10 @@ module _ (life : Option ℕ) (bytes : List ℕ) (start now : StreamView) (old ne
       }
 
   -- what was seen is told
-  pub log-told : (after : StreamView) → new ≡ record old { sights = []; book = (see_all old.sights old.book).book } → Wrote now after (lines_of (see_all old.sights old.book).told) → IsLogging life bytes start after new
+  pub log-told : (after : StreamView) → new ≡ record old { sights = []; book = (see_all old.sights old.book).book } → Wrote now after (lines_of (see_all old.sights old.book).told) → IsLogging settings bytes start after new
   log-told after new_is wrote =
       let more = see_all old.sights old.book in
-      subst (IsLogging life bytes start after) (sym new_is) (record {
+      subst (IsLogging settings bytes start after) (sym new_is) (record {
         lines = is.lines;
         is = is.is;
         whole = is.whole;
@@ -168,9 +169,9 @@ module _ (life : Option ℕ) (bytes : List ℕ) (start now : StreamView) (old ne
       })
 
   -- the front of a line was read
-  pub log-front : (front : List ℕ) → new ≡ record old { pending = old.pending ++ front } → IsLogging life (bytes ++ front) start now new
+  pub log-front : (front : List ℕ) → new ≡ record old { pending = old.pending ++ front } → IsLogging settings (bytes ++ front) start now new
   log-front front new_is =
-      subst (IsLogging life (bytes ++ front) start now) (sym new_is) (record {
+      subst (IsLogging settings (bytes ++ front) start now) (sym new_is) (record {
         lines = is.lines;
         is = sym (append_assoc is.lines old.pending front) ∙ ap (λ (b : List ℕ). b ++ front) is.is;
         whole = is.whole;

@@ -20,6 +20,7 @@ use Rattle.replay_run.proofs.RoundLemmas.{some_of}
 use Rattle.replay_run.proofs.RunCounts.{turned-next}
 use Rattle.world_ports.specs.Causes.{Rose}
 use Rattle.world_ports.specs.Streams.{StreamView}
+use Rattle.agent_model.specs.State.{Settings}
 
 -- ---- a line
 
@@ -73,7 +74,7 @@ pub piece-starts : (log : Logging) (piece : List ℕ) (seen : StreamView) → Lo
 piece-starts log piece seen = record {
   front = [];
   is = refl;
-  goes = λ life bytes start is. subst (λ (b : List ℕ). IsLogging life b start seen log) (sym (append-nil bytes)) is;
+  goes = λ settings bytes start is. subst (λ (b : List ℕ). IsLogging settings b start seen log) (sym (append-nil bytes)) is;
   size = omega arith;
 }
 
@@ -89,7 +90,7 @@ module _ (old log : Logging) (piece left : List ℕ) (before mid : StreamView) (
   module _ (line rest : List ℕ) (cut : line ++ 10 ∷ rest ≡ left) (after : StreamView) where
     -- one more line was run
     pub piece-goes : (new : Logging)
-        → ((life : Option ℕ) (bytes : List ℕ) (start : StreamView) → IsLogging life bytes start mid log → IsLogging life (bytes ++ (line ++ 10 ∷ [])) start after new)
+        → ((settings : Settings) (bytes : List ℕ) (start : StreamView) → IsLogging settings bytes start mid log → IsLogging settings (bytes ++ (line ++ 10 ∷ [])) start after new)
         → read_so_far new ≡ read_so_far log + length (line ++ 10 ∷ []) → LoggedSoFar old piece rest new before after
     piece-goes new goes size = record {
       front = so_far.front ++ (line ++ 10 ∷ []);
@@ -97,31 +98,31 @@ module _ (old log : Logging) (piece left : List ℕ) (before mid : StreamView) (
           append_assoc so_far.front (line ++ 10 ∷ []) rest
           ∙ ap (λ (t : List ℕ). so_far.front ++ t) (append_assoc line (10 ∷ []) rest ∙ cut)
           ∙ so_far.is;
-      goes = λ life bytes start is.
-          subst (λ (b : List ℕ). IsLogging life b start after new) (append_assoc bytes so_far.front (line ++ 10 ∷ []))
-          (goes life (bytes ++ so_far.front) start (so_far.goes life bytes start is));
+      goes = λ settings bytes start is.
+          subst (λ (b : List ℕ). IsLogging settings b start after new) (append_assoc bytes so_far.front (line ++ 10 ∷ []))
+          (goes settings (bytes ++ so_far.front) start (so_far.goes settings bytes start is));
       size = omega (arith, size, so_far.size, length-append so_far.front (line ++ 10 ∷ []));
     }
 
     -- or the log ended with it
     pub piece-halts : (ended : LogStatus)
-        → ((life : Option ℕ) (bytes : List ℕ) (start : StreamView) → IsLogging life bytes start mid log → Halts ended life (bytes ++ (line ++ 10 ∷ [])) start after)
-        → (life : Option ℕ) (bytes : List ℕ) (start : StreamView) → IsLogging life bytes start before old → Halts ended life (bytes ++ piece) start after
-    piece-halts ended halts life bytes start is =
-        subst (λ (b : List ℕ). Halts ended life b start after) (piece-text bytes so_far.front line rest left piece so_far.is cut)
-        (halts-later ended life ((bytes ++ so_far.front) ++ (line ++ 10 ∷ [])) rest start after
-        (halts life (bytes ++ so_far.front) start (so_far.goes life bytes start is)))
+        → ((settings : Settings) (bytes : List ℕ) (start : StreamView) → IsLogging settings bytes start mid log → Halts ended settings (bytes ++ (line ++ 10 ∷ [])) start after)
+        → (settings : Settings) (bytes : List ℕ) (start : StreamView) → IsLogging settings bytes start before old → Halts ended settings (bytes ++ piece) start after
+    piece-halts ended halts settings bytes start is =
+        subst (λ (b : List ℕ). Halts ended settings b start after) (piece-text bytes so_far.front line rest left piece so_far.is cut)
+        (halts-later ended settings ((bytes ++ so_far.front) ++ (line ++ 10 ∷ [])) rest start after
+        (halts settings (bytes ++ so_far.front) start (so_far.goes settings bytes start is)))
 
   -- the front of a line is the last of it
   pub piece-ends : (result : Option LogStatus) (new : Logging) (after : StreamView)
-      → ((life : Option ℕ) (bytes : List ℕ) (start : StreamView) → IsLogging life bytes start mid log
-      → MatchOption result (IsLogging life (bytes ++ left) start after new) (λ ended. Halts ended life (bytes ++ left) start after))
-      → (life : Option ℕ) (bytes : List ℕ) (start : StreamView) → IsLogging life bytes start before old
-      → MatchOption result (IsLogging life (bytes ++ piece) start after new) (λ ended. Halts ended life (bytes ++ piece) start after)
-  piece-ends result new after answer life bytes start is =
-      subst (λ (b : List ℕ). MatchOption result (IsLogging life b start after new) (λ ended. Halts ended life b start after))
+      → ((settings : Settings) (bytes : List ℕ) (start : StreamView) → IsLogging settings bytes start mid log
+      → MatchOption result (IsLogging settings (bytes ++ left) start after new) (λ ended. Halts ended settings (bytes ++ left) start after))
+      → (settings : Settings) (bytes : List ℕ) (start : StreamView) → IsLogging settings bytes start before old
+      → MatchOption result (IsLogging settings (bytes ++ piece) start after new) (λ ended. Halts ended settings (bytes ++ piece) start after)
+  piece-ends result new after answer settings bytes start is =
+      subst (λ (b : List ℕ). MatchOption result (IsLogging settings b start after new) (λ ended. Halts ended settings b start after))
       (append_assoc bytes so_far.front left ∙ ap (λ (t : List ℕ). bytes ++ t) so_far.is)
-      (answer life (bytes ++ so_far.front) start (so_far.goes life bytes start is))
+      (answer settings (bytes ++ so_far.front) start (so_far.goes settings bytes start is))
 
   pub piece-size : (new : Logging) → read_so_far new ≡ read_so_far log + length left → read_so_far new ≡ read_so_far old + length piece
   piece-size new size =
@@ -130,18 +131,18 @@ module _ (old log : Logging) (piece left : List ℕ) (before mid : StreamView) (
 
 -- ---- reads
 
-pub start-ready : (life : Option ℕ) → IsReady (start_logging life)
-start-ready life = record {
+pub start-ready : (settings : Settings) → IsReady (start_logging settings)
+start-ready settings = record {
   counted = record { accepted = refl; ports = omega arith; lines = omega arith; within = omega arith };
   begun = record { part = tt; short = omega arith; within = omega arith };
   told = refl;
 }
 
-pub round-start : (life : Option ℕ) (seen : Seen) → IsReady (start_logging life) → IsUnderWay life seen seen (start_logging life)
-round-start life seen ready = record {
+pub round-start : (settings : Settings) (seen : Seen) → IsReady (start_logging settings) → IsUnderWay settings seen seen (start_logging settings)
+round-start settings seen ready = record {
   bytes = [];
   read = record { taken = Appends-nil seen.input.taken; left = Consumes-nil seen.input.left };
-  logging = log-start life seen.output;
+  logging = log-start settings seen.output;
   ready = ready;
   reads = refl;
 }
@@ -161,7 +162,7 @@ end_of_input (Some rest) bytes P end holds = subst (λ (r : List ℕ). P (bytes 
 exactly-input : (left : Option (List ℕ)) (bytes : List ℕ) → IsAtEnd left → (P : List ℕ → Type 0) → Exactly bytes P → HoldsOfInput left bytes P
 exactly-input left bytes end P holds = record { read = holds; whole = end_of_input left bytes P end holds }
 
-module _ (life : Option ℕ) (start mid new : Seen) (log : Logging) (under : IsUnderWay life start mid log) where
+module _ (settings : Settings) (start mid new : Seen) (log : Logging) (under : IsUnderWay settings start mid log) where
   module _ (bytes : List ℕ) (taken : Appends mid.input.taken new.input.taken bytes) (left : Consumes mid.input.left new.input.left bytes) (reads : new.input.read_faults ≡ mid.input.read_faults) where
     read-more : HasRead start new (under.bytes ++ bytes)
     read-more = record {
@@ -169,16 +170,16 @@ module _ (life : Option ℕ) (start mid new : Seen) (log : Logging) (under : IsU
       left = Consumes-trans start.input.left mid.input.left new.input.left under.bytes bytes under.read.left left;
     }
 
-    has-logged : (ended : LogStatus) → Says (Following (under.bytes ++ bytes)) ended life start.output new.output → HasLogged life ended start new
+    has-logged : (ended : LogStatus) → Says (Following (under.bytes ++ bytes)) ended settings start.output new.output → HasLogged settings ended start new
     has-logged ended says = record {
       bytes = under.bytes ++ bytes;
       read = read-more;
       reads = reads ∙ under.reads;
-      says = says-map (Following (under.bytes ++ bytes)) (HoldsOfInput new.input.left (under.bytes ++ bytes)) (following-input new.input.left (under.bytes ++ bytes)) ended life start.output new.output says;
+      says = says-map (Following (under.bytes ++ bytes)) (HoldsOfInput new.input.left (under.bytes ++ bytes)) (following-input new.input.left (under.bytes ++ bytes)) ended settings start.output new.output says;
     }
 
     -- the log ended in a piece
-    round-halts : (ended : LogStatus) → Halts ended life (under.bytes ++ bytes) start.output new.output → Logs life ended start new
+    round-halts : (ended : LogStatus) → Halts ended settings (under.bytes ++ bytes) start.output new.output → Logs settings ended start new
     round-halts status.Whole halts = absurd halts
     round-halts status.Waits halts = absurd halts
     round-halts status.Usage halts = absurd halts
@@ -189,22 +190,22 @@ module _ (life : Option ℕ) (start mid new : Seen) (log : Logging) (under : IsU
 
     -- the answer of a piece
     pub round-answer : (result : Option LogStatus) (next : Logging)
-        → ((life : Option ℕ) (bytes' : List ℕ) (start : StreamView) → IsLogging life bytes' start mid.output log
-        → MatchOption result (IsLogging life (bytes' ++ bytes) start new.output next) (λ ended. Halts ended life (bytes' ++ bytes) start new.output))
+        → ((settings : Settings) (bytes' : List ℕ) (start : StreamView) → IsLogging settings bytes' start mid.output log
+        → MatchOption result (IsLogging settings (bytes' ++ bytes) start new.output next) (λ ended. Halts ended settings (bytes' ++ bytes) start new.output))
         → (result ≡ None → IsReady next) → (result ≡ None → read_so_far next ≡ read_so_far log + length bytes) → 0 < length bytes
-        → MatchOption result (IsUnderWay life start new next × IsLonger log next) (λ ended. Logs life ended start new)
+        → MatchOption result (IsUnderWay settings start new next × IsLonger log next) (λ ended. Logs settings ended start new)
     round-answer None next answer ready size some =
         let is_ready = ready refl in (
           record {
             bytes = under.bytes ++ bytes;
             read = read-more;
-            logging = answer life under.bytes start.output under.logging;
+            logging = answer settings under.bytes start.output under.logging;
             ready = is_ready;
             reads = reads ∙ under.reads;
           },
           record { more = omega (arith, size refl); within = is_ready.begun.within },
         )
-    round-answer (Some ended) next answer ready size some = round-halts ended (answer life under.bytes start.output under.logging)
+    round-answer (Some ended) next answer ready size some = round-halts ended (answer settings under.bytes start.output under.logging)
 
   module _ (taken : Keeps mid.input.taken new.input.taken) (left : Keeps mid.input.left new.input.left) where
     read-kept : HasRead start new under.bytes
@@ -214,16 +215,16 @@ module _ (life : Option ℕ) (start mid new : Seen) (log : Logging) (under : IsU
     }
 
     module _ (end : IsAtEnd new.input.left) (reads : new.input.read_faults ≡ mid.input.read_faults) where
-      has-finished : (ended : LogStatus) → Says (Exactly under.bytes) ended life start.output new.output → HasLogged life ended start new
+      has-finished : (ended : LogStatus) → Says (Exactly under.bytes) ended settings start.output new.output → HasLogged settings ended start new
       has-finished ended says = record {
         bytes = under.bytes;
         read = read-kept;
         reads = reads ∙ under.reads;
-        says = says-map (Exactly under.bytes) (HoldsOfInput new.input.left under.bytes) (exactly-input new.input.left under.bytes end) ended life start.output new.output says;
+        says = says-map (Exactly under.bytes) (HoldsOfInput new.input.left under.bytes) (exactly-input new.input.left under.bytes end) ended settings start.output new.output says;
       }
 
       -- the record ended
-      pub round-finishes : (ended : LogStatus) → Says (Exactly under.bytes) ended life start.output new.output → Logs life ended start new
+      pub round-finishes : (ended : LogStatus) → Says (Exactly under.bytes) ended settings start.output new.output → Logs settings ended start new
       round-finishes status.Whole says = record { logged = has-finished status.Whole says; end = end }
       round-finishes status.Waits says = record { logged = has-finished status.Waits says; end = end }
       round-finishes status.Usage says = absurd says
@@ -233,25 +234,25 @@ module _ (life : Option ℕ) (start mid new : Seen) (log : Logging) (under : IsU
       round-finishes status.WriteFault says = has-finished status.WriteFault says
 
     -- a read failed
-    pub round-read_fault : new.output ≡ mid.output → Rose mid.input.read_faults new.input.read_faults → Logs life status.ReadFault start new
+    pub round-read_fault : new.output ≡ mid.output → Rose mid.input.read_faults new.input.read_faults → Logs settings status.ReadFault start new
     round-read_fault output cause = record {
       bytes = under.bytes;
       read = read-kept;
       wrote =
-          subst (λ (w : StreamView). Wrote start.output w (log_so_far life under.bytes)) (sym output)
-          (subst (Wrote start.output mid.output) (sym (log-so_far life under.bytes start.output mid.output log under.logging under.ready.begun.part under.ready.told)) under.logging.wrote);
+          subst (λ (w : StreamView). Wrote start.output w (log_so_far settings under.bytes)) (sym output)
+          (subst (Wrote start.output mid.output) (sym (log-so_far settings under.bytes start.output mid.output log under.logging under.ready.begun.part under.ready.told)) under.logging.wrote);
       cause = subst (λ (n : ℕ). Rose n new.input.read_faults) under.reads cause;
     }
 
 -- memory ran out before the first read
-pub log-memory : (life : Option ℕ) (seen : Seen) → Logs life status.Memory seen seen
-log-memory life seen = record {
+pub log-memory : (settings : Settings) (seen : Seen) → Logs settings status.Memory seen seen
+log-memory settings seen = record {
   bytes = [];
   read = record { taken = Appends-nil seen.input.taken; left = Consumes-nil seen.input.left };
   reads = refl;
   says = record {
     log = [];
     wrote = Appends-nil seen.output.written;
-    is = following-input seen.input.left [] (λ text. IsFront [] (log_of life text)) (λ more. record { more = log_of life more; is = refl });
+    is = following-input seen.input.left [] (λ text. IsFront [] (log_of settings text)) (λ more. record { more = log_of settings more; is = refl });
   };
 }

@@ -18,6 +18,7 @@ use Rattle.replay_run.specs.GoesOn.{IsBegun}
 use Rattle.replay_run.specs.Replay.{Run, course, longest_schedule, parts_of, start_run, then_turned, whole_turned}
 use Rattle.replay_run.specs.Told.{Told}
 use Rattle.world_ports.specs.Streams.{StreamView}
+use Rattle.agent_model.specs.State.{Settings}
 
 -- the run of the whole lines so far, the front of the line that waits for its LF, what was seen and isn't told yet, and
 -- what is kept of clients and keys
@@ -28,8 +29,8 @@ pub record Logging : Type 0 where
   pub book : Book
 
 -- nothing was read yet
-abbrev pub start_logging : Option ℕ → Logging
-start_logging life = record { run = start_run life; pending = []; sights = []; book = new_book }
+abbrev pub start_logging : Settings → Logging
+start_logging settings = record { run = start_run settings; pending = []; sights = []; book = new_book }
 
 -- no line was refused, the one that waits may still be run, and what was seen is told
 pub record IsReady (log : Logging) : Type 0 where
@@ -64,14 +65,14 @@ pub record EndsWith (ended result : LogStatus) (text : List ℕ) (before after :
 -- ---- from the start on
 
 -- these bytes of a record led there, and the lines of the requests whose fate was told are written
-pub record IsLogging (life : Option ℕ) (bytes : List ℕ) (start now : StreamView) (log : Logging) : Type 0 where
+pub record IsLogging (settings : Settings) (bytes : List ℕ) (start now : StreamView) (log : Logging) : Type 0 where
   -- the bytes are whole lines, and the front of one
   pub lines : List ℕ
   pub is : lines ++ log.pending ≡ bytes
   pub whole : (more : List ℕ) → whole_lines (lines ++ more) ≡ lines ++ whole_lines more
   -- the run of these lines goes on from there, whatever follows
   pub told : List Told
-  pub goes : (ended : Bool) (more : List ℕ) → course ended (start_run life) (parts_of (lines ++ more))
+  pub goes : (ended : Bool) (more : List ℕ) → course ended (start_run settings) (parts_of (lines ++ more))
       ≡ then_turned (record { run = log.run; told = told }) (course ended log.run (parts_of more))
   -- what is seen of them was told, or still is to be
   pub seen : List Sight
@@ -89,14 +90,14 @@ abbrev pub Exactly : List ℕ → (List ℕ → Type 0) → Type 0
 Exactly bytes P = P bytes
 
 -- why the log ended before its record did
-abbrev pub Halts : LogStatus → Option ℕ → List ℕ → StreamView → StreamView → Type 0
-Halts status.Whole life bytes start now = ⊥
-Halts status.Waits life bytes start now = ⊥
-Halts status.Usage life bytes start now = ⊥
-Halts status.ReadFault life bytes start now = ⊥
-Halts (status.BadRecord line) life bytes start now = Says (Following bytes) (status.BadRecord line) life start now
-Halts status.Memory life bytes start now = Says (Following bytes) status.Memory life start now
-Halts status.WriteFault life bytes start now = Says (Following bytes) status.WriteFault life start now
+abbrev pub Halts : LogStatus → Settings → List ℕ → StreamView → StreamView → Type 0
+Halts status.Whole settings bytes start now = ⊥
+Halts status.Waits settings bytes start now = ⊥
+Halts status.Usage settings bytes start now = ⊥
+Halts status.ReadFault settings bytes start now = ⊥
+Halts (status.BadRecord line) settings bytes start now = Says (Following bytes) (status.BadRecord line) settings start now
+Halts status.Memory settings bytes start now = Says (Following bytes) status.Memory settings start now
+Halts status.WriteFault settings bytes start now = Says (Following bytes) status.WriteFault settings start now
 
 -- ---- pieces
 
@@ -104,17 +105,17 @@ Halts status.WriteFault life bytes start now = Says (Following bytes) status.Wri
 pub record LoggedSoFar (old : Logging) (piece rest : List ℕ) (new : Logging) (before after : StreamView) : Type 0 where
   pub front : List ℕ
   pub is : front ++ rest ≡ piece
-  pub goes : (life : Option ℕ) (bytes : List ℕ) (start : StreamView) → IsLogging life bytes start before old
-      → IsLogging life (bytes ++ front) start after new
+  pub goes : (settings : Settings) (bytes : List ℕ) (start : StreamView) → IsLogging settings bytes start before old
+      → IsLogging settings (bytes ++ front) start after new
   pub size : read_so_far new ≡ read_so_far old + length front
 
 -- ---- reads
 
 -- a log that goes on: these bytes were read, and the lines of the requests whose fate they tell are written
-pub record IsUnderWay (life : Option ℕ) (old new : Seen) (log : Logging) : Type 0 where
+pub record IsUnderWay (settings : Settings) (old new : Seen) (log : Logging) : Type 0 where
   pub bytes : List ℕ
   pub read : HasRead old new bytes
-  pub logging : IsLogging life bytes old.output new.output log
+  pub logging : IsLogging settings bytes old.output new.output log
   pub ready : IsReady log
   pub reads : new.input.read_faults ≡ old.input.read_faults
 

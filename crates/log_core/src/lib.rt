@@ -12,7 +12,6 @@ mod rows;
 mod seeing;
 mod status;
 mod top;
-mod words;
 mod writing;
 
 pub use laws::a_log_is_of_the_records_run;

@@ -1,6 +1,8 @@
 //! The log of a record that is read piece by piece.
 
-ghost use Rattle.std.specs.Prelude.{◌≡◌, ◌∷◌, [], ◌++◌, ◌+◌, ℕ, List, MatchOption, None, OnOk, Option, length};
+ghost use Rattle.std.specs.Prelude.{◌≡◌, ◌∷◌, [], ◌++◌, ◌+◌, ℕ, List, MatchOption, None, OnOk, length};
+ghost use Rattle.agent_core.specs.Parts.{settings_of};
+ghost use Rattle.agent_model.specs.State.{Settings as Chosen};
 ghost use Rattle.audit_core.specs.Writing.{Writes};
 ghost use Rattle.log_book.specs.Books.{open_in, see_all};
 ghost use Rattle.log_core.specs.Logging.{EndsLine, EndsWith, Exactly, Halts, end_of, IsLogging, IsReady, read_so_far, start_logging};
@@ -14,6 +16,7 @@ use crate::lines::{LONGEST_LINE, line_end};
 use crate::seeing::Seeing;
 use crate::status::{LogStatus, status_for};
 use crate::writing::{log_open, log_seen};
+use agent_core::Settings;
 use audit_core::Stop;
 use log_book::Book;
 use replay_run::{LONGEST_SCHEDULE, Replay};
@@ -46,12 +49,12 @@ impl Model for LogRun {
 }
 
 impl LogRun {
-    pub fn new(alloc: Global, default_life: Option<u32>) -> Self
-        ensures { result ≡ start_logging default_life }
+    pub fn new(alloc: Global, settings: Settings) -> Self
+        ensures { result ≡ start_logging (settings_of settings) }
     {
         LogRun {
             alloc,
-            run: Replay::new(alloc, default_life),
+            run: Replay::new(alloc, settings),
             pending: Vec::new(alloc),
             seeing: Seeing::new(alloc),
             book: Book::new(alloc),
@@ -116,11 +119,11 @@ impl LogRun {
     fn run_line<O: Sink>(&mut self, line: &[u8], output: &mut O) -> Option<LogStatus>
         requires ready { IsReady self.old }
         requires part { HasNoLf line.now }
-        ensures logs { (life : Option ℕ) (bytes : List ℕ) (start : StreamView)
-            → IsLogging life bytes start (O.seen output.old) self.old
+        ensures logs { (chosen : Chosen) (bytes : List ℕ) (start : StreamView)
+            → IsLogging chosen bytes start (O.seen output.old) self.old
             → MatchOption result
-            (IsLogging life (bytes ++ (line.now ++ 10 ∷ [])) start (O.seen output.new) self.new)
-            (λ ended. Halts ended life (bytes ++ (line.now ++ 10 ∷ [])) start
+            (IsLogging chosen (bytes ++ (line.now ++ 10 ∷ [])) start (O.seen output.new) self.new)
+            (λ ended. Halts ended chosen (bytes ++ (line.now ++ 10 ∷ [])) start
             (O.seen output.new)) }
         ensures ready { result ≡ None → IsReady self.new }
         ensures size { result ≡ None →
@@ -141,11 +144,11 @@ impl LogRun {
     fn run_front<O: Sink>(&mut self, front: &[u8], output: &mut O) -> Option<LogStatus>
         requires ready { IsReady self.old }
         requires part { HasNoLf front.now }
-        ensures logs { (life : Option ℕ) (bytes : List ℕ) (start : StreamView)
-            → IsLogging life bytes start (O.seen output.old) self.old
+        ensures logs { (chosen : Chosen) (bytes : List ℕ) (start : StreamView)
+            → IsLogging chosen bytes start (O.seen output.old) self.old
             → MatchOption result
-            (IsLogging life (bytes ++ front.now) start (O.seen output.new) self.new)
-            (λ ended. Halts ended life (bytes ++ front.now) start (O.seen output.new)) }
+            (IsLogging chosen (bytes ++ front.now) start (O.seen output.new) self.new)
+            (λ ended. Halts ended chosen (bytes ++ front.now) start (O.seen output.new)) }
         ensures ready { result ≡ None → IsReady self.new }
         ensures size { result ≡ None →
             read_so_far self.new ≡ read_so_far self.old + length front.now }
@@ -165,11 +168,11 @@ impl LogRun {
     /// Runs the lines of a piece, and writes the lines of the requests whose fate they tell.
     pub fn run_piece<O: Sink>(&mut self, piece: &[u8], output: &mut O) -> Option<LogStatus>
         requires ready { IsReady self.old }
-        ensures logs { (life : Option ℕ) (bytes : List ℕ) (start : StreamView)
-            → IsLogging life bytes start (O.seen output.old) self.old
+        ensures logs { (chosen : Chosen) (bytes : List ℕ) (start : StreamView)
+            → IsLogging chosen bytes start (O.seen output.old) self.old
             → MatchOption result
-            (IsLogging life (bytes ++ piece.now) start (O.seen output.new) self.new)
-            (λ ended. Halts ended life (bytes ++ piece.now) start (O.seen output.new)) }
+            (IsLogging chosen (bytes ++ piece.now) start (O.seen output.new) self.new)
+            (λ ended. Halts ended chosen (bytes ++ piece.now) start (O.seen output.new)) }
         ensures ready { result ≡ None → IsReady self.new }
         ensures size { result ≡ None →
             read_so_far self.new ≡ read_so_far self.old + length piece.now }
@@ -198,9 +201,9 @@ impl LogRun {
     /// Ends the log with its record: behind the lines that are written stand those of the requests without a fate.
     pub fn finish<O: Sink>(&self, output: &mut O) -> LogStatus
         requires ready { IsReady self.now }
-        ensures says { (life : Option ℕ) (bytes : List ℕ) (start : StreamView)
-            → IsLogging life bytes start (O.seen output.old) self.now
-            → Says (Exactly bytes) result life start (O.seen output.new) }
+        ensures says { (chosen : Chosen) (bytes : List ℕ) (start : StreamView)
+            → IsLogging chosen bytes start (O.seen output.old) self.now
+            → Says (Exactly bytes) result chosen start (O.seen output.new) }
         ensures only { OnlyWrites (O.seen output.old) (O.seen output.new) }
     {
         self.end_with(self.end(), output)

@@ -16,7 +16,7 @@ pub enum LogStatus {
     #[error("the record's last line is not whole: it is left out")]
     Waits,
     /// The words are none that the program takes.
-    #[error("usage: log_prog [LIFE]")]
+    #[error("usage: log_prog [LIFE] [--confirm-limit SECONDS]")]
     Usage,
     /// The record could not be read.
     #[error("the record could not be read")]

@@ -1,2 +1,11 @@
+pub mod AgreeLemmas
+pub mod BookLemmas
+pub mod ClientLemmas
 pub mod JobsLemmas
+pub mod LookLemmas
+pub mod ReadLemmas
 pub mod SeenLemmas
+pub mod ShortLemmas
+pub mod SightsLemmas
+pub mod TellLemmas
+pub mod TurnLemmas

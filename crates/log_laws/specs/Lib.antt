@@ -2,3 +2,4 @@
 pub mod Sights
 pub mod Raised
 pub mod Puts
+pub mod Reads

@@ -3,9 +3,10 @@
 ghost use Rattle.std.specs.Prelude.{List};
 ghost use Rattle.world_ports.specs.declared.Moment.{Moment as AMoment};
 ghost use Rattle.agent_model.specs.Events.{Happening, Timed};
-ghost use Rattle.agent_model.specs.State.{State};
+ghost use Rattle.agent_model.specs.State.{Settings, State};
 ghost use Rattle.log_laws.specs.Puts.{SeesPuts, SeesRaises};
 ghost use Rattle.log_laws.specs.Raised.{RaisesItsOwn};
+ghost use Rattle.log_laws.specs.Reads.{TellsWhatIsRead};
 
 /// In whatever state and at whatever moment an event comes, the user is asked about a request only of the client that the
 /// event is of, and exactly where the event began a job to ask him.
@@ -22,4 +23,10 @@ pub fn what_is_put_is_seen()
 /// The same of the requests about which the user is asked.
 pub fn what_is_asked_is_seen()
     ensures { (state : State) (events : List Timed) → SeesRaises state events }
+{}
+
+/// Of each client the requests for signatures that are told in a run are those that the agent read of it, each once and in
+/// the order in which it read them, with the second of the reading, the key and the message.
+pub fn what_is_told_was_read()
+    ensures { (settings : Settings) (events : List Timed) → TellsWhatIsRead settings events }
 {}

@@ -4,4 +4,7 @@
 
 mod laws;
 
-pub use laws::{an_event_asks_about_its_own_client, what_is_asked_is_seen, what_is_put_is_seen};
+pub use laws::{
+    an_event_asks_about_its_own_client, what_is_asked_is_seen, what_is_put_is_seen,
+    what_is_told_was_read,
+};

@@ -1,5 +1,5 @@
-//! The log of a recorded run. `log_prog [LIFE]` runs the record that it reads from standard input again, and writes a
-//! line for each request for a signature that was read in it, with what came of it. `log_main` of log_core is the
+//! The log of a recorded run. `log_prog [LIFE] [--confirm-limit SECONDS]` runs the record that it reads from standard input
+//! again, and writes a line for each request for a signature that was read in it, with what came of it. `log_main` of log_core is the
 //! program; here are its words, its input and its output, and what it says on standard error.
 #![tactic(auto)]
 

@@ -31,7 +31,7 @@ fn a_lock_is_recorded_by_its_number(rt: HostRuntime) -> Result<(), Fail> {
     let mut ready = Vec::new(alloc);
     let mut room = [0; 64];
     let mut tape = Tape::new(alloc);
-    let mut recorder = Recorder::new(&mut world, &mut out, &mut tape);
+    let mut recorder = Recorder::new(&mut world, &mut out, &mut tape, true);
     assert!(rt; recorder.bind(Door::Clients, "s").is_ok());
     assert!(rt; recorder.bind(Door::Children, "s.children").is_ok());
     assert!(rt; recorder.now().is_ok());
@@ -42,7 +42,7 @@ fn a_lock_is_recorded_by_its_number(rt: HostRuntime) -> Result<(), Fail> {
     assert!(rt; recorder.now().is_ok());
     assert!(rt; recorder.write(1, &[0, 0, 0, 1, 6]).is_ok());
     assert!(rt; recorder.now().is_ok());
-    assert!(rt; !recorder.broken());
+    assert!(rt; !recorder.broken() && !recorder.ended());
     drop(recorder);
     assert_eq!(rt; out.written(), RECORD);
     Ok(())

@@ -29,6 +29,7 @@ fn terms(alloc: Global, life: Option<u32>, confirm: bool) -> Terms
         confirm,
         uses: None,
         rules: PlainList::new(alloc),
+        purposes: PlainList::new(alloc),
     }
 }
 

@@ -1,5 +1,5 @@
 -- What a recorder wrote of one call.
-use Rattle.std.proofs.Common.{codes, ◌≡◌, ◌++◌, ◌||◌, Bool, true, false, not, ℕ, List, [], ◌∷◌, Option, refl, sym, ap, subst, ◌∙◌, append_assoc, append-nil, Result, Ok, Err, OnErr, ◌⊎◌, inl, inr}
+use Rattle.std.proofs.Common.{codes, ◌≡◌, ◌++◌, ◌||◌, ◌&&◌, Bool, true, false, not, ℕ, List, [], ◌∷◌, Option, refl, sym, ap, subst, ◌∙◌, append_assoc, append-nil, Result, Ok, Err, OnErr, ◌⊎◌, inl, inr, arith}
 use Rattle.std.specs.Io.KnownBytes.{Appends}
 use Rattle.std.proofs.KnownBytes.{Appends-nil, Appends-trans}
 use Rattle.world_ports.specs.Journal.{Tells}
@@ -9,17 +9,43 @@ use Rattle.world_ports.specs.declared.answers.WorldFault.{WorldFault}
 use Rattle.world_ports.specs.declared.entry.Entry.{Entry}
 use Rattle.world_ports.specs.declared.entry.Entry.TheVariants as entry
 use Rattle.record_world.specs.Recording.{Recording, after, bind_text, is_full, record_from, recording_after, text_of}
-use Rattle.record_world.specs.Leads.{BreaksFor, IsOrder, IsWritten, Leads, Puts, Stays, Taped, Writes, WritesOf, taped}
-use Rattle.record_world.specs.Orders.{cause-none, grows-none, only-none, stays-same, writes-none, writes-twice}
+use Rattle.record_world.specs.Leads.{BreaksFor, EndsCalls, IsOrder, IsWritten, Leads, Puts, Stays, Taped, Writes, WritesOf, is_stopped, taped}
+use Rattle.record_world.specs.Orders.{cause-none, grows-none, only-none, stays-same, writes-none, writes-twice, ends-none}
 
 pub is_order : IsOrder
 is_order = record { stays = writes-none; goes_on = writes-twice }
 
+-- a call on a recorder whose calls end with what is written: that wasn't stopped before
+goes-on : (or_stop stopped : Bool) → (or_stop && stopped) ≡ false → or_stop ≡ true → stopped ≡ true → ⊥
+goes-on true true goes is was = cc
+goes-on true false goes is was = cc
+goes-on false stopped goes is was = cc
+
+ends-one : (or_stop was_stopped : Bool) (one : Entry) (before : Recording) (text : List ℕ) → (or_stop && was_stopped) ≡ false
+    → or_stop ≡ true → EndsCalls was_stopped before (one ∷ []) text
+ends-one or_stop was_stopped one before text goes is = record {
+  told = [];
+  last = one ∷ [];
+  split = refl;
+  one = omega arith;
+  front = record { more = text; is = refl };
+  none = λ was. absurd (goes-on or_stop was_stopped goes is was);
+}
+
+-- one that was let through isn't to end: it wasn't owed that memory ran out, either
+pub let_through : (answer owes ends : Bool) → answer ≡ (owes || ends) → answer ≡ false → ends ≡ false
+let_through answer true ends is none = absurd cc
+let_through answer false ends is none = cc
+
 -- what a call told the journal, and what was written of its entry
-pub leads-call : (is_short : Bool) (one : Entry) (i j : Option (List Entry)) (x y : Taped) → Tells i j is_short one → WritesOf is_short one x y → Leads i j x y
-leads-call false one i j x y told wrote = record { entries = one ∷ []; grows = told; writes = wrote }
-leads-call true one i j x y (inl told) wrote = record { entries = one ∷ []; grows = told; writes = wrote (one ∷ []) }
-leads-call true one i j x y (inr told) wrote = record { entries = []; grows = told; writes = wrote [] }
+pub leads-call : (or_stop is_short : Bool) (one : Entry) (i j : Option (List Entry)) (x y : Taped) → (or_stop && is_stopped x) ≡ false
+    → Tells i j is_short one → WritesOf is_short one x y → Leads or_stop i j x y
+leads-call or_stop false one i j x y goes told wrote =
+    record { entries = one ∷ []; grows = told; writes = wrote; ends = ends-one or_stop (is_stopped x) one x.recording wrote.text goes }
+leads-call or_stop true one i j x y goes (inl told) wrote =
+    record { entries = one ∷ []; grows = told; writes = wrote (one ∷ []); ends = ends-one or_stop (is_stopped x) one x.recording (wrote (one ∷ [])).text goes }
+leads-call or_stop true one i j x y goes (inr told) wrote =
+    record { entries = []; grows = told; writes = wrote []; ends = λ is. ends-none (is_stopped x) x.recording (wrote []).text }
 
 -- ---- nothing is written
 
@@ -131,13 +157,15 @@ overflows one sink false false kept left goes full = record {
 
 -- ---- no call on the inner world, since memory was wanted for it
 
-pub leads-lacking : (lacks : Bool) (journal : Option (List Entry)) (sink : StreamView) (broken short : Bool) (kept : Recording) → lacks ≡ true
-    → Leads journal journal (taped sink broken short kept) (taped sink broken (short || lacks) kept)
-leads-lacking false journal sink broken short kept is = absurd cc
-leads-lacking true journal sink broken short kept is = record {
+pub leads-lacking : (or_stop lacks : Bool) (journal : Option (List Entry)) (sink : StreamView) (broken short : Bool) (kept : Recording) → lacks ≡ true
+    → Leads or_stop journal journal (taped sink broken short kept) (taped sink broken (short || lacks) kept)
+unfolding writes-stopped
+leads-lacking or_stop false journal sink broken short kept is = absurd cc
+leads-lacking or_stop true journal sink broken short kept is = record {
   entries = [];
   grows = grows-none journal;
   writes = writes-stopped [] sink broken short true kept kept (stopped broken short);
+  ends = λ is. ends-none (broken || short) kept [];
 }
   where
     stopped : (a b : Bool) → a || (b || true) ≡ true

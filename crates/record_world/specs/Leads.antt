@@ -1,5 +1,5 @@
 -- An earlier and a later state of one recorder (ours).
-use Rattle.std.specs.Prelude.{◌≡◌, ◌++◌, ◌||◌, ◌⊎◌, Bool, true, false, ℕ, List, [], ◌∷◌, Option}
+use Rattle.std.specs.Prelude.{◌≡◌, ◌≤◌, ◌++◌, ◌||◌, ◌⊎◌, Bool, true, false, ℕ, List, [], ◌∷◌, length, Option}
 use Rattle.std.specs.Io.KnownBytes.{Appends}
 use Rattle.world_ports.specs.Causes.{Rose}
 use Rattle.world_ports.specs.Journal.{Grows}
@@ -86,11 +86,23 @@ pub record Puts (text : List ℕ) (before after : StreamView) (failed : Bool) : 
   pub cause : FailsFor failed before.write_faults after.write_faults
   pub written : PutsText failed text before after
 
--- the entries that the journal has since then are those whose lines were written
-pub record Leads (journal later : Option (List Entry)) (before after : Taped) : Type 0 where
+-- the calls end with what is written: none came where it was stopped before, and the lines of these entries, or of all
+-- but the last, stand in front of the text
+pub record EndsCalls (was_stopped : Bool) (before : Recording) (entries : List Entry) (text : List ℕ) : Type 0 where
+  pub told : List Entry
+  pub last : List Entry
+  pub split : entries ≡ told ++ last
+  pub one : length last ≤ 1
+  pub front : IsFront (record_from before told) text
+  pub none : was_stopped ≡ true → entries ≡ []
+
+-- the entries that the journal has since then are those whose lines were written, and where they are to end with that,
+-- they do
+pub record Leads (or_stop : Bool) (journal later : Option (List Entry)) (before after : Taped) : Type 0 where
   pub entries : List Entry
   pub grows : Grows journal later entries
   pub writes : Writes entries before after
+  pub ends : or_stop ≡ true → EndsCalls (is_stopped before) before.recording entries writes.text
 
 -- what is written of lists of entries is an order
 pub record IsOrder : Type 0 where

@@ -22,7 +22,7 @@ use Rattle.redact_core.specs.Places.{kept_len}
 use Rattle.redact_core.specs.Redaction.{Redacted, redacted_all}
 use Rattle.redact_core.proofs.GrowLemmas.{all_more, over_more}
 use Rattle.record_world.specs.Recording.{Port, Recording, after, at_accept, at_read, at_start, at_write, client_taken, find_port, heard, is_full, record_from, recording_after, rest_taken, taken_by, text_of}
-use Rattle.record_world.specs.Leads.{BreaksFor, IsFront, IsWritten, Leads, Stays, Taped, Writes, is_stopped}
+use Rattle.record_world.specs.Leads.{BreaksFor, EndsCalls, IsFront, IsWritten, Leads, Stays, Taped, Writes, is_stopped}
 
 -- inhabited by false alone
 abbrev Only : Bool → Type 0
@@ -277,14 +277,65 @@ writes-twice x y z a b first later = record {
       (stays-or x.is_broken x.is_short y.is_broken y.is_short first.broken first.short) (stays-or y.is_broken y.is_short z.is_broken z.is_short later.broken later.short) first.lines later.lines;
 }
 
+-- no entries end with what is written
+pub ends-none : (was_stopped : Bool) (before : Recording) (text : List ℕ) → EndsCalls was_stopped before [] text
+ends-none was_stopped before text = record {
+  told = [];
+  last = [];
+  split = refl;
+  one = omega arith;
+  front = record { more = text; is = refl };
+  none = λ was. refl;
+}
+
+-- and so do those of one stretch and then of another
+ends-twice : (s t : Bool) (x y : Recording) (a b : List Entry) (p q : List ℕ) → Stays s t → IsWritten s t x y a p
+    → EndsCalls s x a p → EndsCalls t y b q → EndsCalls s x (a ++ b) (p ++ q)
+ends-twice s true x y a b p q stays written first later = record {
+  told = first.told;
+  last = first.last;
+  split = ap (λ l. a ++ l) (later.none refl) ∙ append-nil a ∙ first.split;
+  one = first.one;
+  front = front-longer (record_from x first.told) p q first.front;
+  none = λ was. ap (λ l. l ++ b) (first.none was) ∙ later.none refl;
+}
+ends-twice true false x y a b p q stays written first later = absurd (no stays)
+ends-twice false false x y a b p q stays written first later = record {
+  told = a ++ later.told;
+  last = later.last;
+  split = ap (λ l. a ++ l) later.split ∙ sym (append_assoc a later.told later.last);
+  one = later.one;
+  front = record {
+    more = later.front.more;
+    is = ap (λ l. l ++ later.front.more) (record-append x a later.told)
+        ∙ append_assoc (record_from x a) (record_from (recording_after x a) later.told) later.front.more
+        ∙ ap (λ l. l ++ (record_from (recording_after x a) later.told ++ later.front.more)) (sym written.lines)
+        ∙ ap (λ r. p ++ (record_from r later.told ++ later.front.more)) (sym written.left)
+        ∙ ap (λ l. p ++ l) later.front.is;
+  };
+  none = λ was. absurd (no was);
+}
+
 -- no entries lead from a journal and a tape to themselves
-pub leads-same : (journal : Option (List Entry)) (tape : Taped) → Leads journal journal tape tape
-leads-same journal tape = record { entries = []; grows = grows-none journal; writes = writes-none tape }
+pub leads-same : (or_stop : Bool) (journal : Option (List Entry)) (tape : Taped) → Leads or_stop journal journal tape tape
+unfolding writes-none
+leads-same or_stop journal tape = record {
+  entries = [];
+  grows = grows-none journal;
+  writes = writes-none tape;
+  ends = λ is. ends-none (is_stopped tape) tape.recording [];
+}
 
 -- the entries of one stretch and then of another are those of both
-pub leads-twice : (i j k : Option (List Entry)) (x y z : Taped) → Leads i j x y → Leads j k y z → Leads i k x z
-leads-twice i j k x y z first later = record {
+pub leads-twice : (early late : Bool) (i j k : Option (List Entry)) (x y z : Taped) → late ≡ early → Leads early i j x y
+    → Leads late j k y z → Leads early i k x z
+unfolding writes-twice
+leads-twice early late i j k x y z same first later = record {
   entries = first.entries ++ later.entries;
   grows = grows-twice i j k first.entries later.entries first.grows later.grows;
   writes = writes-twice x y z first.entries later.entries first.writes later.writes;
+  ends = λ is. ends-twice (is_stopped x) (is_stopped y) x.recording y.recording first.entries later.entries first.writes.text
+      later.writes.text
+      (stays-or x.is_broken x.is_short y.is_broken y.is_short first.writes.broken first.writes.short) first.writes.lines
+      (first.ends is) (later.ends (same ∙ is));
 }

@@ -1,6 +1,6 @@
 //! A world over another that records the calls on it.
 
-ghost use Rattle.std.specs.Prelude.{◌≡◌, false, length};
+ghost use Rattle.std.specs.Prelude.{◌≡◌, false, if◌then◌else◌, length};
 ghost use Rattle.std.proofs.Common.{◌∙◌, refl};
 ghost use Rattle.world_ports.specs.Journal.{got_of};
 ghost use Rattle.world_ports.specs.Worlds.{GotWithin};
@@ -17,19 +17,26 @@ use world_ports::{
 /// A world that makes each call on the world it borrows, hands its answer on, and writes the lines of
 /// a schedule of format 2 to the sink it borrows.
 ///
-/// Where the sink failed, or passphrases came that take too much room, it writes nothing more, and the calls go on. Where memory of its own runs
-/// out, a call answers so; from there on it writes nothing more either. It asks for memory of its own
-/// in `accept` and `read` alone.
+/// Where the sink failed, or passphrases came that take too much room, it writes nothing more, and the calls go on, or
+/// with `or_stop` each answers that memory ran out, and none is made. Where memory of its own runs out, a call answers
+/// so; from there on it writes nothing more either. It asks for memory of its own in `accept` and `read` alone.
 #[derive(Drop)]
 pub struct Recorder<'w, W: World, O: Sink> {
     inner: &'w mut W,
     out: &'w mut O,
     tape: &'w mut Tape,
+    or_stop: bool,
 }
 
 impl<'w, W: World, O: Sink> Recorder<'w, W, O> {
-    /// A recorder of the calls from here on, with a new tape. Takes no memory.
-    pub fn new(inner: &'w mut W, out: &'w mut O, tape: &'w mut Tape) -> Recorder<'w, W, O>
+    /// A recorder of the calls from here on, with a new tape; by `or_stop` they end with what is written. Takes no
+    /// memory.
+    pub fn new(
+        inner: &'w mut W,
+        out: &'w mut O,
+        tape: &'w mut Tape,
+        or_stop: bool,
+    ) -> Recorder<'w, W, O>
         requires ports { W.last_port inner.old ≡ 0 }
         requires empty { taped (O.seen out.old) tape.old.is_broken tape.old.is_short tape.old.notes
             ≡ taped (O.seen out.old) false false first_recording }
@@ -38,8 +45,14 @@ impl<'w, W: World, O: Sink> Recorder<'w, W, O> {
         ensures sink { result.out.ghost_name ≡ out.entry.ghost_name }
         ensures first { taped (O.seen result.out.now) result.tape.now.is_broken result.tape.now.is_short
             result.tape.now.notes ≡ taped (O.seen out.old) false false first_recording }
+        ensures or_stop { result.or_stop ≡ or_stop }
     {
-        Recorder { inner, out, tape }
+        Recorder {
+            inner,
+            out,
+            tape,
+            or_stop,
+        }
     }
 
     /// Whether the sink failed, or the passphrases that came take too much room.
@@ -49,11 +62,16 @@ impl<'w, W: World, O: Sink> Recorder<'w, W, O> {
         self.tape.is_broken
     }
 
-    /// Whether memory ran out in a call, which answered so or whose next one will.
-    pub fn short(&self) -> bool
-        ensures { result ≡ self.now.tape.now.is_short }
+    /// Whether the calls end with what is written: where the record broke, by `or_stop`, else where memory ran out in a
+    /// call, which answered so or whose next one will.
+    pub fn ended(&self) -> bool
+        ensures { result ≡ (if self.now.tape.now.is_broken then self.now.or_stop else self.now.tape.now.is_short) }
     {
-        self.tape.is_short
+        if self.tape.is_broken {
+            self.or_stop
+        } else {
+            self.tape.is_short
+        }
     }
 }
 
@@ -68,30 +86,33 @@ impl<'w, W: World, O: Sink> World for Recorder<'w, W, O> {
 
     ghost leads = { λ x y. (y.inner.ghost_name ≡ x.inner.ghost_name) × (y.out.ghost_name ≡ x.out.ghost_name)
         × W.leads x.inner.now y.inner.now
-        × Leads (W.journal x.inner.now) (W.journal y.inner.now)
+        × Leads x.or_stop (W.journal x.inner.now) (W.journal y.inner.now)
         (taped (O.seen x.out.now) x.tape.now.is_broken x.tape.now.is_short x.tape.now.notes)
-        (taped (O.seen y.out.now) y.tape.now.is_broken y.tape.now.is_short y.tape.now.notes) };
+        (taped (O.seen y.out.now) y.tape.now.is_broken y.tape.now.is_short y.tape.now.notes)
+        × (y.or_stop ≡ x.or_stop) };
 
     ghost stays = { λ x. (
       refl,
       refl,
       W.stays x.inner.now,
-      leads-same (W.journal x.inner.now)
+      leads-same x.or_stop (W.journal x.inner.now)
           (taped (O.seen x.out.now) x.tape.now.is_broken x.tape.now.is_short x.tape.now.notes),
+      refl,
     ) };
 
     ghost goes_on = { λ x y z p q. (
       q.0 ∙ p.0,
       q.1 ∙ p.1,
       W.goes_on x.inner.now y.inner.now z.inner.now p.2 q.2,
-      leads-twice (W.journal x.inner.now) (W.journal y.inner.now) (W.journal z.inner.now)
+      leads-twice x.or_stop y.or_stop (W.journal x.inner.now) (W.journal y.inner.now) (W.journal z.inner.now)
           (taped (O.seen x.out.now) x.tape.now.is_broken x.tape.now.is_short x.tape.now.notes)
           (taped (O.seen y.out.now) y.tape.now.is_broken y.tape.now.is_short y.tape.now.notes)
-          (taped (O.seen z.out.now) z.tape.now.is_broken z.tape.now.is_short z.tape.now.notes) p.3 q.3,
+          (taped (O.seen z.out.now) z.tape.now.is_broken z.tape.now.is_short z.tape.now.notes) p.4 p.3 q.3,
+      q.4 ∙ p.4,
     ) };
 
     fn bind(&mut self, door: Door, path: &str) -> Result<(), WorldFault> {
-        if self.tape.owes_memory() {
+        if self.tape.refuses(self.or_stop) {
             return Err(WorldFault::Memory);
         }
         let answer = self.inner.bind(door, path);
@@ -100,7 +121,7 @@ impl<'w, W: World, O: Sink> World for Recorder<'w, W, O> {
     }
 
     fn poll(&mut self, wait: Option<u64>, out: &mut Vec<Ready>) -> Result<Polled, WorldFault> {
-        if self.tape.owes_memory() {
+        if self.tape.refuses(self.or_stop) {
             return Err(WorldFault::Memory);
         }
         let answer = self.inner.poll(wait, out);
@@ -109,7 +130,7 @@ impl<'w, W: World, O: Sink> World for Recorder<'w, W, O> {
     }
 
     fn accept(&mut self, door: Door) -> Result<Accepted, WorldFault> {
-        if self.tape.owes_memory() {
+        if self.tape.refuses(self.or_stop) {
             return Err(WorldFault::Memory);
         }
         if self.tape.lacks_place() {
@@ -121,7 +142,7 @@ impl<'w, W: World, O: Sink> World for Recorder<'w, W, O> {
     }
 
     fn read(&mut self, port: u64, room: &mut [u8]) -> Result<Got, WorldFault> {
-        if self.tape.owes_memory() {
+        if self.tape.refuses(self.or_stop) {
             return Err(WorldFault::Memory);
         }
         if self.tape.lacks_room(port, room.len()) {
@@ -133,7 +154,7 @@ impl<'w, W: World, O: Sink> World for Recorder<'w, W, O> {
     }
 
     fn write(&mut self, port: u64, bytes: &[u8]) -> Result<Wrote, WorldFault> {
-        if self.tape.owes_memory() {
+        if self.tape.refuses(self.or_stop) {
             return Err(WorldFault::Memory);
         }
         let answer = self.inner.write(port, bytes);
@@ -142,7 +163,7 @@ impl<'w, W: World, O: Sink> World for Recorder<'w, W, O> {
     }
 
     fn close(&mut self, port: u64) -> Result<(), AllocError> {
-        if self.tape.owes_memory() {
+        if self.tape.refuses(self.or_stop) {
             return Err(AllocError);
         }
         let answer = self.inner.close(port);
@@ -151,7 +172,7 @@ impl<'w, W: World, O: Sink> World for Recorder<'w, W, O> {
     }
 
     fn start(&mut self, job: Job) -> Result<[u8; 16], WorldFault> {
-        if self.tape.owes_memory() {
+        if self.tape.refuses(self.or_stop) {
             return Err(WorldFault::Memory);
         }
         let answer = self.inner.start(job);
@@ -160,7 +181,7 @@ impl<'w, W: World, O: Sink> World for Recorder<'w, W, O> {
     }
 
     fn now(&mut self) -> Result<Moment, AllocError> {
-        if self.tape.owes_memory() {
+        if self.tape.refuses(self.or_stop) {
             return Err(AllocError);
         }
         let answer = self.inner.now();

@@ -1,6 +1,6 @@
 //! What a recorder writes for each call on its world, until its sink fails or memory runs out.
 
-ghost use Rattle.std.specs.Prelude.{◌≡◌, ◌++◌, ◌||◌, ℕ, List, Option, OnErr, OnOk, false, true, is_err, not, []};
+ghost use Rattle.std.specs.Prelude.{◌≡◌, ◌++◌, ◌||◌, ◌&&◌, ℕ, List, Option, OnErr, OnOk, false, true, is_err, not, []};
 ghost use Rattle.std.specs.Io.KnownBytes.{Appends};
 ghost use Rattle.world_ports.specs.Causes.{HasCause};
 ghost use Rattle.world_ports.specs.Streams.{OnlyWrites, StreamView, WritesPart};
@@ -79,11 +79,14 @@ impl Tape {
         }
     }
 
-    /// Whether the call is to answer that memory ran out.
-    pub(crate) fn owes_memory(&mut self) -> bool
+    /// Whether the call is to answer that memory ran out: where it ran out behind the last one, and where the calls are
+    /// to end with what is written.
+    pub(crate) fn refuses(&mut self, or_stop: bool) -> bool
         ensures kept { self.new ≡ record self.old { owes = false } }
+        ensures value { result ≡ (self.old.owes || (or_stop && (self.old.is_broken || self.old.is_short))) }
     {
-        mem::take(&mut self.owes)
+        let owes = mem::take(&mut self.owes);
+        owes || (or_stop && (self.is_broken || self.is_short))
     }
 
     // Whether a call is to be recorded, by whether it wanted memory: then nothing is any more.
@@ -127,6 +130,7 @@ impl Tape {
         ensures wrote { (door : Door) (path : List ℕ) → WritesOf (is_short answer.now) (entry.Bind door path answer.now)
             (taped (O.seen out.old) self.old.is_broken self.old.is_short self.old.notes)
             (taped (O.seen out.new) self.new.is_broken self.new.is_short self.new.notes) }
+        ensures short { self.new.is_short ≡ (self.old.is_short || is_short answer.now) }
     {
         if self.records(is_short(answer)) && self.notes.bind() {
             self.is_broken = put(out, FORMAT, &[]);
@@ -138,6 +142,7 @@ impl Tape {
         ensures wrote { (sink : StreamView) (wait : Option ℕ) (items : List Ready) → WritesOf (is_short answer.now) (entry.Poll wait items answer.now)
             (taped sink self.old.is_broken self.old.is_short self.old.notes)
             (taped sink self.new.is_broken self.new.is_short self.new.notes) }
+        ensures short { self.new.is_short ≡ (self.old.is_short || is_short answer.now) }
     {
         if self.records(is_short(answer)) {
             self.notes.pass();
@@ -149,6 +154,8 @@ impl Tape {
         ensures wrote { (sink : StreamView) → WritesOf (is_short answer.now) (entry.Accept door answer.now)
             (taped sink self.old.is_broken self.old.is_short self.old.notes)
             (taped sink self.new.is_broken self.new.is_short self.new.notes) }
+        ensures short { self.new.is_short ≡ true
+            → ((self.old.is_short || is_short answer.now) || self.new.owes) ≡ true }
     {
         if self.records(is_short(answer)) {
             match *answer {
@@ -167,6 +174,8 @@ impl Tape {
         ensures wrote { (sink : StreamView) (room : ℕ) → WritesOf (is_short answer.now) (entry.Read port room bytes.now answer.now)
             (taped sink self.old.is_broken self.old.is_short self.old.notes)
             (taped sink self.new.is_broken self.new.is_short self.new.notes) }
+        ensures short { self.new.is_short ≡ true
+            → ((self.old.is_short || is_short answer.now) || self.new.owes) ≡ true }
     {
         if self.records(is_short(answer)) {
             match *answer {
@@ -186,6 +195,7 @@ impl Tape {
         ensures wrote { (sink : StreamView) (offered : List ℕ) → WritesOf (is_short answer.now) (entry.Write port offered answer.now)
             (taped sink self.old.is_broken self.old.is_short self.old.notes)
             (taped sink self.new.is_broken self.new.is_short self.new.notes) }
+        ensures short { self.new.is_short ≡ (self.old.is_short || is_short answer.now) }
     {
         if self.records(is_short(answer)) {
             match *answer {
@@ -201,6 +211,7 @@ impl Tape {
         ensures wrote { (sink : StreamView) → WritesOf (is_err answer.now) (entry.Close port answer.now)
             (taped sink self.old.is_broken self.old.is_short self.old.notes)
             (taped sink self.new.is_broken self.new.is_short self.new.notes) }
+        ensures short { self.new.is_short ≡ (self.old.is_short || is_err answer.now) }
     {
         if self.records(answer.is_err()) {
             self.notes.close(port);
@@ -212,6 +223,7 @@ impl Tape {
         ensures wrote { (sink : StreamView) → WritesOf (is_short answer.now) (entry.Start job answer.now)
             (taped sink self.old.is_broken self.old.is_short self.old.notes)
             (taped sink self.new.is_broken self.new.is_short self.new.notes) }
+        ensures short { self.new.is_short ≡ (self.old.is_short || is_short answer.now) }
     {
         if self.records(is_short(answer)) {
             match *answer {
@@ -226,6 +238,7 @@ impl Tape {
         ensures wrote { WritesOf (is_err answer.now) (entry.Now answer.now)
             (taped (O.seen out.old) self.old.is_broken self.old.is_short self.old.notes)
             (taped (O.seen out.new) self.new.is_broken self.new.is_short self.new.notes) }
+        ensures short { self.new.is_short ≡ (self.old.is_short || is_err answer.now) }
     {
         if self.records(answer.is_err())
             && let Ok(moment) = *answer

@@ -6,7 +6,7 @@ use Rattle.agent_laws.specs.History.{HasNumbers, IsLawful}
 use Rattle.agent_laws.proofs.HistoryLemmas.{first-lawful}
 use Rattle.agent_model.specs.Events.{Timed, Heard, Ended, StartFailed, Started as JobStarted, Took}
 use Rattle.agent_model.specs.Runs.{history, run}
-use Rattle.agent_model.specs.State.{Port, State, find_port, find_to_start, first_state, owed_of, starts}
+use Rattle.agent_model.specs.State.{Port, Settings, State, find_port, find_to_start, first_state, owed_of, starts}
 use Rattle.agent_model.specs.Step.{step}
 use Rattle.schedule_text.specs.declared.fault.LineFault.{LineFault}
 use Rattle.schedule_text.specs.declared.fault.LineFault.TheVariants.{Order, UnknownPort, Word}
@@ -172,46 +172,46 @@ led-parts before (line ∷ next ∷ parts) plain =
     (led-parts (whole_turned line before).run (next ∷ parts) (behind-plain line next before))
 
 -- line 1 of a schedule of format 2 leaves the agent with limits, and brings nothing
-led-second : (life : Option ℕ) (line : List ℕ) (size : ℕ) → step_of line ≡ Ok Format2
+led-second : (settings : Settings) (line : List ℕ) (size : ℕ) → step_of line ≡ Ok Format2
     → size ≤ length line + 1
-    → IsLed (turned line size (start_run life)) (first_state (settings_by true life))
-led-second life line size asked most =
+    → IsLed (turned line size (start_run settings)) (first_state (settings_by true settings))
+led-second settings line size asked most =
     let short = asked_is_short line Format2 asked in
-    let within : (start_run life).read + size ≤ longest_schedule = omega arith in
-    subst (λ (t : Turned). IsLed t (first_state (settings_by true life))) (sym (turned-step line size (start_run life) Format2 refl within asked)) refl
+    let within : (start_run settings).read + size ≤ longest_schedule = omega arith in
+    subst (λ (t : Turned). IsLed t (first_state (settings_by true settings))) (sym (turned-step line size (start_run settings) Format2 refl within asked)) refl
 
-led-format : (life : Option ℕ) (line : List ℕ) (parts : List (List ℕ)) → step_of line ≡ Ok Format2
-    → IsLed (course true (start_run life) (line ∷ parts)) (first_state (settings_by true life))
+led-format : (settings : Settings) (line : List ℕ) (parts : List (List ℕ)) → step_of line ≡ Ok Format2
+    → IsLed (course true (start_run settings) (line ∷ parts)) (first_state (settings_by true settings))
 unfolding course
-led-format life [] [] asked = let no : Ok Skip ≡ Ok Format2 = sym step_of-empty ∙ asked in absurd cc
-led-format life (byte ∷ bytes) [] asked =
-    led-second life (byte ∷ bytes) (length (byte ∷ bytes)) asked (omega arith)
-led-format life line (next ∷ parts) asked =
-    led-whole (first_state (settings_by true life)) line next parts (start_run life) (led-second life line (length line + 1) asked (omega arith))
-    (led-parts (whole_turned line (start_run life)).run (next ∷ parts) (behind-plain line next (start_run life)))
+led-format settings [] [] asked = let no : Ok Skip ≡ Ok Format2 = sym step_of-empty ∙ asked in absurd cc
+led-format settings (byte ∷ bytes) [] asked =
+    led-second settings (byte ∷ bytes) (length (byte ∷ bytes)) asked (omega arith)
+led-format settings line (next ∷ parts) asked =
+    led-whole (first_state (settings_by true settings)) line next parts (start_run settings) (led-second settings line (length line + 1) asked (omega arith))
+    (led-parts (whole_turned line (start_run settings)).run (next ∷ parts) (behind-plain line next (start_run settings)))
 
 -- by whether line 1 names format 2
-led-begun : (life : Option ℕ) (parts : List (List ℕ))
-    → IsLed (course true (start_run life) parts) (first_state (settings_by (is_second parts) life))
+led-begun : (settings : Settings) (parts : List (List ℕ))
+    → IsLed (course true (start_run settings) parts) (first_state (settings_by (is_second parts) settings))
 unfolding course
-led-begun life [] = refl
-led-begun life (line ∷ parts) = by_test (names_format (step_of line)) refl
+led-begun settings [] = refl
+led-begun settings (line ∷ parts) = by_test (names_format (step_of line)) refl
   where
     by_test : (second : Bool) → names_format (step_of line) ≡ second
-        → IsLed (course true (start_run life) (line ∷ parts)) (first_state (settings_by second life))
-    by_test true is = led-format life line parts (names_the_format (step_of line) is)
+        → IsLed (course true (start_run settings) (line ∷ parts)) (first_state (settings_by second settings))
+    by_test true is = led-format settings line parts (names_the_format (step_of line) is)
     by_test false is =
-        led-parts (start_run life) (line ∷ parts) (λ accepted. ap (λ test. test && true) is)
+        led-parts (start_run settings) (line ∷ parts) (λ accepted. ap (λ test. test && true) is)
 
 -- what is told of a schedule are the events of its run
-pub schedule-course : (life : Option ℕ) (text : List ℕ)
-    → IsCourse (first_state (settings_of life text)) (course true (start_run life) (parts_of text)).told (run_of life text).agent
-schedule-course life text = led-begun life (parts_of text)
+pub schedule-course : (settings : Settings) (text : List ℕ)
+    → IsCourse (first_state (settings_of settings text)) (course true (start_run settings) (parts_of text)).told (run_of settings text).agent
+schedule-course settings text = led-begun settings (parts_of text)
 
-pub run-schedule : (life : Option ℕ) (text : List ℕ)
-    → (run_of life text).agent ≡ run (first_state (settings_of life text)) (events_of life text)
-run-schedule life text = sym (course-run (first_state (settings_of life text)) (course true (start_run life) (parts_of text)).told (run_of life text).agent (schedule-course life text))
+pub run-schedule : (settings : Settings) (text : List ℕ)
+    → (run_of settings text).agent ≡ run (first_state (settings_of settings text)) (events_of settings text)
+run-schedule settings text = sym (course-run (first_state (settings_of settings text)) (course true (start_run settings) (parts_of text)).told (run_of settings text).agent (schedule-course settings text))
 
-pub schedule-lawful : (life : Option ℕ) (text : List ℕ) → HasNumbers (run_of life text).agent
-    → IsLawful life [] (history (first_state (settings_of life text)) (events_of life text))
-schedule-lawful life text numbers = first-lawful (settings_of life text) (events_of life text) (subst HasNumbers (run-schedule life text) numbers)
+pub schedule-lawful : (settings : Settings) (text : List ℕ) → HasNumbers (run_of settings text).agent
+    → IsLawful settings.life [] (history (first_state (settings_of settings text)) (events_of settings text))
+schedule-lawful settings text numbers = first-lawful (settings_of settings text) (events_of settings text) (subst HasNumbers (run-schedule settings text) numbers)

@@ -140,8 +140,8 @@ module _ (before : Run) (steady : IsSteady before.agent) where
       → IsFit (step_brings step before)
   step-fits Skip last some = (steady, tt)
   step-fits Format2 last some =
-      fit-if (before.line == 0) (skips (record before { agent = first_state (settings_by true before.life) })) (Refuses Word)
-      (first-steady (settings_by true before.life), tt) tt
+      fit-if (before.line == 0) (skips (record before { agent = first_state (settings_by true before.settings) })) (Refuses Word)
+      (first-steady (settings_by true before.settings), tt) tt
   step-fits (At moment) last some =
       (steady, comes-fit moment before.held Tick before.agent steady tt)
   step-fits (Join door) last some = happens-fit (Joined door) last
@@ -241,9 +241,9 @@ parts-fit before (line ∷ next ∷ parts) steady counted =
     (parts-fit (whole_turned line before).run (next ∷ parts) first.steady (counted-then line (length line + 1) before (omega arith) counted))
 
 -- whatever a schedule says
-pub schedule-fits : (life : Option ℕ) (text : List ℕ)
-    → AllFit (first_state (settings_of life text)) (events_of life text)
-schedule-fits life text =
-    course-fits (first_state (settings_of life text)) (course true (start_run life) (parts_of text)).told (run_of life text).agent (schedule-course life text)
-    (parts-fit (start_run life) (parts_of text) (first-steady (settings_by false life))
+pub schedule-fits : (settings : Settings) (text : List ℕ)
+    → AllFit (first_state (settings_of settings text)) (events_of settings text)
+schedule-fits settings text =
+    course-fits (first_state (settings_of settings text)) (course true (start_run settings) (parts_of text)).told (run_of settings text).agent (schedule-course settings text)
+    (parts-fit (start_run settings) (parts_of text) (first-steady (settings_by false settings))
     (λ accepted. record { accepted = refl; ports = omega arith; lines = omega arith; within = omega arith }))

@@ -88,7 +88,7 @@ small-peer (Some port) number brought run is = is
 small-step : (step : Step) (run : Run) → IsSmall (step_brings step run) run
 small-step Skip run = omega arith
 small-step Format2 run =
-    small-if (run.line == 0) (skips (record run { agent = first_state (settings_by true run.life) })) (Refuses Word) run (omega arith) tt
+    small-if (run.line == 0) (skips (record run { agent = first_state (settings_by true run.settings) })) (Refuses Word) run (omega arith) tt
 small-step (At moment) run =
     small-comes Tick (record run { moment = moment; closed = closed_at moment run.agent Tick })
 small-step (Join door) run = small-comes (Joined door) run

@@ -3,6 +3,7 @@ use Rattle.std.specs.Prelude.{◌≡◌, ℕ, Bool, List, [], ◌++◌, ◌+◌,
 use Rattle.std.specs.Io.KnownBytes.{Appends}
 use Rattle.world_ports.specs.Causes.{Rose}
 use Rattle.world_ports.specs.Streams.{StreamView}
+use Rattle.agent_model.specs.State.{Settings}
 use Rattle.schedule_text.specs.declared.fault.LineFault.{LineFault}
 use Rattle.replay_run.specs.declared.run_end.RunEnd.{RunEnd}
 use Rattle.replay_run.specs.declared.run_end.RunEnd.TheVariants.{Done, Refused, Memory, ReadFault, WriteFault}
@@ -18,8 +19,8 @@ pub record Feeding : Type 0 where
   pub out : List ℕ
 
 -- nothing was fed yet
-abbrev pub start_feeding : Option ℕ → Feeding
-start_feeding life = record { run = start_run life; pending = []; out = [] }
+abbrev pub start_feeding : Settings → Feeding
+start_feeding settings = record { run = start_run settings; pending = []; out = [] }
 
 -- no line was refused, and the one that waits may still be run
 pub record IsReady (feeding : Feeding) : Type 0 where

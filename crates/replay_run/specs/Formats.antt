@@ -1,21 +1,20 @@
 -- The two formats of schedules (ours: docs/PROTOCOL.md, "Schedules"): in format 2 the helper and the user are waited for
--- so long and no longer.
-use Rattle.std.specs.Prelude.{ℕ, Bool, true, false, List, [], ◌∷◌, Option, Result, Ok, Err}
-use Rattle.agent_model.specs.State.{Settings, TimeLimits, no_limits, usual_limits}
+-- as long as the settings say, and no longer.
+use Rattle.std.specs.Prelude.{ℕ, Bool, true, false, List, [], ◌∷◌, Result, Ok, Err}
+use Rattle.agent_model.specs.State.{Settings, TimeLimits, no_limits}
 use Rattle.schedule_text.specs.declared.fault.LineFault.{LineFault}
 use Rattle.schedule_text.specs.declared.step.Step.{Step}
 use Rattle.schedule_text.specs.declared.step.Step.TheVariants.{Skip, Format2, At, Join, Hear, End, Hold, Free, Take, Started, Failed}
 use Rattle.schedule_text.specs.Lines.{step_of}
 
--- format 2 has the limits of an agent that is served, and format 1 has none
-abbrev pub limits_by : Bool → TimeLimits
-limits_by false = no_limits
-limits_by true = usual_limits
+-- format 2 has the limits that are chosen, and format 1 has none
+abbrev pub limits_by : Bool → TimeLimits → TimeLimits
+limits_by false limits = no_limits
+limits_by true limits = limits
 
--- the settings of a schedule, by whether it is of format 2, where identities that come without a lifetime live for so
--- many seconds
-abbrev pub settings_by : Bool → Option ℕ → Settings
-settings_by is_second life = record { life = life; limits = limits_by is_second }
+-- the settings of a schedule, by whether it is of format 2, from those that are chosen
+abbrev pub settings_by : Bool → Settings → Settings
+settings_by is_second chosen = record chosen { limits = limits_by is_second chosen.limits }
 
 -- the step is that of the line `schedule 2`
 abbrev pub is_format : Step → Bool

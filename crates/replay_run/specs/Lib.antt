@@ -1,6 +1,7 @@
 -- what public contracts say: how a run ends, what a schedule prints, its format, and how ports settle
 pub mod Claims
 pub mod Replay
+pub mod Choices
 pub mod Formats
 pub mod Settling
 pub mod Told

@@ -3,7 +3,7 @@
 -- brings events, each of them one step of the abstract agent, agent_model's specs/Step.antt: its own, and
 -- what ports take after it, specs/Settling.antt. A run is a fold over these events, and what is printed of
 -- each is in specs/Told.antt.
-use Rattle.std.specs.Prelude.{ℕ, suc, ◌+◌, ◌==◌, ◌||◌, nat_lt, Bool, true, false, if◌then◌else◌, List, [], ◌∷◌, ◌++◌, length, Option, None, Some, Result, Ok, Err}
+use Rattle.std.specs.Prelude.{ℕ, suc, ◌+◌, ◌^◌, ◌==◌, ◌||◌, nat_lt, Bool, true, false, if◌then◌else◌, List, [], ◌∷◌, ◌++◌, length, Option, None, Some, Result, Ok, Err}
 use Rattle.std.specs.List.{flat_map, list_any, slice_split}
 use Rattle.world_ports.specs.declared.Job.{Job}
 use Rattle.world_ports.specs.declared.Moment.{Moment}
@@ -21,11 +21,10 @@ use Rattle.replay_run.specs.Holding.{hold_port, free_port}
 use Rattle.replay_run.specs.Settling.{closed_at, comes, takings}
 use Rattle.replay_run.specs.Told.{Told, Barred, events_in, text_of, told_from}
 
--- a run so far: for how many seconds identities live that come without a lifetime, the agent, the moment of the last
--- `at` line, the ports that it closed where it is the line before, the held ports, how many lines were run, how many
+-- a run so far: the settings that were chosen for it, the agent, the moment of the last `at` line, the ports that it closed where it is the line before, the held ports, how many lines were run, how many
 -- bytes they had, and why the next one was refused; the refused line is counted, and its bytes are not
 pub record Run : Type 0 where
-  pub life : Option ℕ
+  pub settings : Settings
   pub agent : State
   pub moment : Moment
   pub closed : List ℕ
@@ -34,11 +33,11 @@ pub record Run : Type 0 where
   pub read : ℕ
   pub refused : Option LineFault
 
--- the run before the first line; identities that come without a lifetime live for so many seconds
-abbrev pub start_run : Option ℕ → Run
-start_run life = record {
-  life = life;
-  agent = first_state (settings_by false life);
+-- the run before the first line, with these settings
+abbrev pub start_run : Settings → Run
+start_run settings = record {
+  settings = settings;
+  agent = first_state (settings_by false settings);
   moment = record { mono = 0; wall = 0 };
   closed = [];
   held = [];
@@ -88,7 +87,7 @@ at_job (Some job) brought = brought
 abbrev pub step_brings : Step → Run → Brought
 step_brings Skip run = skips run
 step_brings Format2 run =
-    if run.line == 0 then skips (record run { agent = first_state (settings_by true run.life) }) else Refuses Word
+    if run.line == 0 then skips (record run { agent = first_state (settings_by true run.settings) }) else Refuses Word
 step_brings (At moment) run =
     let now = record run { moment = moment; closed = closed_at moment run.agent Tick } in
     Brings now (comes moment run.held run.agent Tick)
@@ -143,7 +142,7 @@ longest_line = 65536
 
 -- the most bytes of a schedule
 abbrev pub longest_schedule : ℕ
-longest_schedule = 268435456
+longest_schedule = 2 ^ 60
 
 -- what a line asks for that ends with this byte of the schedule, counted from 1
 abbrev pub step_at : ℕ → List ℕ → Result Step LineFault
@@ -226,21 +225,21 @@ unfoldable pub printed : Bool → Run → List (List ℕ) → List ℕ
 printed ended run parts = output (course ended run parts) ++ ending ended (ran ended run parts).refused
 
 -- the settings of a schedule
-abbrev pub settings_of : Option ℕ → List ℕ → Settings
-settings_of life text = settings_by (is_second (parts_of text)) life
+abbrev pub settings_of : Settings → List ℕ → Settings
+settings_of chosen text = settings_by (is_second (parts_of text)) chosen
 
--- the run after a schedule, where identities that come without a lifetime live for so many seconds
-abbrev pub run_of : Option ℕ → List ℕ → Run
-run_of life text = ran true (start_run life) (parts_of text)
+-- the run after a schedule, with the settings that were chosen for it
+abbrev pub run_of : Settings → List ℕ → Run
+run_of chosen text = ran true (start_run chosen) (parts_of text)
 
 -- all events that it brings, the takings of each settling among them
-abbrev pub events_of : Option ℕ → List ℕ → List Timed
-events_of life text = events_in (course true (start_run life) (parts_of text)).told
+abbrev pub events_of : Settings → List ℕ → List Timed
+events_of chosen text = events_in (course true (start_run chosen) (parts_of text)).told
 
 -- all that it prints
-abbrev pub output_of : Option ℕ → List ℕ → List ℕ
-output_of life text = printed true (start_run life) (parts_of text)
+abbrev pub output_of : Settings → List ℕ → List ℕ
+output_of chosen text = printed true (start_run chosen) (parts_of text)
 
 -- what the whole lines of the front of a schedule print
-abbrev pub output_so_far : Option ℕ → List ℕ → List ℕ
-output_so_far life text = printed false (start_run life) (parts_of text)
+abbrev pub output_so_far : Settings → List ℕ → List ℕ
+output_so_far chosen text = printed false (start_run chosen) (parts_of text)

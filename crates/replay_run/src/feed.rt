@@ -2,6 +2,7 @@
 
 ghost use Rattle.std.specs.Prelude.{◌≡◌, ◌∷◌, [], ◌++◌, ◌≤◌, ◌+◌, length, true};
 ghost use Rattle.std.specs.Prelude.{MatchOption, None, OnErr, OnOk};
+ghost use Rattle.agent_core.specs.Parts.{settings_of};
 ghost use Rattle.world_ports.specs.Causes.{HasCause};
 ghost use Rattle.replay_run.specs.Finishing.{Finishes, agent_at, end_of, state_left};
 ghost use Rattle.replay_run.specs.Replay.{last_turned, ending, output};
@@ -11,7 +12,7 @@ ghost use Rattle.world_ports.specs.Streams.{OnlyWrites, WritesPart};
 
 use crate::limits::{LONGEST_LINE, LONGEST_SCHEDULE, ROOM};
 use crate::{Replay, RunEnd};
-use agent_core::Agent;
+use agent_core::{Agent, Settings};
 use schedule_text::{Deed, LineFault, put_deed};
 use std::alloc::{AllocError, Global};
 use std::marker::Model;
@@ -41,11 +42,11 @@ pub fn line_end(bytes: &[u8]) -> Option<usize>
 }
 
 impl Feed {
-    pub fn new(alloc: Global, default_life: Option<u32>) -> Self
-        ensures { result ≡ start_feeding default_life }
+    pub fn new(alloc: Global, settings: Settings) -> Self
+        ensures { result ≡ start_feeding (settings_of settings) }
     {
         Feed {
-            run: Replay::new(alloc, default_life),
+            run: Replay::new(alloc, settings),
             pending: Vec::new(alloc),
             out: Vec::new(alloc),
         }

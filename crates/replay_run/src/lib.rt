@@ -4,6 +4,7 @@
 //! Stands on agent_core, schedule_text and world_ports, and on wire_core, frame_core and child_msg for the drill's messages.
 #![tactic(auto)]
 
+mod choices;
 mod drill;
 mod feed;
 mod held;
@@ -16,12 +17,13 @@ mod run_end;
 mod settle;
 mod watch;
 
+pub use choices::{read_lived, read_settings, read_with, served_settings};
 pub use drill::run_drill;
 use feed::Feed;
 pub use held::Held;
 pub use lawful::{a_drill_is_lawful, a_schedule_is_lawful};
 pub use laws::{a_moment_without_limits_closes_nothing, nothing_is_owed_after_settling};
-pub use limits::{ASK_LIMIT, CONFIRM_LIMIT, LONGEST_SCHEDULE};
+pub use limits::LONGEST_SCHEDULE;
 pub use replay::Replay;
 pub use run::run_replay;
 pub use run_end::RunEnd;

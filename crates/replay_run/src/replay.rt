@@ -3,6 +3,7 @@
 ghost use Rattle.std.specs.Prelude.{◌≡◌, ◌≢◌, ◌+◌, ◌<◌, ◌≤◌, ◌++◌, ◌^◌, OnOk};
 ghost use Rattle.std.specs.List.{flat_map};
 ghost use Rattle.agent_core.specs.Happenings.{happening};
+ghost use Rattle.agent_core.specs.Parts.{settings_of};
 ghost use Rattle.agent_model.specs.State.{Fits};
 ghost use Rattle.schedule_text.specs.Steps.{SaysSome};
 ghost use Rattle.replay_run.specs.Counts.{IsCounted};
@@ -25,7 +26,7 @@ use world_ports::Moment;
 #[derive(Drop)]
 pub struct Replay {
     alloc: Global,
-    life: Option<u32>,
+    settings: Settings,
     agent: Agent,
     moment: Moment,
     closed: Vec<u64>,
@@ -36,12 +37,13 @@ pub struct Replay {
 }
 
 impl Model for Replay {
+    ghost use Rattle.agent_core.specs.Parts.{settings_of};
     ghost use Rattle.replay_run.specs.Replay.{Run};
 
     ghost Value = { Run };
 
     ghost view = { λ r. record {
-      life = r.life;
+      settings = settings_of r.settings;
       agent = r.agent.state;
       moment = r.moment;
       closed = r.closed.items;
@@ -53,18 +55,19 @@ impl Model for Replay {
 }
 
 impl Replay {
-    pub fn new(alloc: Global, default_life: Option<u32>) -> Self
-        ensures { result ≡ start_run default_life }
+    /// Before the first line. The limits of `settings` are those of format 2 alone.
+    pub fn new(alloc: Global, settings: Settings) -> Self
+        ensures { result ≡ start_run (settings_of settings) }
     {
-        let settings = Settings {
-            default_life,
+        let unlimited = Settings {
             ask_limit: None,
             confirm_limit: None,
+            ..settings
         };
         Replay {
             alloc,
-            life: default_life,
-            agent: Agent::new(alloc, settings),
+            settings,
+            agent: Agent::new(alloc, unlimited),
             moment: Moment { mono: 0, wall: 0 },
             closed: Vec::new(alloc),
             held: Held::new(alloc),

@@ -10,15 +10,17 @@ use Rattle.world_ports.specs.Life.{life_of}
 -- the command line: -a PATH and --helper PROGRAM have to be there, and the other options may be
 unfoldable pub serve_app : App
 serve_app =
-    with_rule (with_rule (with_rule (with_rule (with_rule (with_rule (with_rule (with_rule (new_app (codes "serve"))
+    with_rule (with_rule (with_rule (with_rule (with_rule (with_rule (with_rule (with_rule (with_rule (with_rule (new_app (codes "serve"))
     (short_rule (codes "path") 97 true))
     (long_rule (codes "helper") true))
     (long_rule (codes "helper-data") false))
     (long_rule (codes "relay") false))
     (long_rule (codes "askpass") false))
     (short_rule (codes "lifetime") 116 false))
+    (long_rule (codes "confirm-limit") false))
     (flag_rule (codes "until-idle")))
-    (flag_rule (codes "record"))
+    (flag_rule (codes "record")))
+    (flag_rule (codes "record-or-stop"))
 
 -- clap takes the words, of which the first is the command's own
 unfoldable pub is_taken : List (List ℕ) → Bool
@@ -44,16 +46,40 @@ abbrev pub is_no_life : Option (List ℕ) → Bool
 is_no_life None = false
 is_no_life (Some word) = not (is_some (life_of word))
 
+-- the flag was given
+abbrev pub is_set : Option (List ℕ) → Bool
+is_set None = false
+is_set (Some value) = bytes_eq value (codes "true")
+
+-- the output is to be a record of what happens
+abbrev pub is_recorded : List (List ℕ) → Bool
+is_recorded words = is_set (value_of (codes "record") words)
+
+-- the agent is to end with the record
+abbrev pub ends_with_record : List (List ℕ) → Bool
+ends_with_record words = is_set (value_of (codes "record-or-stop") words)
+
+-- a lifetime that is not 0
+abbrev pub some_life : ℕ → Option ℕ
+some_life seconds = if seconds == 0 then None else Some seconds
+
+-- the seconds that a limit says: read as a lifetime, and 1 at least
+abbrev pub limit_of : List ℕ → Option ℕ
+limit_of word = option_and_then some_life (life_of word)
+
+-- the word is there and says no limit
+abbrev pub is_no_limit : Option (List ℕ) → Bool
+is_no_limit None = false
+is_no_limit (Some word) = not (is_some (limit_of word))
+
 -- the words are none of the forms
 abbrev pub is_usage : List (List ℕ) → Bool
 is_usage words = not (begins words && is_taken words
     && is_some (value_of (codes "path") words) && is_some (value_of (codes "helper") words))
     || is_one_alone (value_of (codes "relay") words) (value_of (codes "askpass") words)
     || is_no_life (value_of (codes "lifetime") words)
-
--- a lifetime that is not 0
-abbrev pub some_life : ℕ → Option ℕ
-some_life seconds = if seconds == 0 then None else Some seconds
+    || is_no_limit (value_of (codes "confirm-limit") words)
+    || (ends_with_record words && not (is_recorded words))
 
 -- the lifetime that a word says, where it is there: none for 0
 abbrev pub default_life : Option (List ℕ) → Option ℕ
@@ -63,11 +89,6 @@ default_life word = option_and_then some_life (option_and_then life_of word)
 abbrev pub life_in : List (List ℕ) → Option ℕ
 life_in words = default_life (value_of (codes "lifetime") words)
 
--- the flag was given
-abbrev pub is_set : Option (List ℕ) → Bool
-is_set None = false
-is_set (Some value) = bytes_eq value (codes "true")
-
--- the output is to be a record of what happens
-abbrev pub is_recorded : List (List ℕ) → Bool
-is_recorded words = is_set (value_of (codes "record") words)
+-- how long a question to the user may stay open, where the words say so
+abbrev pub limit_in : List (List ℕ) → Option ℕ
+limit_in words = option_and_then limit_of (value_of (codes "confirm-limit") words)

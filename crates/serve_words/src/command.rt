@@ -21,8 +21,10 @@ pub fn serve_command<'a>(alloc: Global) -> Result<Command<'a>, AllocError>
     let with_relay = with_data.arg(long_arg(alloc, "relay", false))?;
     let with_askpass = with_relay.arg(long_arg(alloc, "askpass", false))?;
     let with_life = with_askpass.arg(short_arg(alloc, "lifetime", 't', false))?;
-    let with_idle = with_life.arg(flag_arg(alloc, "until-idle"))?;
-    let whole = with_idle.arg(flag_arg(alloc, "record"))?;
+    let with_limit = with_life.arg(long_arg(alloc, "confirm-limit", false))?;
+    let with_idle = with_limit.arg(flag_arg(alloc, "until-idle"))?;
+    let with_record = with_idle.arg(flag_arg(alloc, "record"))?;
+    let whole = with_record.arg(flag_arg(alloc, "record-or-stop"))?;
     Ok(whole)
 }
 

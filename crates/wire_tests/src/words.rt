@@ -22,7 +22,7 @@ fn says(word: &Option<String>, text: &str) -> bool {
 #[test]
 fn all_words_are_read(rt: HostRuntime) -> Result<(), Fail> {
     let line =
-        "serve --helper=/bin/h -a s --until-idle -t 1h --record --relay r --askpass k --helper-data d";
+        "serve --helper=/bin/h -a s --until-idle -t 1h --record-or-stop --record --relay r --askpass k --helper-data d";
     let served = read(rt.alloc(), line)??;
     assert_eq!(rt; served.path.as_str(), "s");
     assert_eq!(rt; served.helper.as_str(), "/bin/h");
@@ -31,7 +31,7 @@ fn all_words_are_read(rt: HostRuntime) -> Result<(), Fail> {
     assert!(rt; says(&served.askpass, "k"));
     assert_eq!(rt; served.life, Some(3600));
     assert!(rt; served.until_idle);
-    assert!(rt; served.recorded);
+    assert!(rt; served.recorded && served.or_stop);
     Ok(())
 }
 
@@ -42,7 +42,7 @@ fn the_least_words_are_read(rt: HostRuntime) -> Result<(), Fail> {
     assert!(rt; served.helper_data.is_none() && served.relay.is_none());
     assert_eq!(rt; served.life, None);
     assert!(rt; !served.until_idle);
-    assert!(rt; !served.recorded);
+    assert!(rt; !served.recorded && !served.or_stop);
     Ok(())
 }
 
@@ -58,6 +58,7 @@ fn other_words_are_refused(rt: HostRuntime) -> Result<(), Fail> {
         "serve -a s -a s --helper h",
         "serve -a s --helper h --relay r",
         "serve -a s --helper h --askpass k",
+        "serve -a s --helper h --record-or-stop",
         "serve -a s --helper h -t 1x",
         "serve -a s --helper h --until-idle --until-idle",
         "serve --help",

@@ -8,10 +8,9 @@ ghost use Rattle.replay_run.specs.Counts.{IsCounted};
 ghost use Rattle.replay_run.specs.Replay.{at_job, at_peer, brought_turned, happens, longest_schedule, skips, step_brings};
 ghost use Rattle.schedule_text.specs.declared.step.Step.TheVariants.{At, Format2, Free, Hold, Take};
 
-use crate::limits::{ASK_LIMIT, CONFIRM_LIMIT};
 use crate::replay::Replay;
 use crate::watch::{Watch, is_among};
-use agent_core::{Agent, Event, Settings};
+use agent_core::{Agent, Event};
 use schedule_text::LineFault;
 use std::alloc::AllocError;
 use world_ports::Moment;
@@ -34,12 +33,7 @@ impl Replay {
         if self.line != 0 {
             return self.refuse(LineFault::Word, watch);
         }
-        let settings = Settings {
-            default_life: self.life,
-            ask_limit: Some(ASK_LIMIT),
-            confirm_limit: Some(CONFIRM_LIMIT),
-        };
-        self.agent = Agent::new(self.alloc, settings);
+        self.agent = Agent::new(self.alloc, self.settings);
         self.skip(size);
         Ok(())
     }

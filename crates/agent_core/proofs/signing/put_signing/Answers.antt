@@ -1,8 +1,5 @@
-use Rattle.std.proofs.Common.{◌∙◌, List, Option, ap, false, is_some, sym}
-use Rattle.constraint_rec.specs.declared.constraint.Constraint.{Constraint}
-use Rattle.dest_rule.specs.declared.denial.Denial.{Denial}
-use Rattle.std.specs.Option.{is_none}
-use Rattle.dest_rule.specs.Rules.{denial_under}
+use Rattle.std.proofs.Common.{◌∙◌, ap, false, is_some, sym}
+use Rattle.agent_model.specs.Objections.{objection}
 use Rattle.agent_msg.specs.Requests.{Signing as Request}
 use Rattle.agent_model.specs.Actions.{Work}
 use Rattle.agent_model.specs.KeyStates.{KeyState}
@@ -31,8 +28,7 @@ returns-in-Some-clause-under_way c =
     let keys : KeyState = keys_of c.args.table.now c.args.lock.now in
     let signing : Request = record { blob = c.args.blob.now; message = c.args.message.now; flags = c.args.flags } in
     let unlocked : is_some c.args.lock.now ≡ false = cc (c.is_locked.ensures.value, c.if-is_locked.false) in
-    let denial : List Constraint → Option Denial = λ rules. denial_under rules c.args.blob.now c.args.asker.now.chain.now.bindings c.args.message.now c.args.asker.now.wall in
-    let permitted = undenied (denial key.rules) (c.if-permits.ensures ∙ ap (λ rules. is_none (denial rules)) c.rules.ensures) in
+    let permitted = undenied (objection key c.args.blob.now c.args.asker.now.chain.now.bindings c.args.message.now c.args.asker.now.wall) c.if-permits.ensures in
     after_ok c.sign_with.result
     (λ is. is ∙ ap (λ (w : Work). w.under_way) (served-signed c.args.asker.now key signing keys c.args.under_way.now (none_of c.args.lock.now unlocked) (sym c.in-Some.ensures.value) permitted))
     c.sign_with.ensures.under_way

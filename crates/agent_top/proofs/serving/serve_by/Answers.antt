@@ -1,9 +1,10 @@
 use Rattle.std.proofs.Common.{ap, arith, subst, sym, true, ◌∙◌, ◌≤◌, Bool, Some}
 use Rattle.agent_top.specs.ServeProgram.{ServesExactly}
-use Rattle.agent_model.specs.State.{State}
+use Rattle.agent_model.specs.State.{State, first_state}
 use Rattle.loop_model.specs.Orderly.{IsOrderly}
 use Rattle.loop_model.proofs.OwedLemmas.{orderly_first}
 use Rattle.agent_model.specs.Actions.{Stepped}
+use Rattle.agent_top.proofs.RecordLemmas.{unwritten}
 use Rattle.agent_top.proofs.ServeFairLemmas.{serves_fairly}
 use Rattle.agent_top.proofs.ServeLawLemmas.{serves_lawfully}
 use Rattle.agent_top.proofs.ServeLemmas.{serves_by, serves_words}
@@ -20,10 +21,10 @@ serve-requires-clause-second g c =
 
 pub returns-clause-serves : goal.returns-clause-serves
 returns-clause-serves g c setting is =
-    serves_words _ c.args.words.now setting c.as_str-path.result.now c.in-Ok.served.until_idle c.in-Ok.served.life c.new-agent.result.state _
+    serves_words _ c.args.words.now setting c.as_str-path.result.now c.in-Ok.served.until_idle c.in-Ok.served.life c.in-Ok.served.confirm_limit c.new-agent.result.state _
     (g.W.World.journal c.args.world.now) (g.W.World.journal c.serve.new.world) is
-    (ap Some c.as_str-path.ensures.value ∙ c.in-Ok.ensures.path) c.in-Ok.ensures.until_idle c.in-Ok.ensures.life
-    (ap (λ (seen : Stepped). seen.state) c.new-agent.ensures)
+    (ap Some c.as_str-path.ensures.value ∙ c.in-Ok.ensures.path) c.in-Ok.ensures.until_idle c.in-Ok.ensures.life c.in-Ok.ensures.confirm_limit
+    (ap (λ (seen : Stepped). seen.state) c.new-agent.ensures ∙ ap first_state c.served_settings-settings.ensures)
     (rw c.status_of_serving.ensures (serves_by _ c.serve.result _ _ _ c.serve.ensures.serves))
 
 pub returns-clause-serves_lawfully : goal.returns-clause-serves_lawfully
@@ -42,13 +43,17 @@ pub returns-then-served-clause-serves : goal.returns-then-served-clause-serves
 returns-then-served-clause-serves g c setting is =
     subst (λ (recorded : Bool). ServesExactly recorded setting c.serve_recorded.result (g.W.World.journal c.args.world.now) (g.W.World.journal c.serve_recorded.new.world))
     (sym c.if-served.true ∙ c.in-Ok.ensures.recorded)
-    (serves_words true c.args.words.now setting c.as_str-path.result.now c.in-Ok.served.until_idle c.in-Ok.served.life c.new-agent.result.state c.serve_recorded.result
+    (serves_words true c.args.words.now setting c.as_str-path.result.now c.in-Ok.served.until_idle c.in-Ok.served.life c.in-Ok.served.confirm_limit c.new-agent.result.state c.serve_recorded.result
     (g.W.World.journal c.args.world.now) (g.W.World.journal c.serve_recorded.new.world) is
-    (ap Some c.as_str-path.ensures.value ∙ c.in-Ok.ensures.path) c.in-Ok.ensures.until_idle c.in-Ok.ensures.life
-    (ap (λ (seen : Stepped). seen.state) c.new-agent.ensures) c.serve_recorded.ensures.serves)
+    (ap Some c.as_str-path.ensures.value ∙ c.in-Ok.ensures.path) c.in-Ok.ensures.until_idle c.in-Ok.ensures.life c.in-Ok.ensures.confirm_limit
+    (ap (λ (seen : Stepped). seen.state) c.new-agent.ensures ∙ ap first_state c.served_settings-settings.ensures) c.serve_recorded.ensures.serves)
 
 pub returns-then-served-clause-serves_lawfully : goal.returns-then-served-clause-serves_lawfully
 returns-then-served-clause-serves_lawfully g c setting is = serves_lawfully _ setting _ _ is.state
 
 pub returns-then-served-clause-serves_fairly : goal.returns-then-served-clause-serves_fairly
 returns-then-served-clause-serves_fairly g c setting is = serves_fairly setting _ _
+
+pub returns-in-Err-Memory-clause-records : goal.returns-in-Err-Memory-clause-records
+returns-in-Err-Memory-clause-records g c setting is recorded =
+    unwritten _ (g.W.World.journal c.args.world.now) (g.O.Stream.seen c.args.output.now)

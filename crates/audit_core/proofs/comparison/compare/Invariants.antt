@@ -1,4 +1,5 @@
 use Rattle.std.proofs.Common.{◌≡◌, ◌≤◌, ◌+◌, [], true, length}
+use Rattle.agent_core.specs.Parts.{settings_of}
 use Rattle.audit_core.specs.Passes.{difference}
 use Rattle.audit_core.specs.Reports.{first_difference}
 use Rattle.audit_core.proofs.comparison.compare.Given as goal
@@ -11,8 +12,8 @@ invariant-lines l = record {
   counted : IsCounted l.run;
   out : l.out.items ≡ [];
   line : l.matching.line ≤ l.matching.at + 1;
-  same : difference l.matching (printed true l.run (parts_of l.rest)) l.deeds ≡ first_difference (output_of l.fn.life l.text) l.deeds;
-  run : ran true l.run (parts_of l.rest) ≡ run_of l.fn.life l.text;
+  same : difference l.matching (printed true l.run (parts_of l.rest)) l.deeds ≡ first_difference (output_of (settings_of l.fn.settings) l.text) l.deeds;
+  run : ran true l.run (parts_of l.rest) ≡ run_of (settings_of l.fn.settings) l.text;
 }
 
 abbrev pub decreases-lines : goal.decreases-lines

@@ -13,7 +13,7 @@ returns-in-Ok-clause-audits g c = λ held asked words told.
     let same = asked_once read asked (asked_in (texts_of c.args.words.now)) c.in-Some.ensures words in
     let both = c.in-Ok.ensures.read held told in
     let ends =
-    subst (λ (text : List ℕ). EndsAudit read.life text texts.deeds.items c.audit.result before after) c.deref.ensures.value
-    (subst (λ (deeds : List ℕ). EndsAudit read.life c.deref.result.now deeds c.audit.result before after) c.deref-in-Ok.ensures.value c.audit.ensures.ends) in
+    subst (λ (text : List ℕ). EndsAudit read.settings text texts.deeds.items c.audit.result before after) c.deref.ensures.value
+    (subst (λ (deeds : List ℕ). EndsAudit read.settings c.deref.result.now deeds c.audit.result before after) c.deref-in-Ok.ensures.value c.audit.ensures.ends) in
     subst (λ (a : Asked). Audits held a c.audit.result before after) same
     (audits_by held read texts.recording.items texts.deeds.items c.audit.result before after both.0 both.1 ends)

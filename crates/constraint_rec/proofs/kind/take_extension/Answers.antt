@@ -5,6 +5,10 @@ pub returns-then-eq-clause-shorter : goal.returns-then-eq-clause-shorter
 returns-then-eq-clause-shorter c =
     behind_string c.args.from.now c.in_ok-name.name.now c.take_string.new.self c.in_ok-name.ensures.found
 
+pub returns-then-eq-3-clause-shorter : goal.returns-then-eq-3-clause-shorter
+returns-then-eq-3-clause-shorter c =
+    behind_string c.args.from.now c.in_ok-name.name.now c.take_string.new.self c.in_ok-name.ensures.found
+
 pub returns-then-eq-2-clause-shorter : goal.returns-then-eq-2-clause-shorter
 returns-then-eq-2-clause-shorter c =
     behind_string c.args.from.now c.in_ok-name.name.now c.take_string.new.self c.in_ok-name.ensures.found

@@ -1,3 +1,9 @@
+use Rattle.std.proofs.Common.{ap, ◌∙◌}
+use Rattle.log_laws.specs.Reads.{told_of_client}
+use Rattle.log_laws.proofs.TellLemmas.{tells-what-is-read}
+use Rattle.replay_run.specs.Replay.{events_of, settings_of}
+use Rattle.replay_run.proofs.FitLemmas.{schedule-fits}
+use Rattle.log_core.specs.Lines.{whole_lines}
 use Rattle.log_core.proofs.LogLemmas.{all_seen, all_told}
 use Rattle.log_core.proofs.laws.a_log_is_of_the_records_run.Goals as goal
 
@@ -6,3 +12,9 @@ returns-clause-seen c = all_seen
 
 pub returns-clause-told : goal.returns-clause-told
 returns-clause-told c = all_told
+
+pub returns-clause-read : goal.returns-clause-read
+returns-clause-read c = λ settings text port.
+    ap (told_of_client port) (all_told settings text)
+    ∙ tells-what-is-read (settings_of settings (whole_lines text)) (events_of settings (whole_lines text))
+    (schedule-fits settings (whole_lines text)) port

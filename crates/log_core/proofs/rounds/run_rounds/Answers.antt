@@ -1,4 +1,5 @@
 use Rattle.std.proofs.Common.{arith, refl, subst, sym}
+use Rattle.agent_core.specs.Parts.{settings_of}
 use Rattle.log_core.proofs.PieceLemmas.{round-start, start-ready}
 use Rattle.log_core.specs.Logging.{IsUnderWay, Logging}
 use Rattle.replay_run.specs.Claims.{Seen}
@@ -8,7 +9,7 @@ pub rounds-init : goal.rounds-init
 rounds-init g c =
     let start : Seen = record { input = g.I.Stream.seen c.args.input.now; output = g.O.Stream.seen c.args.output.now } in
     record {
-      under = subst (λ (l : Logging). IsUnderWay c.args.life start start l) (sym c.new-log.ensures) (round-start c.args.life start (start-ready c.args.life));
+      under = subst (λ (l : Logging). IsUnderWay (settings_of c.args.settings) start start l) (sym c.new-log.ensures) (round-start (settings_of c.args.settings) start (start-ready (settings_of c.args.settings)));
       input_only = record { written = refl; write_faults = refl; later = omega arith };
       output_only = record { taken = refl; left = refl; read_faults = refl; later = omega arith };
     }
@@ -16,5 +17,5 @@ rounds-init g c =
 pub rounds-smaller : goal.rounds-smaller
 rounds-smaller g c =
     let start : Seen = record { input = g.I.Stream.seen c.args.input.now; output = g.O.Stream.seen c.args.output.now } in
-    let longer = (c.in_default.ensures.round c.args.life start c.rounds.invariant.under).1 in
+    let longer = (c.in_default.ensures.round (settings_of c.args.settings) start c.rounds.invariant.under).1 in
     omega (arith, longer.more, longer.within)

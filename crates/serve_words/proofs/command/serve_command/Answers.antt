@@ -20,7 +20,11 @@ returns c =
     c.in_ok-with_askpass.ensures c.long_arg-4.ensures.local relay c.long_arg-4.ensures.rule in
     let life = one_more c.in_ok-with_askpass.with_askpass c.in_ok-with_life.with_life c.short_arg-2.result _ (short_rule (codes "lifetime") 116 false)
     c.in_ok-with_life.ensures c.short_arg-2.ensures.local askpass c.short_arg-2.ensures.rule in
-    let idle = one_more c.in_ok-with_life.with_life c.in_ok-with_idle.with_idle c.flag_arg.result _ (flag_rule (codes "until-idle"))
-    c.in_ok-with_idle.ensures c.flag_arg.ensures.local life c.flag_arg.ensures.rule in
-    one_more c.in_ok-with_idle.with_idle c.in_ok-whole.whole c.flag_arg-2.result _ (flag_rule (codes "record"))
-    c.in_ok-whole.ensures c.flag_arg-2.ensures.local idle c.flag_arg-2.ensures.rule
+    let limit = one_more c.in_ok-with_life.with_life c.in_ok-with_limit.with_limit c.long_arg-5.result _ (long_rule (codes "confirm-limit") false)
+    c.in_ok-with_limit.ensures c.long_arg-5.ensures.local life c.long_arg-5.ensures.rule in
+    let idle = one_more c.in_ok-with_limit.with_limit c.in_ok-with_idle.with_idle c.flag_arg.result _ (flag_rule (codes "until-idle"))
+    c.in_ok-with_idle.ensures c.flag_arg.ensures.local limit c.flag_arg.ensures.rule in
+    let recorded = one_more c.in_ok-with_idle.with_idle c.in_ok-with_record.with_record c.flag_arg-2.result _ (flag_rule (codes "record"))
+    c.in_ok-with_record.ensures c.flag_arg-2.ensures.local idle c.flag_arg-2.ensures.rule in
+    one_more c.in_ok-with_record.with_record c.in_ok-whole.whole c.flag_arg-3.result _ (flag_rule (codes "record-or-stop"))
+    c.in_ok-whole.ensures c.flag_arg-3.ensures.local recorded c.flag_arg-3.ensures.rule

@@ -1,4 +1,4 @@
-use Rattle.std.proofs.Common.{◌+◌, ◌&&◌, Bool, sym, ap, ◌∙◌}
+use Rattle.std.proofs.Common.{◌+◌, ◌*◌, ◌&&◌, Bool, sym, ap, ◌∙◌}
 use Rattle.std.specs.List.{sum_by}
 use Rattle.constraint_rec.specs.declared.constraint.Constraint.{Constraint}
 use Rattle.identity_table.specs.Identities.{hop_len, put_identity}
@@ -8,7 +8,7 @@ use Rattle.identity_table.proofs.AdditionLemmas.{room_after}
 use Rattle.identity_table.proofs.KeptLemmas.{kept_after, kept_by-parts, room_tested}
 
 pub returns-then-lists : goal.returns-then-lists
-returns-then-lists c = λ new blob private comment rules.
+returns-then-lists c = λ new blob private comment purposes rules.
     let keys = held c.args.self.now in
     let lists = c.fits-lists.result in
     let takes = c.is_room_beside-takes.result in
@@ -16,11 +16,11 @@ returns-then-lists c = λ new blob private comment rules.
     ∙ room_tested (put_identity new keys) lists takes
     (room_after new keys c.others_len.result c.args.blob.now c.args.comment.now lists blob comment c.others_len.ensures c.fits-lists.ensures)
     (kept_after new keys c.others_kept.result
-    (c.args.private + sum_by (λ (rule : Constraint). hop_len rule.from + hop_len rule.to) c.args.rules.now) c.args.blob.now takes blob
-    (kept_by-parts new c.args.private c.args.rules.now private rules) c.others_kept.ensures c.is_room_beside-takes.ensures)
+    (c.args.private + 320 * c.args.purposes + sum_by (λ (rule : Constraint). hop_len rule.from + hop_len rule.to) c.args.rules.now) c.args.blob.now takes blob
+    (kept_by-parts new c.args.private c.args.purposes c.args.rules.now private purposes rules) c.others_kept.ensures c.is_room_beside-takes.ensures)
 
 pub returns-else-lists : goal.returns-else-lists
-returns-else-lists c = λ new blob private comment rules.
+returns-else-lists c = λ new blob private comment purposes rules.
     let keys = held c.args.self.now in
     let lists = c.fits-lists.result in
     let takes = c.is_room_beside-takes.result in
@@ -29,5 +29,5 @@ returns-else-lists c = λ new blob private comment rules.
     ∙ room_tested (put_identity new keys) lists takes
     (room_after new keys c.others_len.result c.args.blob.now c.args.comment.now lists blob comment c.others_len.ensures c.fits-lists.ensures)
     (kept_after new keys c.others_kept.result
-    (c.args.private + sum_by (λ (rule : Constraint). hop_len rule.from + hop_len rule.to) c.args.rules.now) c.args.blob.now takes blob
-    (kept_by-parts new c.args.private c.args.rules.now private rules) c.others_kept.ensures c.is_room_beside-takes.ensures)
+    (c.args.private + 320 * c.args.purposes + sum_by (λ (rule : Constraint). hop_len rule.from + hop_len rule.to) c.args.rules.now) c.args.blob.now takes blob
+    (kept_by-parts new c.args.private c.args.purposes c.args.rules.now private purposes rules) c.others_kept.ensures c.is_room_beside-takes.ensures)

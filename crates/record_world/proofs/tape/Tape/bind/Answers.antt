@@ -10,4 +10,5 @@ returns-then-bind g c = record {
       bind_wrote (is_short c.args.answer.now) door path c.args.answer.now _ _ _ _ _ _ _ _ _ _
       (rw kept (rw c.is_short.ensures refl)) (rw c.is_short.ensures at c.records.ensures.value) c.if-records.true
       (rw kept at c.bind.ensures.first) c.if-bind.true (rw kept at c.bind.ensures.kept) c.put-self.ensures;
+  short = let kept = c.records.ensures.kept in rw kept (rw c.is_short.ensures refl);
 }

@@ -1,0 +1,7 @@
+pub mod AdditionLemmas
+pub mod CutLemmas
+pub mod EndLemmas
+pub mod HearingLemmas
+pub mod LawLemmas
+pub mod RelayLemmas
+pub mod WordLemmas

@@ -1,0 +1,109 @@
+"""The literal rows of keys that are for some purposes alone."""
+
+from __future__ import annotations
+
+import hashlib
+
+from .rows import K1, LIST, NO, NOTHING, OK, ONE, S1, TERMS1, USES, H1, hear, listing, row, st, to, u32
+from .rows_children import bind, helper, put1, sign, signed, true, verify
+from .rows_hostile import answer
+from .rows_room import EVERY_ROW as EARLIER
+from .rows_room import FILL, KEY, LEFT, RULE, ruled
+from .rows_rules import ORIGIN, bound_login, hop, plain_login, restrict, rule
+
+DIGEST = hashlib.sha512(b"what is signed\n").digest()
+
+
+def purposes(*words: bytes) -> bytes:
+    return b"\xff" + st(b"purposes-v00@example.com") + st(*map(st, words))
+
+
+def file_in(namespace: bytes, algorithm: bytes = b"sha512", digest: bytes = DIGEST) -> bytes:
+    """What ssh-keygen -Y sign has signed (OpenSSH's PROTOCOL.sshsig)."""
+    return b"SSHSIG" + st(namespace) + st(b"") + st(algorithm) + st(digest)
+
+
+LOGIN, GIT, FILE = plain_login(S1, b"root"), file_in(b"git"), file_in(b"file")
+OTHER = b"neither"
+
+
+def row_for(name: str, words: tuple[bytes, ...], signs: tuple[bytes, ...], refuses: tuple[bytes, ...]) -> None:
+    """A key for these purposes signs the first messages, and none of the others."""
+    lines = ["join client", *hear(1, TERMS1 + purposes(*words)), *hear(1, sign(K1, signs[0])), *helper(2)]
+    printed = [to(1, OK), "start 1 helper", to(2, put1(1, signs[0]))]
+    lines, printed = [*lines, *hear(2, signed(1, b"s"))], [*printed, to(1, answer(b"s"))]
+    for ask, message in enumerate(signs[1:], 2):
+        lines += [*hear(1, sign(K1, message)), *hear(2, signed(ask, b"s"))]
+        printed += [to(2, put1(ask, message)), to(1, answer(b"s"))]
+    lines += [line for message in refuses for line in hear(1, sign(K1, message))]
+    row(name, lines, printed + [to(1, NO)] * len(refuses))
+
+
+row_for("a key for git never logs in", (b"sshsig:git",), (GIT,), (LOGIN, FILE, OTHER, file_in(b"gi"), file_in(b"git2")))
+row_for("a key for logins signs no file", (b"login",), (LOGIN, bound_login(S1, b"root", H1)), (GIT, OTHER, b""))
+row_for("a key for files signs in each namespace", (b"sshsig",), (GIT, FILE), (LOGIN, OTHER, b"SSHSIG"))
+row_for(
+    "a key for other data signs what is neither",
+    (b"other",),
+    (OTHER, b"", LOGIN + b"x", GIT + b"x", file_in(b""), file_in(b"git", b"sha256"), plain_login(b"", b"root")),
+    (LOGIN, GIT),
+)
+row_for("a key for several purposes", (b"other", b"sshsig:git", b"login"), (LOGIN, GIT, OTHER), (FILE,))
+
+# The constraint
+
+MANY = [b"sshsig:%d" % number for number in range(65)]
+row(
+    "purposes that are none, twice, too many, too long or cut off",
+    ["join client", *hear(1, TERMS1 + purposes(), TERMS1 + purposes(b"login", b"login"))]
+    + hear(1, TERMS1 + purposes(*MANY), TERMS1 + purposes(b"sshsig:" + b"n" * 249))
+    + hear(1, TERMS1 + purposes(b"login") + purposes(b"other"), TERMS1 + purposes(b"login")[:-1])
+    + hear(1, TERMS1 + b"\xff" + st(b"purposes-v00@example.com") + st(st(b"login"), b"\x00\x00\x00"))
+    + hear(1, LIST, TERMS1 + purposes(*MANY[:64]), TERMS1 + purposes(b"sshsig:" + b"n" * 248), LIST),
+    [*[to(1, NO)] * 7, to(1, NOTHING), to(1, OK), to(1, OK), to(1, listing(ONE))],
+)
+row(
+    "no other words are purposes",
+    ["join client", *hear(1, *[TERMS1 + purposes(word) for word in (b"", b"Login", b"logins", b"sshsig:", b"git")])]
+    + hear(1, TERMS1 + purposes(b"login", b"all"), LIST),
+    [*[to(1, NO)] * 6, to(1, NOTHING)],
+)
+row(
+    "a key that is added again is for what it is added for",
+    ["join client", *hear(1, TERMS1 + purposes(b"login"), TERMS1 + purposes(b"other"), sign(K1, LOGIN))]
+    + hear(1, TERMS1, sign(K1, LOGIN)),
+    [to(1, OK), to(1, OK), to(1, NO), to(1, OK), "start 1 helper"],
+)
+
+REST, OVER = divmod(LEFT - KEY - 2 * 320, RULE)
+FITS, MORE = (ruled(0x31, REST, user=b"u" * over) + purposes(b"login", b"other") for over in (OVER, OVER + 1))
+row(
+    "a purpose takes 320 bytes of the room",
+    [*FILL, *hear(1, MORE, FITS, FITS)],
+    [*[to(1, OK)] * 13, to(1, NO), to(1, OK), to(1, OK)],
+)
+
+# Beside the other constraints
+
+row(
+    "what a key isn't for counts as no use, and nobody is asked",
+    ["join client", *hear(1, TERMS1 + purposes(b"sshsig:git") + USES + u32(1) + b"\x02", sign(K1, LOGIN), LIST)]
+    + hear(1, sign(K1, GIT)),
+    [to(1, OK), to(1, NO), to(1, listing(ONE)), "start 1 confirm"],
+)
+FOR_H1 = restrict(rule(ORIGIN, hop(b"root", b"cetus", (H1, 0))))
+row(
+    "a key for a host and for logins",
+    ["join client", *hear(1, TERMS1 + purposes(b"login", b"other") + FOR_H1, sign(K1, OTHER), bind(H1, S1, 0))]
+    + [*helper(2), *hear(2, true(1)), *hear(1, sign(K1, OTHER), sign(K1, GIT), sign(K1, bound_login(S1, b"root", H1)))],
+    [to(1, OK), to(1, NO), "start 1 helper", to(2, verify(1, H1, S1)), to(1, OK), to(1, NO), to(1, NO)]
+    + [to(2, put1(2, bound_login(S1, b"root", H1)))],
+)
+row(
+    "a key for a host and for files signs nothing there",
+    ["join client", *hear(1, TERMS1 + purposes(b"sshsig") + FOR_H1, bind(H1, S1, 0)), *helper(2), *hear(2, true(1))]
+    + hear(1, LIST, sign(K1, bound_login(S1, b"root", H1)), sign(K1, GIT)),
+    [to(1, OK), "start 1 helper", to(2, verify(1, H1, S1)), to(1, OK), to(1, listing(ONE)), to(1, NO), to(1, NO)],
+)
+
+EVERY_ROW = EARLIER  # with those of the files that this one stands on
