@@ -19,6 +19,8 @@ LIMITS |= {"bindings": 16, "session": 128}
 # Bytes of all private strings and rules, and of the host keys of one connection and what they name.
 LIMITS |= {"room": 8388608, "host keys": 262144}
 LIMITS |= {"principals": 1024}
+# Behind how many bytes in the bodies of the asks that are open one more is put: it may be as long as it is.
+LIMITS |= {"bodies of asks": 8388607}
 # The seconds for which an ask may stay unanswered, and a confirmation open.
 WAITS = {"ask": 60, "confirmation": 300}
 
@@ -58,6 +60,7 @@ class Ask:
     began: int  # the second at which it was put
     binding: Binding | None = None  # what is verified; None where a key is to sign
     new: bool = False
+    size: int = 0  # how many bytes its body has, once it is put
 
 
 @dataclass
@@ -321,13 +324,17 @@ class Agent:
     def put(self, ask: Ask, frame: Callable[..., bytes], *fields: object) -> None:
         """Asks the helper, which is started where there is none."""
         demand(not self.above("asks", len(self.asks) + 1), "asks")
+        bodies = sum(other.size for other in self.asks.values())
+        demand(not self.above("bodies of asks", bodies), "bodies of asks")
         if self.helper is None:
             self.helper = self.next_number("job")
             self.starts[self.helper] = "helper"
         number = self.next_number("ask")
         self.asks[number] = ask
         owed = self.unsent if self.helper_port is None else self.ports[self.helper_port].owed
-        owed += frame(number, *fields)
+        asked = frame(number, *fields)
+        ask.size = len(asked) - 4
+        owed += asked
 
     def put_signing(
         self, asker: int, identity: Identity, signing: tuple[bytes, bytes, int]

@@ -143,6 +143,30 @@ class Schedule(ChildMoves):
         if self.chance(0.7):
             self.tend(well=1)
 
+    def heavy_asks(self) -> None:
+        """Asks whose bodies have 8 MiB in all, or a byte less; some are answered, and others asked for."""
+        key, port = self.keys[3], self.client(fresh=1)
+        self.send(port, b"\x11" + key.added + string(b"c"), cut=0)
+        if key.blob not in self.agent.identities:
+            return
+        around = 25 + len(self.agent.identities[key.blob].private) + len(key.blob)
+        longest = LIMITS["body of a client"] - 13 - len(key.blob)
+        left = LIMITS["bodies of asks"] + self.random.choice([0, 0, 1, 1])
+        left -= sum(ask.size for ask in self.agent.asks.values())
+        while left >= around:
+            # What is left behind a long message has room for one more.
+            size = left - around if left <= around + longest else min(longest, left - 2 * around)
+            left -= around + size
+            self.join("client")
+            port = self.agent.last["port"]
+            self.send(port, b"\x0d" + string(key.blob) + string(bytes(size)) + uint32(0), cut=0)
+            if self.chance(0.3) and port in self.agent.ports:
+                self.say(f"end {port}")
+        for _ in range(2):
+            sign = b"\x0d" + string(key.blob) + string(b"") + uint32(0)
+            self.send(self.client(fresh=1), sign, cut=0)
+            self.tend(well=1)
+
     def many_children(self) -> None:
         for _ in range(self.random.choice([32, 33, 34])):
             self.join("child")
@@ -285,6 +309,7 @@ LONG_MOVES: dict[str, int] = {
     "full_room": 2,
     "long_line": 2,
     "many_asks": 5,
+    "heavy_asks": 3,
     "many_children": 3,
     "long_answer": 7,
     "many_bindings": 4,
@@ -328,6 +353,7 @@ GOALS = [
         # the helper
         """request 13; cause: helper lost; helper: REFUSED; helper: SIGNED; hello
             answer: asker left; cause: asks; limit: asks; limit: asks + 1; limit: child
+            cause: bodies of asks; limit: bodies of asks; limit: bodies of asks + 1
             limit: child + 1; limit: body of a child; line started; line failed
             hello: Short; hello: Kind; hello: TicketLength; hello: Trailing; hello: bad length
             hello: no hello; hello: no such job; hello: another ticket

@@ -1,9 +1,10 @@
-"""The literal rows of what a client may make the agent hold: private strings, rules, host keys."""
+"""The literal rows of what a client may make the agent hold: private strings, rules, host keys, asks."""
 
 from __future__ import annotations
 
-from .rows import H1, LIST, NO, OK, S1, added, cert, hear, listing, remove, row, st, stand_in, to
-from .rows_children import START, START_PRINT, bind, chain, true, verify
+from .rows import ADD1, H1, K1, LIST, NO, OK, S1, added, cert, hear, listing, remove, row, st, stand_in
+from .rows import to, u64
+from .rows_children import START, START_PRINT, bind, chain, hello, put1, sign, true, verify
 from .rows_many import EVERY_ROW as EARLIER
 from .rows_rules import ORIGIN, hop, restrict, rule
 
@@ -90,6 +91,45 @@ row(
     "a first host key that names 1025 bytes",
     [*START, *hear(1, bind(cert(2, st(b"n" * 1021)), S1, 1))],
     [*START_PRINT, to(1, NO)],
+)
+
+# Bodies of 8 MiB in all, of the asks that are open
+#
+# The body of an ask for a signature by a key of the tests' type is 25 + 100 + 64 bytes longer than the message: the
+# kind, the ask's number, the flags and three lengths; the private string; the key's blob. The body of a request is 77
+# bytes longer. The body that verifies a binding is 21 bytes longer than host key, signature and session.
+
+LONG = b"m" * (262144 - 77)
+BODY = 189 + len(LONG)
+NUMBER, REST = divmod(MOST, BODY)
+LAST = b"m" * (REST - 189)
+PORTS = range(1, NUMBER + 3)
+CROWD = ["join client"] * (NUMBER + 3)
+CROWD += [*hear(1, ADD1), *[line for port in PORTS[:NUMBER] for line in hear(port, sign(K1, LONG))]]
+CROWD_PRINT = [to(1, OK), "start 1 helper"]
+BEHIND, NEXT = NUMBER + 1, NUMBER + 2
+FRAMES = [put1(number, LONG) for number in PORTS[:NUMBER]]
+THERE = ["started 1 " + "00" * 16, "join child", *hear(NUMBER + 4, hello(1))]
+HELPER = NUMBER + 4
+row(
+    "asks whose bodies have 8 MiB in all: no signature more, and no binding",
+    [*CROWD, *hear(BEHIND, sign(K1, LAST)), *hear(NEXT, sign(K1, b"")), *hear(NEXT, bind(H1, S1, 0))],
+    [*CROWD_PRINT, to(NEXT, NO), to(NEXT, NO)],
+)
+row(
+    "asks whose bodies have a byte less: one more, as long as it may be, and none behind it",
+    [*CROWD, *hear(BEHIND, sign(K1, LAST[1:])), *hear(NEXT, sign(K1, LONG))]
+    + [*hear(NEXT + 1, sign(K1, b"")), *THERE],
+    [*CROWD_PRINT, to(NEXT + 1, NO)]
+    + [to(HELPER, *FRAMES, put1(BEHIND, LAST[1:]), put1(NEXT, LONG))],
+)
+row(
+    "an answer makes room for an ask whose client left, and so does the loss of the helper",
+    [*CROWD, *hear(BEHIND, sign(K1, LAST)), "end 1", *THERE, *hear(HELPER, b"\x66" + u64(1))]
+    + [*hear(NEXT, sign(K1, LONG)), *hear(NEXT + 1, sign(K1, b"")), f"end {HELPER}"]
+    + hear(NEXT + 1, sign(K1, b"")),
+    [*CROWD_PRINT, "close 1", to(HELPER, *FRAMES, put1(BEHIND, LAST)), to(HELPER, put1(NEXT, LONG))]
+    + [to(NEXT + 1, NO), f"close {HELPER}", *[to(port, NO) for port in range(2, NEXT + 1)], "start 2 helper"],
 )
 
 EVERY_ROW = EARLIER  # with those of the files that this one stands on

@@ -12,6 +12,7 @@ import os
 import pathlib
 import pwd
 import re
+import select
 import shutil
 import signal
 import socket
@@ -969,6 +970,46 @@ def the_host_keys_of_a_connection_are_bounded_in_all(folder):
             grown = resident(agent) - before
             print(f"32 connections with 16 tries of 60,000 bytes each: {grown / 2**20:.1f} MiB")
             assert grown <= 32 << 20, grown
+    finally:
+        helper.close()
+
+
+@check
+def what_a_silent_helper_is_owed_is_bounded(folder):
+    """Of requests of 262,000 bytes, to a helper that says hello and reads no more, 32 have 8 MiB: all others are refused,
+    also once their clients left, until the helper is lost. It takes less than the 60 seconds that a helper has."""
+    helper, message = rig.HandedOver(folder), bytes(262000)
+
+    def answered(peers):
+        return select.select([peer.socket for peer in peers], [], [], 0)[0]
+
+    try:
+        with serve(folder, helper=helper.program) as agent:
+            with agent.peer() as peer:
+                blob = add(peer)
+            before, begin = resident(agent), time.monotonic()
+            for turn in range(8):
+                with contextlib.ExitStack() as open_peers:
+                    peers = [open_peers.enter_context(agent.peer(seconds=60)) for _ in range(40)]
+                    for peer in peers:
+                        peer.send(request(blob, message))
+                    count = 8 if turn == 0 else 40
+                    until(lambda: len(answered(peers)) >= count, 20, what=f"{count} refusals")
+                    time.sleep(0.2)
+                    refused = [peer for peer in peers if peer.socket in answered(peers)]
+                    assert len(refused) == count, (turn, len(refused))
+                    assert {peer.reply() for peer in refused} == {bytes([FAILURE])}
+                if turn == 0:
+                    child = helper.wait(1).hello()
+            grown, took = resident(agent) - before, time.monotonic() - begin
+            print(f"320 requests of 262,000 bytes, 32 of them put: {grown / 2**20:.1f} MiB, {took:.1f} s")
+            assert took < 50, "the helper's time is over"
+            assert grown <= 32 << 20, grown
+            child.close()
+            with agent.peer() as peer:
+                peer.send(request(blob, message))
+                asked = helper.wait(2).hello().reply()
+                assert len(asked) == 25 + 100 + len(blob) + len(message), "its places are free again"
     finally:
         helper.close()
 

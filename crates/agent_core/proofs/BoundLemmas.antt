@@ -33,7 +33,7 @@ silent-asks low last (one ∷ asks) ports rise tied =
     let first = first_ask one asks in
     let after : AreTied (change_port one.asker (tell (Refuses HelperLost)) ports) asks =
     subst (AreTied (change_port one.asker (tell (Refuses HelperLost)) ports)) first.1
-    (tied-told ports (one ∷ asks) tied one.number one.asker one.kind (tell (Refuses HelperLost)) low last rise (record { blob = one.blob; put_at = one.put_at; found = first.0 }) (λ p. refl) (λ p ask is. absurd (cc))) in (
+    (tied-told ports (one ∷ asks) tied one.number one.asker one.kind (tell (Refuses HelperLost)) low last rise (record { blob = one.blob; put_at = one.put_at; size = one.size; found = first.0 }) (λ p. refl) (λ p ask is. absurd (cc))) in (
       λ port found. (tied.waits one.asker one.number port found (tied.asks one.number one port first.0 found)).owed,
       silent-asks one.number last asks (change_port one.asker (tell (Refuses HelperLost)) ports) rise.1 after,
     )
@@ -73,6 +73,7 @@ tied-changed at f ports asks slight tied = record {
           kind = was.kind;
           blob = was.blob;
           put_at = was.put_at;
+          size = was.size;
           unanswered = was.unanswered;
           owed = ap (λ (p : Port). p.owed) changed ∙ slight.owed old ∙ was.owed;
           door = ap (λ (p : Port). p.door) changed ∙ slight.door old ∙ was.door;

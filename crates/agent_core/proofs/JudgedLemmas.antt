@@ -53,7 +53,7 @@ module _ (low last : ℕ) where
       by_port ask other v port differs that there (apart away was) = judged ask other v port that there was
       by_port ask other v port differs that there (here old same was is) =
           let second : old.waits ≡ OnAsk ask = tied.asks ask other old there was in
-          let first_waits : old.waits ≡ OnAsk one.ask = tied.asks one.ask (ask_of one.ask one.asker kind first.blob first.put_at) old first.found (ap (λ n. find_port n ports) (sym same) ∙ was) in
+          let first_waits : old.waits ≡ OnAsk one.ask = tied.asks one.ask (ask_of one.ask one.asker kind first.blob first.put_at first.size) old first.found (ap (λ n. find_port n ports) (sym same) ∙ was) in
           let equal : one.ask ≡ ask = cc in
           absurd (differs equal)
 
@@ -64,7 +64,7 @@ module _ (low last : ℕ) where
       by_found : (v : Option Verification) (p : Option Port) → find_verification one.ask vs ≡ v → find_port one.asker ports ≡ p → IsProvable v p
       by_found None p that found = tt
       by_found (Some v) None that found = tt
-      by_found (Some v) (Some port) that found = judged one.ask (ask_of one.ask one.asker kind first.blob first.put_at) v port that first.found found
+      by_found (Some v) (Some port) that found = judged one.ask (ask_of one.ask one.asker kind first.blob first.put_at first.size) v port that first.found found
 
   -- ---- answers, one after another
 

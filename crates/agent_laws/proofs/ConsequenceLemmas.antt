@@ -1,5 +1,6 @@
 -- What a signature that is put to the helper tells of the actions before.
 use Rattle.std.proofs.Common.{◌≡◌, ◌≢◌, ℕ, ◌<◌, List, [], ◌∷◌, ◌++◌, length, refl, ap, arith, sym, subst, ◌∙◌, Option, Some, None, IsSomeAnd, Bool, true, false, cond, nat_lt, not, ◌&&◌, inl, inr}
+use Rattle.std.specs.List.{sum_by}
 use Rattle.std.specs.Option.{option_map}
 use Rattle.std.specs.Str.{bytes_eq}
 use Rattle.std.proofs.lemmas.Bool.Decides.{nat_tests}
@@ -32,6 +33,7 @@ pub record IsMetAt (life : Option ℕ) (past : List Stamped) (claim : Claim) : T
   pub suits : let_sign added.addition.terms.purposes claim.signing.message claim.signing.blob ≡ true
   pub permitted : denial_under added.addition.terms.rules claim.signing.blob (proved_of claim.port past) claim.signing.message newest.moment.wall ≡ None
   pub few : length (open_asks past) < 256
+  pub light : sum_by (λ (one : ℕ × ℕ). one.1) (open_asks past) < 8388608
   pub unlocked : was_locked past ≡ false
 
 -- what is held at a second was added last
@@ -43,6 +45,11 @@ held_last (Some past) life now added is = grind (arith, nat_tests)
 not_true : (b : Bool) → not b ≡ true → b ≡ false
 not_true false is = refl
 not_true true is = absurd (cc)
+
+both_parts : (a b : Bool) → (a && b) ≡ true → (a ≡ true) × (b ≡ true)
+both_parts true true is = (refl, refl)
+both_parts true false is = absurd (cc)
+both_parts false b is = absurd (cc)
 
 -- the parts of five
 five_parts : (a b c d e : Bool) → (a && (b && (c && (d && e)))) ≡ true
@@ -62,7 +69,9 @@ module _ (life : Option ℕ) (newest : Stamped) (rest : List Stamped) (claim : C
   by_held None is claims met = absurd (cc)
   by_held (Some added) is claims met =
       let few : Bool = nat_lt (length (open_asks whole)) 256 in
-      let parts = five_parts (is_consented claim.addition added) (let_sign added.addition.terms.purposes claim.signing.message claim.signing.blob) (is_permitted (denial_under added.addition.terms.rules claim.signing.blob (proved_of claim.port whole) claim.signing.message newest.moment.wall)) few (not (was_locked whole)) met in
+      let light : Bool = nat_lt (sum_by (λ (one : ℕ × ℕ). one.1) (open_asks whole)) 8388608 in
+      let parts = five_parts (is_consented claim.addition added) (let_sign added.addition.terms.purposes claim.signing.message claim.signing.blob) (is_permitted (denial_under added.addition.terms.rules claim.signing.blob (proved_of claim.port whole) claim.signing.message newest.moment.wall)) (few && light) (not (was_locked whole)) met in
+      let places = both_parts few light parts.3 in
       record {
         newest = newest;
         rest = rest;
@@ -73,7 +82,8 @@ module _ (life : Option ℕ) (newest : Stamped) (rest : List Stamped) (claim : C
         consented = parts.0;
         suits = parts.1;
         permitted = none_if_permitted _ parts.2;
-        few = grind (arith, nat_tests, parts.3);
+        few = grind (arith, nat_tests, places.0);
+        light = grind (arith, nat_tests, places.1);
         unlocked = not_true (was_locked whole) parts.4;
       }
 
@@ -257,3 +267,9 @@ pub put-few : (before : List Stamped) (port : ℕ) (signing : Signing) (settings
     → IsPutBehind before port signing settings events → length (open_asks (onto [] before)) < 256
 put-few before port signing settings events numbers put =
     (claimed before port signing settings events numbers put).met.few
+
+pub put-light : (before : List Stamped) (port : ℕ) (signing : Signing) (settings : Settings) (events : List Timed)
+    → HasNumbers (run (first_state settings) events) → IsPutBehind before port signing settings events
+    → sum_by (λ (one : ℕ × ℕ). one.1) (open_asks (onto [] before)) < 8388608
+put-light before port signing settings events numbers put =
+    (claimed before port signing settings events numbers put).met.light

@@ -2,13 +2,13 @@
 use Rattle.std.proofs.Common.{◌≡◌, ℕ, ◌-◌, ◌^◌, ◌<◌, List, map, length, refl, ap, arith, sym, subst, ◌∙◌, Option, Some, None, IsSomeAnd, Bool, true, false, is_some, nat_lt, not, ◌&&◌, Result, Ok, Err, inl, inr, if◌then◌else◌}
 use Rattle.std.specs.Option.{is_none, option_map}
 use Rattle.std.proofs.lemmas.Bool.Decides.{nat_tests}
-use Rattle.std.proofs.lemmas.List.{length-map}
 use Rattle.agent_msg.specs.declared.fault.MsgFault.{MsgFault}
 use Rattle.agent_msg.specs.Requests.{ClientRequest, Signing, ListIdentities, Sign, Add, Remove, RemoveAll, Lock, Unlock, Bind, OtherExtension, Unsupported}
 use Rattle.dest_rule.specs.Rules.{denial_under}
 use Rattle.dest_rule.specs.declared.denial.Denial.{Denial}
 use Rattle.key_purposes.specs.Messages.{let_sign}
 use Rattle.dest_rule.specs.declared.binding.Binding.{Binding}
+use Rattle.helper_link.specs.HelperLink.{is_full}
 use Rattle.helper_link.specs.declared.ask.Ask.{Ask}
 use Rattle.identity_table.specs.Identities.{HeldKey, find_identity}
 use Rattle.identity_table.proofs.FindLemmas.{if_alive}
@@ -20,11 +20,13 @@ use Rattle.agent_model.specs.KeyStates.{KeyState}
 use Rattle.agent_model.specs.Objections.{objection, objection_by}
 use Rattle.agent_model.specs.State.{UnderWay}
 use Rattle.agent_model.specs.Verdicts.{AsksSpent, Cause, DestinationDenied, Identities, JobsSpent, Locked, NotHeld, OtherPurpose, Refuses, Replies, Success, TooManyAsks, TooManyConfirmations, Verdict}
+use Rattle.agent_model.proofs.RoomLemmas.{is_full-is, is_full-not}
 use Rattle.agent_model.proofs.SignLemmas.{Comes, comes-of, put, raises, refused}
 use Rattle.agent_model.proofs.ServeLemmas.{Serves, adds, confirms, denies, empties, lists, locks, removes, serves-any, signs, unlocks, verifies}
-use Rattle.agent_laws.specs.Dues.{Claim, claim_of_request, is_consented, is_met, is_permitted}
+use Rattle.agent_laws.specs.Dues.{Claim, claim_of_request, is_consented, is_met, is_permitted, is_place}
 use Rattle.agent_laws.specs.History.{IsDue}
 use Rattle.agent_laws.specs.Past.{PastAddition, done_of_request, held_by}
+use Rattle.agent_laws.proofs.PlaceLemmas.{parts_of, place-same}
 use Rattle.agent_laws.proofs.HoldsLemmas.{Facts, Holds, Made, facts_after, key_of, made_of}
 
 -- what comes of a request behind which this is due: it is put to the helper, or the user is asked, or neither
@@ -38,7 +40,7 @@ pub data Acts (N : Type 0) (due : Option Claim) (asker : Asker) (held : KeyState
       → Acts N due asker held under_way (raise_unless None key signing asker.port under_way)
 
 -- the claim, where it is met by what the past tells
-abbrev pub met_with : Option Claim → Option ℕ → ℕ → ℕ → Facts → (ℕ → List Binding) → List ℕ
+abbrev pub met_with : Option Claim → Option ℕ → ℕ → ℕ → Facts → (ℕ → List Binding) → List (ℕ × ℕ)
     → Option Claim
 met_with None life second wall facts chains opens = None
 met_with (Some claim) life second wall facts chains opens =
@@ -74,7 +76,7 @@ fourth_fails true true false d is = refl
 fourth_fails true false c d is = refl
 fourth_fails false b c d is = refl
 
-module _ (life : Option ℕ) (asker : Asker) (facts : Facts) (held : KeyState) (under_way : UnderWay) (opens : List ℕ) (holds : Holds life asker.mono facts held) (fresh : (blob : List ℕ) → if_alive asker.mono (find_identity blob held.table.identities) ≡ find_identity blob held.table.identities) (same : opens ≡ map (λ (one : Ask). one.number) under_way.link.asks) where
+module _ (life : Option ℕ) (asker : Asker) (facts : Facts) (held : KeyState) (under_way : UnderWay) (opens : List (ℕ × ℕ)) (holds : Holds life asker.mono facts held) (fresh : (blob : List ℕ) → if_alive asker.mono (find_identity blob held.table.identities) ≡ find_identity blob held.table.identities) (same : opens ≡ parts_of under_way.link.asks) where
   -- ---- a signature
 
   module _ (signing : Signing) where
@@ -107,7 +109,7 @@ module _ (life : Option ℕ) (asker : Asker) (facts : Facts) (held : KeyState) (
         is_none (objection key signing.blob asker.chain signing.message asker.wall)
 
     abbrev few : Bool
-    few = nat_lt (length opens) 256
+    few = is_place opens
 
     -- of a past addition, the four tests are those of its key
     by_key : (past : PastAddition)
@@ -121,14 +123,14 @@ module _ (life : Option ℕ) (asker : Asker) (facts : Facts) (held : KeyState) (
         → is_due held_now ≡ (not key.confirm && (permits key && (few && not facts.locked)))
     by_made key made = ap is_due made.now ∙ by_key made.past ∙ ap (λ (k : HeldKey). not k.confirm && (permits k && (few && not facts.locked))) made.is
 
-    open_count : length opens ≡ length under_way.link.asks
-    open_count = ap length same ∙ length-map under_way.link.asks (λ (one : Ask). one.number)
+    few_is : few ≡ not (is_full under_way.link.asks)
+    few_is = ap is_place same ∙ place-same under_way.link.asks
 
     usable-due : (usable : IsUsable signing false asker held) → HasRoom under_way → due ≡ Some claim
     usable-due usable room =
         let key : HeldKey = usable.permitted.key in
         let unlocked : facts.locked ≡ false = holds.locked ∙ ap is_some usable.permitted.unlocked in
-        let some : few ≡ true = ap (λ n. nat_lt n 256) open_count ∙ grind (arith, nat_tests, room.few) in
+        let some : few ≡ true = few_is ∙ ap not (is_full-not under_way.link.asks room.place) in
         ap (λ b. if b then Some claim else None) (by_made key (made key usable.permitted.found)
         ∙ all_pass (not key.confirm) (permits key) few (not facts.locked) (ap not usable.confirm) (ap is_none usable.permitted.judged) some (ap not unlocked))
 
@@ -159,7 +161,7 @@ module _ (life : Option ℕ) (asker : Asker) (facts : Facts) (held : KeyState) (
     refused-not left jobs TooManyConfirmations why n = consent_first why.0
     refused-not left jobs TooManyAsks why n =
         let key : HeldKey = why.0.permitted.key in
-        let many : few ≡ false = ap (λ n. nat_lt n 256) open_count ∙ grind (arith, nat_tests, why.1) in
+        let many : few ≡ false = few_is ∙ ap not (is_full-is under_way.link.asks why.1) in
         not_due (by_made key (made key why.0.permitted.found)
         ∙ third_fails (not key.confirm) (permits key) few (not facts.locked) many)
     refused-not left jobs AsksSpent why n = absurd (omega (arith, left n, why.2))

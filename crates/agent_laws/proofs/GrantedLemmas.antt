@@ -3,20 +3,20 @@ use Rattle.std.proofs.Common.{◌≡◌, ◌≢◌, ℕ, ◌+◌, ◌-◌, ◌^�
 use Rattle.std.specs.Option.{is_none, option_map}
 use Rattle.std.proofs.lemmas.Bool.{false_from_ne_true}
 use Rattle.std.proofs.lemmas.Bool.Decides.{nat_tests}
-use Rattle.std.proofs.lemmas.List.{length-map}
 use Rattle.agent_msg.specs.Requests.{Signing}
 use Rattle.confirm_desk.specs.Confirmations.{Confirmation, remove_job}
 use Rattle.dest_rule.specs.Rules.{denial_under}
 use Rattle.key_purposes.specs.Messages.{let_sign}
 use Rattle.dest_rule.specs.declared.binding.Binding.{Binding}
 use Rattle.dest_rule.specs.declared.denial.Denial.{Denial}
+use Rattle.helper_link.specs.HelperLink.{is_full}
 use Rattle.helper_link.specs.declared.ask.Ask.{Ask}
 use Rattle.identity_table.specs.Identities.{HeldKey, find_identity, find_number}
 use Rattle.identity_table.proofs.FindLemmas.{found_has, if_alive}
 use Rattle.identity_table.proofs.NumberLaws.{blob_of_numbered, number_of_found}
 use Rattle.identity_table.proofs.NumberLemmas.{found_has_number}
 use Rattle.agent_model.specs.Actions.{Granted, Over, Raising, Work, settles}
-use Rattle.agent_model.specs.Askable.{IsGrantable}
+use Rattle.agent_model.specs.Askable.{HasPlace, IsGrantable}
 use Rattle.agent_model.specs.Asking.{JobsRise}
 use Rattle.agent_model.specs.Consents.{grant_concluded, over, signing_of, without_confirmation}
 use Rattle.agent_model.specs.Errands.{Signs, asking_of, message_of, put_unless}
@@ -27,8 +27,9 @@ use Rattle.agent_model.specs.State.{Port, State, UnderWay, find_port}
 use Rattle.agent_model.specs.Verdicts.{Cause, NoLongerAllowed, Refuses}
 use Rattle.agent_model.proofs.GrantLemmas.{IsGranted, allowed, disallowed, unasked}
 use Rattle.agent_model.proofs.JobLemmas.{IsIn, in-found}
-use Rattle.agent_model.proofs.RoomLemmas.{RoomFor, free, full, no_ask, no_job, room-of}
-use Rattle.agent_laws.specs.Dues.{Claim, claim_of_raising, due_signing, is_met, is_permitted, met_by, open_asks, proved_of, raised_at}
+use Rattle.agent_model.proofs.RoomLemmas.{RoomFor, free, full, is_full-is, is_full-not, no_ask, no_job, room-of}
+use Rattle.agent_model.proofs.SizeLemmas.{size_of}
+use Rattle.agent_laws.specs.Dues.{Claim, claim_of_raising, due_signing, is_met, is_permitted, is_place, met_by, open_asks, proved_of, raised_at}
 use Rattle.agent_laws.specs.Past.{PastAddition, held_by}
 use Rattle.agent_laws.specs.Puts.{IsMessage, asks, passes}
 use Rattle.agent_laws.specs.Puts as puts
@@ -37,7 +38,8 @@ use Rattle.agent_laws.proofs.HoldsLemmas.{Facts, Holds, Made, facts_of, key_of, 
 use Rattle.agent_laws.proofs.MessageLemmas.{private-held, puts-silent, sign-message}
 use Rattle.agent_laws.proofs.PastLemmas.{stamp}
 use Rattle.agent_laws.proofs.RaisedLemmas.{AllRaised, IsRaised, all_raised-kept, all_raised-more, all_raised-over}
-use Rattle.agent_laws.proofs.StepLemmas.{Agrees, Goes, Opened, due_as, numbers-append}
+use Rattle.agent_laws.proofs.PlaceLemmas.{parts_of, place-same}
+use Rattle.agent_laws.proofs.StepLemmas.{Agrees, Goes, Opened, due_as, parts-append}
 
 -- ---- a confirmation ends
 
@@ -79,7 +81,7 @@ none_if_not : (lock : Option (List ℕ)) → not (is_some lock) ≡ true → loc
 none_if_not None is = refl
 none_if_not (Some passphrase) is = absurd (cc)
 
-module _ (life : Option ℕ) (second wall : ℕ) (facts : Facts) (held : KeyState) (under_way : UnderWay) (opens : List ℕ) (chain : List Binding) (confirmation : Confirmation) (holds : Holds life second facts held) (fresh : (blob : List ℕ) → if_alive second (find_identity blob held.table.identities) ≡ find_identity blob held.table.identities) (same : opens ≡ map (λ (one : Ask). one.number) under_way.link.asks) (raising : Raising) (addition : raising.addition ≡ confirmation.addition) (message : raising.signing.message ≡ confirmation.message) (flags : raising.signing.flags ≡ confirmation.flags) (blob : (key : HeldKey) → find_number confirmation.addition held.table.identities ≡ Some key → key.blob ≡ raising.signing.blob) where
+module _ (life : Option ℕ) (second wall : ℕ) (facts : Facts) (held : KeyState) (under_way : UnderWay) (opens : List (ℕ × ℕ)) (chain : List Binding) (confirmation : Confirmation) (holds : Holds life second facts held) (fresh : (blob : List ℕ) → if_alive second (find_identity blob held.table.identities) ≡ find_identity blob held.table.identities) (same : opens ≡ parts_of under_way.link.asks) (raising : Raising) (addition : raising.addition ≡ confirmation.addition) (message : raising.signing.message ≡ confirmation.message) (flags : raising.signing.flags ≡ confirmation.flags) (blob : (key : HeldKey) → find_number confirmation.addition held.table.identities ≡ Some key → key.blob ≡ raising.signing.blob) where
   abbrev claim : Claim
   claim =
       record { port = raising.port; addition = Some raising.addition; signing = raising.signing }
@@ -98,7 +100,7 @@ module _ (life : Option ℕ) (second wall : ℕ) (facts : Facts) (held : KeyStat
       is_none (objection key raising.signing.blob chain raising.signing.message wall)
 
   abbrev few : Bool
-  few = nat_lt (length opens) 256
+  few = is_place opens
 
   told : find_identity raising.signing.blob held.table.identities ≡ option_map (key_of life) held_now
   told = sym (fresh raising.signing.blob) ∙ holds.found raising.signing.blob second (omega arith)
@@ -128,8 +130,8 @@ module _ (life : Option ℕ) (second wall : ℕ) (facts : Facts) (held : KeyStat
       → is_due held_now ≡ ((made.past.number == raising.addition) && (permits key && (few && not facts.locked)))
   by_made key made = ap is_due made.now ∙ by_key made.past ∙ ap (λ (k : HeldKey). (made.past.number == raising.addition) && (permits k && (few && not facts.locked))) made.is
 
-  open_count : length opens ≡ length under_way.link.asks
-  open_count = ap length same ∙ length-map under_way.link.asks (λ (one : Ask). one.number)
+  few_is : few ≡ not (is_full under_way.link.asks)
+  few_is = ap is_place same ∙ place-same under_way.link.asks
 
   denies_as : (key : HeldKey) → key.blob ≡ raising.signing.blob
       → objection key raising.signing.blob chain raising.signing.message wall ≡ objection key key.blob chain confirmation.message wall
@@ -138,11 +140,11 @@ module _ (life : Option ℕ) (second wall : ℕ) (facts : Facts) (held : KeyStat
   -- what may be granted is due
   grantable-due : (key : HeldKey)
       → IsGrantable key chain confirmation.addition confirmation.message wall held
-      → length under_way.link.asks < 256 → due ≡ Some claim
+      → HasPlace under_way.link.asks → due ≡ Some claim
   grantable-due key may room =
       let by = made key may.found in
       let unlocked : facts.locked ≡ false = holds.locked ∙ ap is_some may.unlocked in
-      let some : few ≡ true = ap (λ n. nat_lt n 256) open_count ∙ grind (arith, nat_tests, room) in
+      let some : few ≡ true = few_is ∙ ap not (is_full-not under_way.link.asks room) in
       ap (λ b. if b then Some claim else None) (by_made key by
       ∙ all_pass (by.past.number == raising.addition) (permits key) few (not facts.locked) (numbered key may.found by)
       (ap is_none (denies_as key (blob key may.found) ∙ may.permitted)) some (ap not unlocked))
@@ -178,7 +180,7 @@ module _ (life : Option ℕ) (second wall : ℕ) (facts : Facts) (held : KeyStat
       → RoomFor under_way (Some cause) → N → due ≡ None
   full-not left jobs key may (full more) n =
       let by = made key may.found in
-      let many : few ≡ false = ap (λ n. nat_lt n 256) open_count ∙ grind (arith, nat_tests, more) in
+      let many : few ≡ false = few_is ∙ ap not (is_full-is under_way.link.asks more) in
       ap (λ b. if b then Some claim else None) (by_made key by ∙ third_fails (by.past.number == raising.addition) (permits key) few (not facts.locked) many)
   full-not left jobs key may (no_ask few_asks spent) n = absurd (omega (arith, left n, spent))
   full-not left jobs key may (no_job few_asks numbers none spent) n =
@@ -234,8 +236,8 @@ module _ {N : Type 0} (life : Option ℕ) (past : List Stamped) (confirmation : 
       ∙ ap (λ m. let t : Signing = record { blob = key.blob; message = m; flags = s.flags } in t) raised.message
       ∙ ap (λ f. let t : Signing = record { blob = key.blob; message = confirmation.message; flags = f } in t) raised.flags
 
-  few_asks : RoomFor left_over None → length state.under_way.link.asks < 256
-  few_asks (free room) = room.few
+  few_asks : RoomFor left_over None → HasPlace state.under_way.link.asks
+  few_asks (free room) = room.place
 
   -- with the private string of that addition
   granted_message : (key : HeldKey)
@@ -248,7 +250,7 @@ module _ {N : Type 0} (life : Option ℕ) (past : List Stamped) (confirmation : 
 
   goes-put : (key : HeldKey)
       → IsGrantable key port.chain confirmation.addition confirmation.message state.moment.wall state.held
-      → length state.under_way.link.asks < 256
+      → HasPlace state.under_way.link.asks
       → Goes N life past state (grant_concluded (put_unless None (Signs key (signing_of key confirmation)) confirmation.asker left_over) confirmation state)
   goes-put key may room =
       let is = grantable-due life state.moment.mono state.moment.wall (facts_of past) state.held left_over (open_asks past) port.chain confirmation opened.agrees.holds opened.fresh opened.agrees.opens raised.raising raised.addition raised.message raised.flags raised.blob key may room in
@@ -256,14 +258,14 @@ module _ {N : Type 0} (life : Option ℕ) (past : List Stamped) (confirmation : 
         lawful = (opened.agrees.idle, (subst (λ d. IsSomeAnd d (λ one. (one.port ≡ confirmation.asker) × (one.signing ≡ signing_of key confirmation))) (sym (due_behind ∙ is)) (raised.port, same_signing key (raised.blob key may.found)), λ n. refl));
         agrees = record {
           holds = used-holds life state.moment.mono (facts_of behind) state.held key.blob key (blob_of_numbered confirmation.addition state.held.table.identities key holds_behind.own may.found) holds_behind;
-          opens = ap (λ all. all ++ (state.under_way.link.last + 1) ∷ []) opened.agrees.opens ∙ sym (numbers-append state.under_way.link.asks _);
+          opens = ap (λ all. all ++ (state.under_way.link.last + 1, size_of (Signs key (signing_of key confirmation)) (state.under_way.link.last + 1)) ∷ []) opened.agrees.opens ∙ sym (parts-append state.under_way.link.asks _);
           raised = all_raised-more behind _ (after_use (Some key.number) state.held) _ (λ job. refl)
               (all_raised-kept behind state.held (after_use (Some key.number) state.held) _ (numbers-used key.number state.held holds_behind.numbers) raised_behind);
           idle = λ n. refl;
         };
         moment = refl;
         puts = passes past (stamp state.moment (Granted confirmation.job)) _ _ (λ asking no. absurd (cc))
-            (asks behind state.moment (asking_of (Signs key (signing_of key confirmation)) confirmation.asker (state.under_way.link.last + 1)) [] _ [] (granted_message key may) (puts.none _));
+            (asks behind state.moment (asking_of (Signs key (signing_of key confirmation)) confirmation.asker (state.under_way.link.last + 1)) [] _ [] (granted_message key may) refl (puts.none _));
       }
 
   pub goes-granted : {work : Work}

@@ -12,6 +12,7 @@ pub mod PurposeLemmas
 pub mod HoldsLemmas
 pub mod ServedLemmas
 pub mod RaisedLemmas
+pub mod PlaceLemmas
 pub mod DueLemmas
 pub mod StepLemmas
 pub mod GrantedLemmas

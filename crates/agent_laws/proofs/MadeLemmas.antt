@@ -26,21 +26,22 @@ use Rattle.confirm_desk.specs.Confirmations.{Confirmation}
 use Rattle.agent_model.proofs.GrantLemmas.{grant-ends}
 use Rattle.agent_laws.proofs.GrantedLemmas.{goes-granted, over-agrees}
 use Rattle.agent_laws.proofs.RaisedLemmas.{all_raised-more}
-use Rattle.agent_laws.specs.Dues.{without_number}
+use Rattle.agent_laws.specs.Dues.{without_ask}
 use Rattle.agent_laws.specs.History.{onto}
 use Rattle.agent_laws.specs.Puts.{ArePut, none}
 use Rattle.agent_laws.proofs.MessageLemmas.{puts-silent}
 use Rattle.agent_laws.proofs.SilentLemmas.{AreSilent, IsSilent}
 use Rattle.agent_laws.proofs.HoldsLemmas.{Holds, facts_of}
 use Rattle.agent_laws.proofs.PastLemmas.{LawfulIf, lawful-append, onto-append, stamp, stamps, stamps-append}
-use Rattle.agent_laws.proofs.StepLemmas.{Agrees, Goes, Opened, calm-quiet, numbers_of, opened-quiet, served-agrees, served-lawful, served-puts}
+use Rattle.agent_laws.proofs.PlaceLemmas.{parts_of}
+use Rattle.agent_laws.proofs.StepLemmas.{Agrees, Goes, Opened, calm-quiet, opened-quiet, served-agrees, served-lawful, served-puts}
 
--- the numbers of the asks that are left
-numbers-removed : (number : ℕ) (pending : List Ask)
-    → without_number number (numbers_of pending) ≡ numbers_of (remove_ask number pending)
-numbers-removed number [] = refl
-numbers-removed number (one ∷ pending) =
-    let rest = numbers-removed number pending in
+-- the numbers and sizes of the asks that are left
+parts-removed : (number : ℕ) (pending : List Ask)
+    → without_ask number (parts_of pending) ≡ parts_of (remove_ask number pending)
+parts-removed number [] = refl
+parts-removed number (one ∷ pending) =
+    let rest = parts-removed number pending in
     grind (arith, nat_tests)
 
 -- more is done, and agrees
@@ -64,7 +65,7 @@ module _ {N : Type 0} (life : Option ℕ) (moment : Moment) (held : KeyState) (o
   answered-agrees : Agrees N life moment.mono (stamp moment (Answered one) ∷ past) held (remove_ask one.ask pending) confirmations
   answered-agrees = record {
     holds = record { locked = holds.locked; count = holds.count; default = holds.default; own = holds.own; numbers = holds.numbers; found = holds.found };
-    opens = ap (without_number one.ask) agrees.opens ∙ numbers-removed one.ask pending;
+    opens = ap (without_ask one.ask) agrees.opens ∙ parts-removed one.ask pending;
     raised = all_raised-more past _ held confirmations (λ job. refl) agrees.raised;
     idle = λ n. refl;
   }

@@ -30,8 +30,8 @@ pub puts-append : {past some more : List Stamped} {first later : List ToChildMes
     → ArePut past some first → ArePut (onto past some) more later
     → ArePut past (some ++ more) (first ++ later)
 puts-append (none past) rest = rest
-puts-append (asks past moment asking others message messages is puts) rest =
-    asks past moment asking _ message _ is (puts-append puts rest)
+puts-append (asks past moment asking others message messages is size puts) rest =
+    asks past moment asking _ message _ is size (puts-append puts rest)
 puts-append (passes past one others messages silent puts) rest =
     passes past one _ _ silent (puts-append puts rest)
 
@@ -115,7 +115,7 @@ module _ (life : Option ℕ) (moment : Moment) (past : List Stamped) (asker : As
   puts-errand : (errand : Errand) → IsMessage behind (asking_of errand asker.port (under_way.link.last + 1)) (message_of errand (under_way.link.last + 1))
       → ArePut behind (stamps moment (Asked (asking_of errand asker.port (under_way.link.last + 1)) ∷ [])) (message_of errand (under_way.link.last + 1) ∷ [])
   puts-errand errand is =
-      asks behind moment (asking_of errand asker.port (under_way.link.last + 1)) [] (message_of errand (under_way.link.last + 1)) [] is (none _)
+      asks behind moment (asking_of errand asker.port (under_way.link.last + 1)) [] (message_of errand (under_way.link.last + 1)) [] is refl (none _)
 
   -- what comes of a request is put as its actions ask
   pub puts-served : {served : Served} → Serves (agent_request_of body) asker held under_way served

@@ -45,6 +45,7 @@ use Rattle.agent_model.proofs.JudgedRunLemmas.{first-judged, step-judged}
 use Rattle.agent_model.proofs.MakeLemmas.{Makes, by_event, first, grants, loses, overs, serves, stays, tells}
 use Rattle.agent_model.proofs.PortsLemmas.{found_number}
 use Rattle.agent_model.proofs.ServeLemmas.{IsServed, answered, asked, raised, refused, serve-ends}
+use Rattle.agent_model.proofs.SizeLemmas.{size_of}
 use Rattle.agent_model.proofs.TiedLemmas.{tied-quiet}
 use Rattle.agent_laws.proofs.MomentLemmas.{judged-brings, judged-moment}
 use Rattle.agent_laws.specs.Proven.{AnswerTheirAsks, AnswersItsAsk, IsRightAnswer}
@@ -70,7 +71,7 @@ answer-at past (one ∷ some) action more all =
 -- the ask of this number was put by this client for this binding
 abbrev WasAsked : List Action → ℕ → ℕ → Binding → Type 0
 WasAsked past ask asker binding =
-    IsAmong (Asked (record { ask = ask; port = asker; purpose = ForBinding binding })) past
+    (size : ℕ) × IsAmong (Asked (record { ask = ask; port = asker; purpose = ForBinding binding; size = size })) past
 
 -- each verification that is unanswered was asked for
 abbrev pub WereAsked : List Action → List Verification → List Ask → Type 0
@@ -80,7 +81,7 @@ WereAsked past verifications asks = (ask : ℕ) (what : Ask) (one : Verification
 asked-more : (past more : List Action) (verifications : List Verification) (asks : List Ask)
     → WereAsked past verifications asks → WereAsked (past ++ more) verifications asks
 asked-more past more verifications asks were ask what one noted there =
-    among-front _ past more (were ask what one noted there)
+    let was = were ask what one noted there in (was.0, among-front _ past more was.1)
 
 -- one more ask is put, with an action that tells it
 module _ (errand : Errand) (asker last : ℕ) where
@@ -104,7 +105,7 @@ module _ (errand : Errand) (asker last : ℕ) where
 
   module _ (past : List Action) (second : ℕ) (asks : List Ask) (verifications : List Verification) (rise : RiseTo 0 asks last) (given : AreGiven verifications last) (were : WereAsked past verifications asks) where
     abbrev new : Ask
-    new = ask_of (last + 1) asker (kind_of errand) (blob_of errand) second
+    new = ask_of (last + 1) asker (kind_of errand) (blob_of errand) second (size_of errand (last + 1))
 
     abbrev noted : List Verification
     noted = noted_verification errand (last + 1)
@@ -138,13 +139,14 @@ module _ (errand : Errand) (asker last : ℕ) where
         by_test true test is (inr by) =
             let this : new ≡ what = cc in
             let who : asker ≡ what.asker = ap (λ (a : Ask). a.asker) this in
-            let action : Asked (asking_of errand asker (last + 1)) ≡ Asked (record { ask = ask; port = what.asker; purpose = ForBinding one.binding }) =
-            ap (λ n. Asked (record { ask = n; port = asker; purpose = purpose_of errand })) (sym by.0)
-            ∙ ap (λ n. Asked (record { ask = ask; port = n; purpose = purpose_of errand })) who
-            ∙ ap (λ (p : Purpose). Asked (record { ask = ask; port = what.asker; purpose = p })) by.1 in
-            among-back _ past more (subst (λ (a : Action). IsAmong a more) action told)
+            let size = size_of errand (last + 1) in
+            let action : Asked (asking_of errand asker (last + 1)) ≡ Asked (record { ask = ask; port = what.asker; purpose = ForBinding one.binding; size = size }) =
+            ap (λ n. Asked (record { ask = n; port = asker; purpose = purpose_of errand; size = size })) (sym by.0)
+            ∙ ap (λ n. Asked (record { ask = ask; port = n; purpose = purpose_of errand; size = size })) who
+            ∙ ap (λ (p : Purpose). Asked (record { ask = ask; port = what.asker; purpose = p; size = size })) by.1 in
+            (size, among-back _ past more (subst (λ (a : Action). IsAmong a more) action told))
         by_test false test is (inl noted_before) =
-            among-front _ past more (were ask what one noted_before is)
+            let was = were ask what one noted_before is in (was.0, among-front _ past more was.1)
         by_test false test is (inr by) =
             let equal : (last + 1 == ask) ≡ true = grind (arith, nat_tests, by.0) in
             absurd (cc)
@@ -157,7 +159,7 @@ record HoldsSo (past : List Action) (last : ℕ) (answering : Answering) (asks :
   right : AnswerTheirAsks past answering.actions
   were : WereAsked (past ++ answering.actions) answering.verifications asks
 
-module _ (past : List Action) (last : ℕ) (one : Settled) (before : Answering) (asks : List Ask) (kind : AskKind) (blob : List ℕ) (put_at : ℕ) (found : find_ask one.ask asks ≡ Some (ask_of one.ask one.asker kind blob put_at)) (holds : HoldsSo past last before asks) where
+module _ (past : List Action) (last : ℕ) (one : Settled) (before : Answering) (asks : List Ask) (kind : AskKind) (blob : List ℕ) (put_at size : ℕ) (found : find_ask one.ask asks ≡ Some (ask_of one.ask one.asker kind blob put_at size)) (holds : HoldsSo past last before asks) where
   -- the others were asked for
   others : (more : List Action)
       → WereAsked (past ++ (before.actions ++ more)) (remove_verification one.ask before.verifications) (remove_ask one.ask asks)
@@ -165,7 +167,7 @@ module _ (past : List Action) (last : ℕ) (one : Settled) (before : Answering) 
       let left = left_asks 0 last asks holds.rise one.ask ask what there in
       let was = holds.were ask what verification (sym (find_verification-apart ask one.ask before.verifications left.0) ∙ noted) left.1 in
       subst (λ (all : List Action). WasAsked all ask what.asker verification.binding) (append_assoc past before.actions more)
-      (among-front _ (past ++ before.actions) more was)
+      (was.0, among-front _ (past ++ before.actions) more was.1)
 
   holds-told : (verdict : Verdict)
       → HoldsSo past last (answer_asker verdict one before) (remove_ask one.ask asks)
@@ -180,8 +182,9 @@ module _ (past : List Action) (last : ℕ) (one : Settled) (before : Answering) 
         → AnswerTheirAsks (past ++ before.actions) (Answered one ∷ proved_where_open opened verification)
     proves-right None is = (tt, tt)
     proves-right (Some port) is =
-        let was = holds.were one.ask (ask_of one.ask one.asker kind blob put_at) verification noted found in
-        let numbered : port.number ≡ one.asker = found_number one.asker before.ports port is in (
+        let was = holds.were one.ask (ask_of one.ask one.asker kind blob put_at size) verification noted found in
+        let numbered : port.number ≡ one.asker = found_number one.asker before.ports port is in
+        let moved = subst (λ n. WasAsked (past ++ before.actions) one.ask n verification.binding) (sym numbered) was in (
           tt,
           (
             record {
@@ -189,7 +192,8 @@ module _ (past : List Action) (last : ℕ) (one : Settled) (before : Answering) 
               settled = one;
               last = refl;
               right = right;
-              asked = subst (λ n. WasAsked (past ++ before.actions) one.ask n verification.binding) (sym numbered) was;
+              size = moved.0;
+              asked = moved.1;
             },
             tt,
           ),
@@ -224,7 +228,7 @@ holds-answers past last [] before asks left leads holds =
     subst (HoldsSo past last before) (sym leads) holds
 holds-answers past last (one ∷ later) before asks left leads holds =
     holds-answers past last later (answer_by one.answer one before) (remove_ask one.ask asks) left leads.1
-    (holds-answer past last one before asks (kind_answered one.answer) leads.0.blob leads.0.put_at leads.0.found holds one.answer refl)
+    (holds-answer past last one before asks (kind_answered one.answer) leads.0.blob leads.0.put_at leads.0.size leads.0.found holds one.answer refl)
 
 -- ---- events
 

@@ -17,7 +17,7 @@ use Rattle.agent_model.specs.Askable.{IsGrantable}
 use Rattle.agent_model.specs.Binds.{agent_request_of}
 use Rattle.agent_model.specs.Dispatch.{Served, Asker, serve}
 use Rattle.agent_model.specs.Consents.{signing_of, without_confirmation}
-use Rattle.agent_model.specs.Errands.{binding_of}
+use Rattle.agent_model.specs.Errands.{Signs, Verifies, binding_of}
 use Rattle.agent_model.specs.Events.{Happening, Timed}
 use Rattle.agent_model.specs.Fates.{actions_of}
 use Rattle.agent_model.specs.Grants.{IsAmong}
@@ -38,6 +38,7 @@ use Rattle.agent_model.proofs.JudgeLemmas.{KeepsChains}
 use Rattle.agent_laws.proofs.KeyLemmas.{KeysKept, first-own, kept-event, kept-opened, run-kept}
 use Rattle.agent_model.proofs.MakeLemmas.{Makes, Quiet, alters, by_event, closes, first, goes_on, grants, links, loses, names, overs, serves, stays, tells}
 use Rattle.agent_model.proofs.TimeLemmas.{time_passes-brings}
+use Rattle.agent_model.proofs.SizeLemmas.{size_of}
 use Rattle.agent_model.proofs.ServeLemmas.{Serves, adds, confirms, denies, empties, lists, locks, removes, serves-any, signs, unlocks, verifies}
 use Rattle.agent_laws.proofs.PendingLemmas.{among-either, pending-append}
 use Rattle.agent_laws.proofs.TraceLemmas.{moment-pending, quiet-noted, run-pending}
@@ -60,7 +61,7 @@ module _ (read : Result ClientRequest MsgFault) (asker : Asker) (held : KeyState
   asks-served asking signing purpose (unlocks passphrase is) none = absurd none
   asks-served asking signing purpose (signs other key is found asks free) (inr none) = absurd none
   asks-served asking signing purpose (signs other key is found asks free) (inl among) =
-      let same : record { ask = under_way.link.last + 1; port = asker.port; purpose = ForSignature other } ≡ asking = cc in
+      let same : record { ask = under_way.link.last + 1; port = asker.port; purpose = ForSignature other; size = size_of (Signs key other) (under_way.link.last + 1) } ≡ asking = cc in
       let what : ForSignature other ≡ ForSignature signing = ap (λ (a : Asking). a.purpose) same ∙ purpose in
       let equal : other ≡ signing = cc in (
         ap (λ (a : Asking). a.port) same,
@@ -70,7 +71,7 @@ module _ (read : Result ClientRequest MsgFault) (asker : Asker) (held : KeyState
   asks-served asking signing purpose (confirms other key is found free) (inr none) = absurd none
   asks-served asking signing purpose (verifies bind is_new is stands free) (inr none) = absurd none
   asks-served asking signing purpose (verifies bind is_new is stands free) (inl among) =
-      let same : record { ask = under_way.link.last + 1; port = asker.port; purpose = ForBinding (binding_of bind) } ≡ asking = cc in
+      let same : record { ask = under_way.link.last + 1; port = asker.port; purpose = ForBinding (binding_of bind); size = size_of (Verifies bind is_new) (under_way.link.last + 1) } ≡ asking = cc in
       let what : ForBinding (binding_of bind) ≡ ForSignature signing = ap (λ (a : Asking). a.purpose) same ∙ purpose in
       absurd (cc)
 
@@ -318,7 +319,7 @@ module _ (asking : Asking) (signing : Signing) (waiting : ℕ → Option Raising
     put-granted (allowed key may free) purpose (inl is) =
         let raised_for = waits (waiting confirmation.job) refl in
         let raising : Raising = raised_for.0 in
-        let same : record { ask = state.under_way.link.last + 1; port = confirmation.asker; purpose = ForSignature (signing_of key confirmation) } ≡ asking = cc in
+        let same : record { ask = state.under_way.link.last + 1; port = confirmation.asker; purpose = ForSignature (signing_of key confirmation); size = size_of (Signs key (signing_of key confirmation)) (state.under_way.link.last + 1) } ≡ asking = cc in
         let what : ForSignature (signing_of key confirmation) ≡ ForSignature signing = ap (λ (a : Asking). a.purpose) same ∙ purpose in
         let equal : signing_of key confirmation ≡ signing = cc in
         let addition : confirmation.addition ≡ raising.addition = ap (λ (w : Wanted). w.addition) raised_for.2 in

@@ -23,6 +23,7 @@ use Rattle.agent_model.specs.Step.{asker_at}
 use Rattle.agent_model.proofs.JudgedLemmas.{Keeps}
 use Rattle.agent_model.proofs.MakeLemmas.{Quiet, alters, closes, goes_on, links, names, same_asks}
 use Rattle.agent_model.proofs.ServeLemmas.{serves-any}
+use Rattle.agent_model.proofs.SizeLemmas.{size_of}
 use Rattle.agent_laws.specs.Dues.{Claim, claim_of_request, due_signing, met_by, open_asks, proved_of}
 use Rattle.agent_laws.specs.History.{IsDue, onto}
 use Rattle.agent_laws.specs.Past.{done_of_request}
@@ -30,20 +31,18 @@ use Rattle.agent_laws.specs.Puts.{ArePut, passes}
 use Rattle.agent_laws.proofs.DueLemmas.{Acts, acts-served, asks, due_read, met_with, raises_it, silent}
 use Rattle.agent_laws.proofs.HoldsLemmas.{Facts, Holds, NumbersKept, facts_after, facts_of, facts_then}
 use Rattle.agent_laws.proofs.MessageLemmas.{puts-served}
+use Rattle.agent_laws.proofs.PlaceLemmas.{parts_of}
 use Rattle.agent_laws.proofs.ServedLemmas.{HoldsAfter, holds-served}
 use Rattle.agent_laws.proofs.RaisedLemmas.{AllRaised, Stays, as_it_is, lightly, stays-kept, all_raised-kept, all_raised-more, all_raised-push, all_raised-same}
 use Rattle.agent_laws.proofs.PastLemmas.{LawfulIf, nothing_due, stamp, stamps}
 use Rattle.agent_laws.proofs.UsableLemmas.{usable-asked}
-
-abbrev pub numbers_of : List Ask → List ℕ
-numbers_of all = map (λ (one : Ask). one.number) all
 
 -- ---- what agrees
 
 -- the past tells what is held, which asks are unanswered and what waits for the user, and nothing is due behind it
 pub record Agrees (N : Type 0) (life : Option ℕ) (second : ℕ) (past : List Stamped) (held : KeyState) (pending : List Ask) (confirmations : List Confirmation) : Type 0 where
   pub holds : Holds life second (facts_of past) held
-  pub opens : open_asks past ≡ numbers_of pending
+  pub opens : open_asks past ≡ parts_of pending
   pub raised : AllRaised past held confirmations
   pub idle : N → due_signing life past ≡ None
 
@@ -113,7 +112,7 @@ due_as None life moment past = refl
 due_as (Some claim) life moment past = refl
 
 -- what is due behind it, by the chain of its port
-due_of_read : (life : Option ℕ) (number second wall : ℕ) (facts : Facts) (past : List Stamped) (chain : List Binding) (opens : List ℕ) (read : Result ClientRequest MsgFault)
+due_of_read : (life : Option ℕ) (number second wall : ℕ) (facts : Facts) (past : List Stamped) (chain : List Binding) (opens : List (ℕ × ℕ)) (read : Result ClientRequest MsgFault)
     → proved_of number past ≡ chain
     → met_with (claim_of_request read number) life second wall facts (λ port. proved_of port past) opens ≡ met_with (claim_of_request read number) life second wall facts (λ port. chain) opens
 due_of_read life number second wall facts past chain opens (Err fault) is = refl
@@ -130,10 +129,10 @@ due_of_read life number second wall facts past chain opens (Ok (Bind bind)) is =
 due_of_read life number second wall facts past chain opens (Ok (OtherExtension name)) is = refl
 due_of_read life number second wall facts past chain opens (Ok (Unsupported other)) is = refl
 
-pub numbers-append : (some more : List Ask)
-    → numbers_of (some ++ more) ≡ numbers_of some ++ numbers_of more
-numbers-append [] more = refl
-numbers-append (one ∷ some) more = ap (λ rest. one.number ∷ rest) (numbers-append some more)
+pub parts-append : (some more : List Ask)
+    → parts_of (some ++ more) ≡ parts_of some ++ parts_of more
+parts-append [] more = refl
+parts-append (one ∷ some) more = ap (λ rest. (one.number, one.size) ∷ rest) (parts-append some more)
 
 -- what the past tells behind actions
 pub facts-onto : (moment : Moment) (past : List Stamped) (actions : List Action)
@@ -151,10 +150,10 @@ module _ (life : Option ℕ) (moment : Moment) (asker : Asker) (held after : Key
   lawful-acts (raises_it key signing found none) = (λ n. is ∙ none n, λ n. refl)
 
   opens-acts : {N : Type 0} {work : Work} → Acts N due asker held under_way work
-      → open_asks past ≡ numbers_of under_way.link.asks
-      → open_asks (onto past (stamps moment work.actions)) ≡ numbers_of work.under_way.link.asks
+      → open_asks past ≡ parts_of under_way.link.asks
+      → open_asks (onto past (stamps moment work.actions)) ≡ parts_of work.under_way.link.asks
   opens-acts (silent verdict none) same = same
-  opens-acts (asks errand may) same = ap (λ all. all ++ (under_way.link.last + 1) ∷ []) same ∙ sym (numbers-append under_way.link.asks _)
+  opens-acts (asks errand may) same = ap (λ all. all ++ (under_way.link.last + 1, size_of errand (under_way.link.last + 1)) ∷ []) same ∙ sym (parts-append under_way.link.asks _)
   opens-acts (raises_it key signing found none) same = same
 
   raised-acts : {N : Type 0} {work : Work} → Acts N due asker held under_way work

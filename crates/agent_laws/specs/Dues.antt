@@ -1,6 +1,7 @@
 -- Which signature is to be put to the helper, by the actions so far: searches in the past, the
 -- newest action first (ours).
 use Rattle.std.specs.Prelude.{ℕ, Bool, true, false, List, [], ◌∷◌, ◌++◌, length, Option, Some, None, Result, Ok, Err, nat_lt, ◌==◌, ◌&&◌, not, if◌then◌else◌}
+use Rattle.std.specs.List.{sum_by}
 use Rattle.world_ports.specs.declared.Moment.{Moment}
 use Rattle.agent_msg.specs.declared.fault.MsgFault.{MsgFault}
 use Rattle.agent_msg.specs.Requests.{ClientRequest, Signing, ListIdentities, Sign, Add, Remove, RemoveAll, Lock, Unlock, Bind, OtherExtension, Unsupported}
@@ -22,25 +23,25 @@ abbrev pub proved_of : ℕ → List Stamped → List Binding
 proved_of port [] = []
 proved_of port (one ∷ before) = bound_by port one.action (proved_of port before)
 
--- the numbers without the first that is this one
-abbrev pub without_number : ℕ → List ℕ → List ℕ
-without_number number [] = []
-without_number number (other ∷ others) =
-    if other == number then others else other ∷ without_number number others
+-- the asks, each with the size of its body, without the first of this number
+abbrev pub without_ask : ℕ → List (ℕ × ℕ) → List (ℕ × ℕ)
+without_ask number [] = []
+without_ask number (other ∷ others) =
+    if other.0 == number then others else other ∷ without_ask number others
 
 -- an action's part in the open asks
-abbrev pub open_by : Action → List ℕ → List ℕ
+abbrev pub open_by : Action → List (ℕ × ℕ) → List (ℕ × ℕ)
 open_by (Requested requesting) before = before
-open_by (Asked asking) before = before ++ asking.ask ∷ []
-open_by (Answered settled) before = without_number settled.ask before
+open_by (Asked asking) before = before ++ (asking.ask, asking.size) ∷ []
+open_by (Answered settled) before = without_ask settled.ask before
 open_by (Proved proving) before = before
 open_by (Raised raising) before = before
 open_by (Granted job) before = before
 open_by (Over job) before = before
 open_by Lost before = []
 
--- the asks since the last loss of the helper that it hasn't answered
-abbrev pub open_asks : List Stamped → List ℕ
+-- the asks since the last loss of the helper that it hasn't answered, each with the size of its body
+abbrev pub open_asks : List Stamped → List (ℕ × ℕ)
 open_asks [] = []
 open_asks (one ∷ before) = open_by one.action (open_asks before)
 
@@ -87,15 +88,19 @@ abbrev pub is_permitted : Option Denial → Bool
 is_permitted None = true
 is_permitted (Some denial) = false
 
--- the key is held and used so, its purposes have the message, its destination constraints permit it, fewer than 256
--- asks are open, and the agent isn't locked
-abbrev pub is_met : Option PastAddition → Claim → List Binding → ℕ → List ℕ → Bool → Bool
+-- there is a place for one more ask: fewer than 256 are open, whose bodies have less than 8 MiB together
+abbrev pub is_place : List (ℕ × ℕ) → Bool
+is_place asks = nat_lt (length asks) 256 && nat_lt (sum_by (λ (one : ℕ × ℕ). one.1) asks) 8388608
+
+-- the key is held and used so, its purposes have the message, its destination constraints permit it, there is a place
+-- for one more ask, and the agent isn't locked
+abbrev pub is_met : Option PastAddition → Claim → List Binding → ℕ → List (ℕ × ℕ) → Bool → Bool
 is_met None claim chain wall asks locked = false
 is_met (Some past) claim chain wall asks locked = is_consented claim.addition past
     && (let_sign past.addition.terms.purposes claim.signing.message claim.signing.blob
     && (is_permitted (denial_under past.addition.terms.rules claim.signing.blob
     chain claim.signing.message wall)
-    && (nat_lt (length asks) 256 && not locked)))
+    && (is_place asks && not locked)))
 
 -- the claim, where it is met at this moment
 abbrev pub met_by : Option Claim → Option ℕ → Moment → List Stamped → Option Claim

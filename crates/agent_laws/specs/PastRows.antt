@@ -40,8 +40,13 @@ abbrev pub signing : ℕ → Signing
 signing tag = record { blob = blob tag; message = 1 ∷ 2 ∷ []; flags = 0 }
 
 -- asks, answers, bindings and consents of port 1
+abbrev pub asked_with : ℕ → ℕ → Stamped
+asked_with size ask =
+    at 0 (Asked (record { ask = ask; port = 1; purpose = ForSignature (signing 17); size = size }))
+
+-- with a body of 191 bytes
 abbrev pub asked : ℕ → Stamped
-asked ask = at 0 (Asked (record { ask = ask; port = 1; purpose = ForSignature (signing 17) }))
+asked ask = asked_with 191 ask
 
 -- the helper refused the ask of this number
 abbrev pub answered : ℕ → Stamped

@@ -1,6 +1,6 @@
 -- Which ask the proof of a binding answers: searches in what was done before, the oldest action
 -- first (ours).
-use Rattle.std.specs.Prelude.{◌≡◌, List, [], ◌∷◌, ◌++◌}
+use Rattle.std.specs.Prelude.{◌≡◌, ℕ, List, [], ◌∷◌, ◌++◌}
 use Rattle.helper_link.specs.declared.answer.Answer.TheVariants.{True}
 use Rattle.helper_link.specs.declared.answer.Settled.{Settled}
 use Rattle.agent_model.specs.Actions.{Action, Answered, Asked, ForBinding, Granted, Lost, Over, Proved, Proving, Raised, Requested}
@@ -13,10 +13,12 @@ pub record IsRightAnswer (past : List Action) (proving : Proving) : Type 0 where
   pub settled : Settled
   pub last : past ≡ before ++ Answered settled ∷ []
   pub right : settled.answer ≡ True
+  pub size : ℕ
   pub asked : IsAmong (Asked (record {
     ask = settled.ask;
     port = proving.port;
     purpose = ForBinding proving.binding;
+    size = size;
   })) before
 
 -- an action behind these: a proof of a binding answers its ask

@@ -1,8 +1,9 @@
 -- The messages that are put to the helper are those of the asks that the actions tell, and nothing else is appended to
 -- what the helper is owed (ours). It is said over any list of events.
-use Rattle.std.specs.Prelude.{◌≡◌, ◌≢◌, List, [], ◌∷◌, ◌++◌, Some, Ok}
+use Rattle.std.specs.Prelude.{◌≡◌, ◌≢◌, List, [], ◌∷◌, ◌++◌, length, Some, Ok}
 use Rattle.world_ports.specs.declared.Moment.{Moment}
 use Rattle.agent_msg.specs.Requests.{Bind, BindRequest, Signing}
+use Rattle.child_msg.specs.ChildFrames.{to_child_body}
 use Rattle.child_msg.specs.Messages.{ToChildMessage}
 use Rattle.helper_link.specs.HelperLink.{sign_request, verify_request}
 use Rattle.agent_model.specs.Actions.{Asked, Asking, ForBinding, ForSignature, Requested, Requesting}
@@ -28,12 +29,13 @@ pub data IsMessage (past : List Stamped) (asking : Asking) : ToChildMessage → 
       → requesting.port ≡ asking.port → agent_request_of requesting.body ≡ Ok (Bind bind)
       → IsMessage past asking (verify_request bind.host_key bind.signature bind.session asking.ask)
 
--- of these actions, the oldest first, behind those of the past, the newest first, each ask has its message, in their order,
--- and nothing else has one
+-- of these actions, the oldest first, behind those of the past, the newest first, each ask has its message, of its size, in
+-- their order, and nothing else has one
 pub data ArePut : List Stamped → List Stamped → List ToChildMessage → Type 0 where
   none : (past : List Stamped) → ArePut past [] []
   asks : (past : List Stamped) (moment : Moment) (asking : Asking) (later : List Stamped) (message : ToChildMessage)
       (messages : List ToChildMessage) → IsMessage past asking message
+      → asking.size ≡ length (to_child_body message)
       → ArePut (record { moment = moment; action = Asked asking } ∷ past) later messages
       → ArePut past (record { moment = moment; action = Asked asking } ∷ later) (message ∷ messages)
   passes : (past : List Stamped) (one : Stamped) (later : List Stamped) (messages : List ToChildMessage)

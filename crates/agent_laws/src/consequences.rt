@@ -1,6 +1,7 @@
 //! What the law of history means to a user.
 
 ghost use Rattle.std.specs.Prelude.{◌≡◌, ◌++◌, ◌∷◌, ◌<◌, ℕ, List, [], length, None, Some, true, false};
+ghost use Rattle.std.specs.List.{sum_by};
 ghost use Rattle.agent_msg.specs.Requests.{Signing};
 ghost use Rattle.constraint_rec.specs.declared.constraint.Constraint.{Constraint};
 ghost use Rattle.dest_rule.specs.Rules.{denial_under};
@@ -54,7 +55,7 @@ pub fn a_confirmed_key_signs_with_consent()
 
 /// With a key that has destination constraints a signature is put to the helper only where they
 /// permit it for the bindings that were proved on that connection, at the wall clock of the event;
-/// and fewer than 256 asks are open.
+/// and fewer than 256 asks are open, whose bodies have less than 8 MiB together.
 pub fn a_constrained_key_signs_where_permitted()
     ensures permitted { (before rest : List Stamped) (newest : Stamped) (port : ℕ)
         (signing : Signing) (settings : Settings) (events : List Timed) (past : PastAddition)
@@ -67,6 +68,10 @@ pub fn a_constrained_key_signs_where_permitted()
         (events : List Timed) → HasNumbers (run (first_state settings) events)
         → IsPutBehind before port signing settings events
         → length (open_asks (onto [] before)) < 256 }
+    ensures light { (before : List Stamped) (port : ℕ) (signing : Signing) (settings : Settings)
+        (events : List Timed) → HasNumbers (run (first_state settings) events)
+        → IsPutBehind before port signing settings events
+        → sum_by (λ (one : ℕ × ℕ). one.1) (open_asks (onto [] before)) < 8388608 }
 {}
 
 /// With a key whose only constraint leads from the agent's own host to one host, each message that

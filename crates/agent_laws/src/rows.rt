@@ -7,7 +7,7 @@ ghost use Rattle.agent_model.specs.Rows.{add, add_asking, add_for_ten, add_once,
 ghost use Rattle.agent_laws.specs.Dues.{due_signing, open_asks, proved_of, raised_at};
 ghost use Rattle.agent_laws.specs.Past.{addition_count, was_locked};
 ghost use Rattle.agent_laws.specs.Uses.{times_used, times_wanted};
-ghost use Rattle.agent_laws.specs.PastRows.{answered, asked, at, claim, did, failed_to, host, number_at, proved, raised, waits_for};
+ghost use Rattle.agent_laws.specs.PastRows.{answered, asked, asked_with, at, claim, did, failed_to, host, number_at, proved, raised, waits_for};
 
 /// What the past tells of the lock and of the keys.
 pub fn the_past_tells_of_keys()
@@ -56,10 +56,10 @@ pub fn the_past_tells_of_what_is_open()
     ensures bound { proved_of 1 (proved 1 8 ∷ proved 1 7 ∷ []) ≡ host 7 ∷ host 8 ∷ [] }
     ensures once { proved_of 1 (proved 1 7 ∷ proved 1 7 ∷ []) ≡ host 7 ∷ [] }
     ensures other_port { proved_of 1 (proved 2 7 ∷ []) ≡ [] }
-    ensures asks { open_asks (asked 2 ∷ asked 1 ∷ []) ≡ 1 ∷ 2 ∷ [] }
-    ensures answered { open_asks (answered 1 ∷ asked 2 ∷ asked 1 ∷ []) ≡ 2 ∷ [] }
+    ensures asks { open_asks (asked_with 7 2 ∷ asked 1 ∷ []) ≡ (1, 191) ∷ (2, 7) ∷ [] }
+    ensures answered { open_asks (answered 1 ∷ asked_with 7 2 ∷ asked 1 ∷ []) ≡ (2, 7) ∷ [] }
     ensures lost { open_asks (at 0 Lost ∷ asked 2 ∷ asked 1 ∷ []) ≡ [] }
-    ensures after { open_asks (asked 3 ∷ at 0 Lost ∷ asked 2 ∷ []) ≡ 3 ∷ [] }
+    ensures after { open_asks (asked 3 ∷ at 0 Lost ∷ asked 2 ∷ []) ≡ (3, 191) ∷ [] }
     ensures none_raised { raised_at 1 (raised 2 5 ∷ []) ≡ None }
     ensures over { raised_at 1 (at 0 (Over 1) ∷ raised 1 5 ∷ []) ≡ None }
     ensures granted { raised_at 1 (at 0 (Granted 1) ∷ raised 1 5 ∷ []) ≡ None }
@@ -94,6 +94,14 @@ pub fn what_is_due_is_what_was_asked()
         ∷ did (add_asking 17) ∷ []) ≡ None }
     ensures used_since { due_signing None (at 0 (Granted 1) ∷ asked 1 ∷ raised 1 1
         ∷ did (add_once 17) ∷ []) ≡ None }
+    ensures light { due_signing None (waits_for (sign 17) ∷ asked_with 7 2 ∷ asked_with 8388600 1 ∷ did (add 17) ∷ [])
+        ≡ Some (claim 17 None) }
+    ensures heavy { due_signing None (waits_for (sign 17) ∷ asked_with 8 2 ∷ asked_with 8388600 1 ∷ did (add 17) ∷ [])
+        ≡ None }
+    ensures answered { due_signing None (waits_for (sign 17) ∷ answered 1 ∷ asked_with 8 2 ∷ asked_with 8388600 1
+        ∷ did (add 17) ∷ []) ≡ Some (claim 17 None) }
+    ensures lost { due_signing None (waits_for (sign 17) ∷ at 0 Lost ∷ asked_with 8388608 1 ∷ did (add 17) ∷ [])
+        ≡ Some (claim 17 None) }
     ensures died_since { due_signing None (at 10 (Granted 1) ∷ raised 1 1 ∷ did (add_for_ten 17)
         ∷ []) ≡ None }
 {}

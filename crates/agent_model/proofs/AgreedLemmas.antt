@@ -11,6 +11,7 @@ use Rattle.agent_model.specs.Actions.{Action, Asked, ForSignature, Granted, Outc
 use Rattle.agent_model.specs.Children.{changed}
 use Rattle.agent_model.specs.Consents.{close_confirmer, grant_concluded, over, signing_of, without_confirmation}
 use Rattle.agent_model.specs.Dispatch.{Served}
+use Rattle.agent_model.specs.Errands.{Signs}
 use Rattle.agent_model.specs.Events.{Ended, Happening, Tick, Took}
 use Rattle.agent_model.specs.Fates.{IsTold}
 use Rattle.agent_model.specs.Grants.{IsAgreed, IsAmong, agreed, disagreed, unagreed, ungranted}
@@ -31,6 +32,7 @@ use Rattle.agent_model.proofs.ActionLemmas.{ArePlain, IsPlain, among-back, among
 use Rattle.agent_model.proofs.WaitLemmas.{told-close_confirmer, waits-quiet, waits-served}
 use Rattle.agent_model.proofs.StillLemmas.{heard-refused, still-handle, still-lost, still-makes, still-tells}
 use Rattle.agent_model.proofs.TimeLemmas.{time_passes-brings}
+use Rattle.agent_model.proofs.SizeLemmas.{size_of}
 
 -- who waits for the user
 abbrev Waits : ℕ → ℕ → List Port → Type 0
@@ -174,7 +176,7 @@ module _ (number job : ℕ) (confirmation : Confirmation) (state : State) (there
           let only = only_grant job confirmation.job [] tt other.0 in
           unagreed only.0 only.1 (still (Refuses cause) other.1)
       by_own (allowed key may free) (inr other) =
-          let only = only_grant job confirmation.job (Asked (record { ask = state.under_way.link.last + 1; port = confirmation.asker; purpose = ForSignature (signing_of key confirmation) }) ∷ []) (tt, tt) other.0 in
+          let only = only_grant job confirmation.job (Asked (record { ask = state.under_way.link.last + 1; port = confirmation.asker; purpose = ForSignature (signing_of key confirmation); size = size_of (Signs key (signing_of key confirmation)) (state.under_way.link.last + 1) }) ∷ []) (tt, tt) other.0 in
           unagreed only.0 only.1 (still (Awaits (OnAsk (state.under_way.link.last + 1))) other.1)
 
 -- ---- events

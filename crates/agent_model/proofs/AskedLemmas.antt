@@ -17,6 +17,7 @@ use Rattle.agent_model.specs.State.{Port, Verification, find_port}
 use Rattle.agent_model.proofs.BindLemmas.{AreGiven}
 use Rattle.agent_model.proofs.JudgeLemmas.{KeepsChains, find_verification-append}
 use Rattle.agent_model.proofs.ServeLemmas.{MayPut}
+use Rattle.agent_model.proofs.SizeLemmas.{size_of}
 
 -- the verification of a request to bind
 abbrev one_for : BindRequest → Bool → ℕ → Verification
@@ -50,7 +51,7 @@ module _ (asker : Asker) (errand : Errand) (last : ℕ) where
   module _ (second : ℕ) (asks : List Ask) (verifications : List Verification) (rise : RiseTo 0 asks last) where
     -- the new ask
     abbrev new : Ask
-    new = ask_of (last + 1) asker.port (kind_of errand) (blob_of errand) second
+    new = ask_of (last + 1) asker.port (kind_of errand) (blob_of errand) second (size_of errand (last + 1))
 
     abbrev noted : List Verification
     noted = noted_verification errand (last + 1)
@@ -105,7 +106,7 @@ module _ (asker : Asker) (errand : Errand) (last : ℕ) where
     -- each ask to verify has its binding
     pub noted-asked : AreNoted verifications asks
         → AreNoted (verifications ++ noted) (asks ++ new ∷ [])
-    noted-asked noted_before ask who blob put_at there = by_test (last + 1 == ask) refl (sym (pushed ask) ∙ there)
+    noted-asked noted_before ask who blob put_at size there = by_test (last + 1 == ask) refl (sym (pushed ask) ∙ there)
       where
         some_of : (first later : Option Verification) → IsSome first
             → IsSome (option_or first later)
@@ -118,17 +119,17 @@ module _ (asker : Asker) (errand : Errand) (last : ℕ) where
         some_behind (Some one) later some = refl
 
         by_test : (same : Bool) → (last + 1 == ask) ≡ same
-            → cond same (Some new) (find_ask ask asks) ≡ Some (ask_of ask who kinds.Verifying blob put_at)
+            → cond same (Some new) (find_ask ask asks) ≡ Some (ask_of ask who kinds.Verifying blob put_at size)
             → IsSome (find_verification ask (verifications ++ noted))
         by_test true test is =
             let numbered : last + 1 ≡ ask = grind (arith, nat_tests) in
-            let this : new ≡ ask_of ask who kinds.Verifying blob put_at = cc in
+            let this : new ≡ ask_of ask who kinds.Verifying blob put_at size = cc in
             let kind : kind_of errand ≡ kinds.Verifying = ap (λ (a : Ask). a.kind) this in
             subst IsSome (sym (find_verification-append ask verifications noted))
             (some_behind (find_verification ask verifications) (find_verification ask noted) (subst (λ n. IsSome (find_verification n noted)) numbered (noted_new errand kind)))
         by_test false test is =
             subst IsSome (sym (find_verification-append ask verifications noted))
-            (some_of (find_verification ask verifications) (find_verification ask noted) (noted_before ask who blob put_at is))
+            (some_of (find_verification ask verifications) (find_verification ask noted) (noted_before ask who blob put_at size is))
 
     -- and is of an ask that was put
     pub given-asked : MayPut asker errand → AreGiven verifications last

@@ -91,7 +91,7 @@ module _ (low last : ℕ) (one : Settled) (before : Answering) (asks : List Ask)
   of_asker : (verification : Verification) (port : Port)
       → find_verification one.ask before.verifications ≡ Some verification
       → find_port one.asker before.ports ≡ Some port → IsRight verification port.chain
-  of_asker verification port noted there = judged one.ask (ask_of one.ask one.asker (kind_answered one.answer) found.blob found.put_at) verification port noted found.found there
+  of_asker verification port noted there = judged one.ask (ask_of one.ask one.asker (kind_answered one.answer) found.blob found.put_at found.size) verification port noted found.found there
 
   chains_by : {after : Answering} → AnswerIs one before after → AreChains before.ports
       → AreChains after.ports

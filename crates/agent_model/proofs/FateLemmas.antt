@@ -207,8 +207,8 @@ module _ (low last : ℕ) where
   fate-answers number ask (one ∷ later) before asks left leads rise tied is told = elim (cases_eq one.ask ask) [
     | inl same ↦
         (let waiting = tied.waits number ask told.port told.found told.waits in
-        let asker : Some (ask_of one.ask one.asker (kind_answered one.answer) leads.0.blob leads.0.put_at) ≡ Some (ask_of ask number waiting.kind waiting.blob waiting.put_at) = sym leads.0.found ∙ ap (λ n. find_ask n asks) same ∙ waiting.unanswered in
-        let equal : ask_of one.ask one.asker (kind_answered one.answer) leads.0.blob leads.0.put_at ≡ ask_of ask number waiting.kind waiting.blob waiting.put_at = cc in
+        let asker : Some (ask_of one.ask one.asker (kind_answered one.answer) leads.0.blob leads.0.put_at leads.0.size) ≡ Some (ask_of ask number waiting.kind waiting.blob waiting.put_at waiting.size) = sym leads.0.found ∙ ap (λ n. find_ask n asks) same ∙ waiting.unanswered in
+        let equal : ask_of one.ask one.asker (kind_answered one.answer) leads.0.blob leads.0.put_at leads.0.size ≡ ask_of ask number waiting.kind waiting.blob waiting.put_at waiting.size = cc in
         let who : one.asker ≡ number = ap (λ (a : Ask). a.asker) equal in
         let test : (one.ask == ask) ≡ true = grind (arith, nat_tests) in
         let gets : fate_of ask (answer_by one.answer one before).actions ≡ Gets one.answer = answer-fate ask one before ∙ ap (λ f. or_later f (if one.ask == ask then Gets one.answer else Unanswered)) is ∙ ap (λ b. if b then Gets one.answer else Unanswered) test in
@@ -245,7 +245,7 @@ pub one_lost : (low last : ℕ) (one : Ask) (asks : List Ask) (ports : List Port
     → AreTied (change_port one.asker (tell (Refuses HelperLost)) ports) asks
 one_lost low last one asks ports rise tied =
     subst (AreTied (change_port one.asker (tell (Refuses HelperLost)) ports)) (first_ask one asks).1
-    (tied-told ports (one ∷ asks) tied one.number one.asker one.kind (tell (Refuses HelperLost)) low last rise record { blob = one.blob; put_at = one.put_at; found = (first_ask one asks).0 } (λ p. refl) (λ p ask is. absurd (cc)))
+    (tied-told ports (one ∷ asks) tied one.number one.asker one.kind (tell (Refuses HelperLost)) low last rise record { blob = one.blob; put_at = one.put_at; size = one.size; found = (first_ask one asks).0 } (λ p. refl) (λ p ask is. absurd (cc)))
 
 -- nobody waits any more
 pub tied-lost : (low last : ℕ) (asks : List Ask) (ports : List Port) → RiseTo low asks last
@@ -271,7 +271,7 @@ pub waits-lost : (number ask low last : ℕ) (asks : List Ask) (ports : List Por
     → IsTold number (Refuses HelperLost) (tell_each (Refuses HelperLost) (askers asks) ports)
 waits-lost number ask low last [] ports rise tied told =
     let waiting = tied.waits number ask told.port told.found told.waits in
-    let no : None ≡ Some (ask_of ask number waiting.kind waiting.blob waiting.put_at) = waiting.unanswered in
+    let no : None ≡ Some (ask_of ask number waiting.kind waiting.blob waiting.put_at waiting.size) = waiting.unanswered in
     absurd (cc)
 waits-lost number ask low last (one ∷ asks) ports rise tied told = elim (cases_eq number one.asker) [
   | inl same ↦

@@ -44,6 +44,7 @@ use Rattle.agent_model.proofs.TiedLemmas.{assemble, tied-fewer, tied-quiet}
 use Rattle.agent_model.proofs.WaitLemmas.{told-close_confirmer, told-close_helper, waits-quiet}
 use Rattle.agent_model.proofs.TieLemmas.{found_joined, found_known, tied-asked, tied-silent}
 use Rattle.agent_model.proofs.FatedServeLemmas.{Fated, fated-served, linked-begun, new_asker}
+use Rattle.agent_model.proofs.SizeLemmas.{size_of}
 
 -- ---- the helper answers, or is lost
 
@@ -240,10 +241,10 @@ module _ (event : Happening) (confirmation : Confirmation) (state : State) (ther
         let errand : Errand = Signs key (signing_of key confirmation) in
         let new : UnderWay = with_ask errand confirmation.asker (without_confirmation confirmation.job uw) in
         record {
-          tied = assemble state _ (follows-over (after_use (addition_of errand) state.held) new verdict) tied (push_rises 0 link.asks link.last confirmation.asker (kind_of errand) (blob_of errand) uw.second tied.order)
-              (tied-asked rest link.asks rest_tied confirmation.asker 0 link.last (kind_of errand) (blob_of errand) uw.second port (tell verdict) tied.order (stays_open confirmation.asker port asking.door opened) (waits_on port (stays_open confirmation.asker port asking.door opened)) asking.owed asking.door (λ p. refl) (λ p. refl) (λ p. refl) (λ p none. ap (λ bytes. bytes ++ []) none))
-              (λ ask one is. new_asker (link.last + 1 == ask) (find_ask ask link.asks) (ask_of (link.last + 1) confirmation.asker (kind_of errand) (blob_of errand) uw.second) one state.last_port (tied.raised.askers confirmation.job confirmation found_there) (tied.askers ask)
-              (sym (find-push ask 0 (ask_of (link.last + 1) confirmation.asker (kind_of errand) (blob_of errand) uw.second) link.asks link.last tied.order (omega arith)) ∙ is))
+          tied = assemble state _ (follows-over (after_use (addition_of errand) state.held) new verdict) tied (push_rises 0 link.asks link.last confirmation.asker (kind_of errand) (blob_of errand) uw.second (size_of errand (link.last + 1)) tied.order)
+              (tied-asked rest link.asks rest_tied confirmation.asker 0 link.last (kind_of errand) (blob_of errand) uw.second (size_of errand (link.last + 1)) port (tell verdict) tied.order (stays_open confirmation.asker port asking.door opened) (waits_on port (stays_open confirmation.asker port asking.door opened)) asking.owed asking.door (λ p. refl) (λ p. refl) (λ p. refl) (λ p none. ap (λ bytes. bytes ++ []) none))
+              (λ ask one is. new_asker (link.last + 1 == ask) (find_ask ask link.asks) (ask_of (link.last + 1) confirmation.asker (kind_of errand) (blob_of errand) uw.second (size_of errand (link.last + 1))) one state.last_port (tied.raised.askers confirmation.job confirmation found_there) (tied.askers ask)
+              (sym (find-push ask 0 (ask_of (link.last + 1) confirmation.asker (kind_of errand) (blob_of errand) uw.second (size_of errand (link.last + 1))) link.asks link.last tied.order (omega arith)) ∙ is))
               (λ n is. linked-begun link.state (uw.last_job + 1) n is)
               (raised-later uw.last_job new.last_job state.last_port state.last_port (jobs-for link.state uw.last_job) (omega arith)
               (raised-over rest rest_raised confirmation (tell verdict) found_there (λ p. refl) (λ p. refl) (λ p job is. absurd (cc))));

@@ -31,6 +31,7 @@ use Rattle.agent_model.proofs.ServeLemmas.{IsServed, answered, asked, raised, re
 use Rattle.agent_model.proofs.TiedLemmas.{assemble}
 use Rattle.agent_model.proofs.WaitLemmas.{waits-served}
 use Rattle.agent_model.proofs.TieLemmas.{tied-asked, tied-silent}
+use Rattle.agent_model.proofs.SizeLemmas.{size_of}
 
 -- the state is tied, and who waited before is told what the actions make of its ask, unless its port ended
 pub record Fated (event : Happening) (old : State) (outcome : Outcome) : Type 0 where
@@ -113,17 +114,17 @@ module _ (event : Happening) (body : List ℕ) (take : Port → Port) (mild : Is
 
   -- it puts an ask
   puts : (held : KeyState) (errand : Errand)
-      → Fated event state (record { state = left held (with_ask errand port.number state.under_way) (Awaits (OnAsk (state.under_way.link.last + 1))); actions = Requested (record { port = port.number; body = body; verdict = Awaits (OnAsk (state.under_way.link.last + 1)) }) ∷ Asked (record { ask = state.under_way.link.last + 1; port = port.number; purpose = purpose_of errand }) ∷ []; put = message_of errand (state.under_way.link.last + 1) ∷ []; closes = [] })
+      → Fated event state (record { state = left held (with_ask errand port.number state.under_way) (Awaits (OnAsk (state.under_way.link.last + 1))); actions = Requested (record { port = port.number; body = body; verdict = Awaits (OnAsk (state.under_way.link.last + 1)) }) ∷ Asked (record { ask = state.under_way.link.last + 1; port = port.number; purpose = purpose_of errand; size = size_of errand (state.under_way.link.last + 1) }) ∷ []; put = message_of errand (state.under_way.link.last + 1) ∷ []; closes = [] })
   puts held errand =
       let link = state.under_way.link in
       let verdict : Verdict = Awaits (OnAsk (link.last + 1)) in
       let new : UnderWay = with_ask errand port.number state.under_way in
       record {
-        tied = assemble state (left held new verdict) (follows-left held new verdict) tied (push_rises 0 link.asks link.last port.number (kind_of errand) (blob_of errand) state.under_way.second tied.order)
+        tied = assemble state (left held new verdict) (follows-left held new verdict) tied (push_rises 0 link.asks link.last port.number (kind_of errand) (blob_of errand) state.under_way.second (size_of errand (link.last + 1)) tied.order)
             (subst (λ ports. AreTied ports new.link.asks) (twice verdict)
-            (tied-asked state.ports link.asks tied.tied port.number 0 link.last (kind_of errand) (blob_of errand) state.under_way.second port (change verdict) tied.order found (waits_not OnAsk (λ n is. absurd (cc)) port found) owed door mild.number mild.door (λ p. refl) (λ p none. ap (λ bytes. bytes ++ []) (mild.owed p none))))
-            (λ ask one is. new_asker (link.last + 1 == ask) (find_ask ask link.asks) (ask_of (link.last + 1) port.number (kind_of errand) (blob_of errand) state.under_way.second) one state.last_port (found_within port.number 0 state.last_port state.ports port tied.rising found) (tied.askers ask)
-            (sym (find-push ask 0 (ask_of (link.last + 1) port.number (kind_of errand) (blob_of errand) state.under_way.second) link.asks link.last tied.order (omega arith)) ∙ is))
+            (tied-asked state.ports link.asks tied.tied port.number 0 link.last (kind_of errand) (blob_of errand) state.under_way.second (size_of errand (link.last + 1)) port (change verdict) tied.order found (waits_not OnAsk (λ n is. absurd (cc)) port found) owed door mild.number mild.door (λ p. refl) (λ p none. ap (λ bytes. bytes ++ []) (mild.owed p none))))
+            (λ ask one is. new_asker (link.last + 1 == ask) (find_ask ask link.asks) (ask_of (link.last + 1) port.number (kind_of errand) (blob_of errand) state.under_way.second (size_of errand (link.last + 1))) one state.last_port (found_within port.number 0 state.last_port state.ports port tied.rising found) (tied.askers ask)
+            (sym (find-push ask 0 (ask_of (link.last + 1) port.number (kind_of errand) (blob_of errand) state.under_way.second (size_of errand (link.last + 1))) link.asks link.last tied.order (omega arith)) ∙ is))
             (λ n is. linked-begun link.state (state.under_way.last_job + 1) n is)
             (subst (λ ports. AreRaised state.under_way.confirmations new.last_job ports state.last_port) (twice verdict)
             (raised-later state.under_way.last_job new.last_job state.last_port state.last_port (jobs-for link.state state.under_way.last_job) (omega arith) (quiet verdict (λ job is. absurd (cc)))));

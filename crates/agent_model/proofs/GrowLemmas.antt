@@ -15,6 +15,7 @@ use Rattle.agent_model.specs.State.{UnderWay, is_linked_to}
 use Rattle.agent_model.specs.Verdicts.{Cause}
 use Rattle.agent_model.proofs.JobLemmas.{jobs-higher, jobs-push}
 use Rattle.agent_model.proofs.ServeLemmas.{IsServed, answered, asked, raised, refused}
+use Rattle.agent_model.proofs.SizeLemmas.{size_of}
 
 -- the child processes that have named themselves stay who they are, the jobs of confirmations go on rising, and no
 -- number falls
@@ -54,7 +55,7 @@ more-put None errand asker under_way = record {
   order = jobs-higher 0 under_way.confirmations under_way.last_job _ (jobs-for under_way.link.state under_way.last_job);
   jobs = jobs-for under_way.link.state under_way.last_job;
   asks = omega arith;
-  few = omega (arith, length-append under_way.link.asks (ask_of (under_way.link.last + 1) asker (kind_of errand) (blob_of errand) under_way.second ∷ []));
+  few = omega (arith, length-append under_way.link.asks (ask_of (under_way.link.last + 1) asker (kind_of errand) (blob_of errand) under_way.second (size_of errand (under_way.link.last + 1)) ∷ []));
 }
 
 -- a confirmation whose child process hasn't come is nobody's

@@ -235,13 +235,13 @@ module _ (low last : ℕ) (asks : List Ask) (rise : RiseTo low asks last) (ask :
       by_port : (ask ≢ other) × (find_ask other asks ≡ Some what)
           → IsOf what.asker asker f ports port → IsRight one port.chain
       by_port left (here old same was is) =
-          absurd (left.0 (sym (one_ask ports asks tied other ask what (ask_of ask asker kind found.blob found.put_at) old left.1 found.found same was)))
+          absurd (left.0 (sym (one_ask ports asks tied other ask what (ask_of ask asker kind found.blob found.put_at found.size) old left.1 found.found same was)))
       by_port left (apart differs was) =
           all other what one port (sym (find_verification-apart other ask verifications left.0) ∙ noted) left.1 was
 
   -- and they are noted
   pub noted-told : (verifications : List Verification) → AreNoted verifications asks
       → AreNoted (remove_verification ask verifications) (remove_ask ask asks)
-  noted-told verifications noted other asker blob put_at there =
+  noted-told verifications noted other asker blob put_at size there =
       let left = left_asks other _ there in
-      subst IsSome (sym (find_verification-apart other ask verifications left.0)) (noted other asker blob put_at left.1)
+      subst IsSome (sym (find_verification-apart other ask verifications left.0)) (noted other asker blob put_at size left.1)

@@ -148,7 +148,7 @@ judged-lost : (state : State) → IsRising 0 state.last_port state.ports → Are
     → IsJudged (lose state).state
 judged-lost state rising chains = record {
   verified = λ ask what one port noted there found. absurd (cc);
-  noted = λ ask asker blob put_at there. absurd (cc);
+  noted = λ ask asker blob put_at size there. absurd (cc);
   given = λ ask one noted. absurd (cc);
   chains = chains-keep state.ports (lose state).state.ports (keeps-lose state rising) chains;
 }

@@ -190,7 +190,7 @@ step-judged state moment event tied judged = record {
 pub first-judged : (settings : Settings) → IsJudged (first_state settings)
 first-judged settings = record {
   verified = λ ask what one port noted there found. absurd (cc);
-  noted = λ ask asker blob put_at there. absurd (cc);
+  noted = λ ask asker blob put_at size there. absurd (cc);
   given = λ ask one noted. absurd (cc);
   chains = λ number port found. absurd (cc);
 }

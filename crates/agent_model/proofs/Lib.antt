@@ -2,6 +2,7 @@ pub mod ObjectionLemmas
 pub mod PortsLemmas
 pub mod HeldLemmas
 pub mod JobLemmas
+pub mod SizeLemmas
 pub mod ServeLemmas
 pub mod MakeLemmas
 pub mod BothLemmas

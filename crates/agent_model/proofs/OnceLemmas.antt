@@ -40,6 +40,7 @@ use Rattle.agent_model.proofs.ServeLemmas.{IsServed, answered, asked, raised, re
 use Rattle.agent_model.proofs.TieLemmas.{ask_within}
 use Rattle.agent_model.proofs.TimeLemmas.{time_passes-brings}
 use Rattle.agent_model.proofs.NumberLemmas.{handle-grows, moment-grows}
+use Rattle.agent_model.proofs.SizeLemmas.{size_of}
 
 -- ---- what may still come of a number
 
@@ -200,7 +201,7 @@ module _ (ask : ℕ) where
   spent_served first_action answers asks rise (refused cause) =
       record { answered = omega (arith, answers); asked = omega (arith, asks) }
   spent_served {asker = asker} {under_way = under_way} first_action answers asks rise (asked errand free right) =
-      let put = spent_put under_way.link (with_ask errand asker.port under_way).link (ask_of (under_way.link.last + 1) asker.port (kind_of errand) (blob_of errand) under_way.second) rise refl refl refl in
+      let put = spent_put under_way.link (with_ask errand asker.port under_way).link (ask_of (under_way.link.last + 1) asker.port (kind_of errand) (blob_of errand) under_way.second (size_of errand (under_way.link.last + 1))) rise refl refl refl in
       record { answered = omega (arith, answers, put.0); asked = omega (arith, asks, put.1) }
   spent_served first_action answers asks rise (raised key signing free) =
       record { answered = omega (arith, answers); asked = omega (arith, asks) }
@@ -216,7 +217,7 @@ module _ (ask : ℕ) where
       record { answered = omega (arith, answers); asked = omega (arith, asks) }
   spent_granted {confirmation = confirmation} {under_way = under_way} first_action answers asks rise (allowed key may free) =
       let errand : Errand = Signs key (signing_of key confirmation) in
-      let put = spent_put under_way.link (with_ask errand confirmation.asker under_way).link (ask_of (under_way.link.last + 1) confirmation.asker (kind_of errand) (blob_of errand) under_way.second) rise refl refl refl in
+      let put = spent_put under_way.link (with_ask errand confirmation.asker under_way).link (ask_of (under_way.link.last + 1) confirmation.asker (kind_of errand) (blob_of errand) under_way.second (size_of errand (under_way.link.last + 1))) rise refl refl refl in
       record { answered = omega (arith, answers, put.0); asked = omega (arith, asks, put.1) }
 
   spent_makes : {event : Happening} {old : State} {outcome : Outcome} → Makes event old outcome

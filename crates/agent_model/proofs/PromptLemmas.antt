@@ -35,6 +35,7 @@ use Rattle.agent_model.proofs.OnTimeLemmas.{at_moment-moment, at_moment-on_time,
 use Rattle.agent_model.proofs.ServeLemmas.{IsServed, answered, asked, raised, refused, serve-ends}
 use Rattle.agent_model.proofs.TimeKeptLemmas.{keeps_time-handle}
 use Rattle.agent_model.proofs.TimeLemmas.{at_moment-keeps}
+use Rattle.agent_model.proofs.SizeLemmas.{size_of}
 
 -- what has just begun isn't late
 not_at_once : (limit : Option ℕ) (since second : ℕ) → GivesTime limit → since ≡ second
@@ -110,7 +111,7 @@ module _ (limits : TimeLimits) (second : ℕ) (time : GiveTime limits) where
   prompt-asked errand asker under_way prompt = record {
     limits = prompt.limits;
     second = prompt.second;
-    helper = asks-push limits.ask second under_way.link.asks (ask_of (under_way.link.last + 1) asker (kind_of errand) (blob_of errand) under_way.second) prompt.helper
+    helper = asks-push limits.ask second under_way.link.asks (ask_of (under_way.link.last + 1) asker (kind_of errand) (blob_of errand) under_way.second (size_of errand (under_way.link.last + 1))) prompt.helper
         (not_at_once limits.ask under_way.second second time.ask prompt.second);
     user = prompt.user;
   }

@@ -121,11 +121,12 @@ module _ (ports : List Port) (asks : List Ask) (tied : AreTied ports asks) where
           absurd (silent old a (ap (λ (p : Port). p.waits) (sym is) ∙ waits))
       by_port number a port (apart other was) waits =
           let waiting = tied.waits number a port was waits in
-          let differs : ask ≢ a = λ same. other (sym (one_asker ask a (ask_of ask asker kind there.blob there.put_at) (ask_of a number waiting.kind waiting.blob waiting.put_at) same there.found waiting.unanswered)) in
+          let differs : ask ≢ a = λ same. other (sym (one_asker ask a (ask_of ask asker kind there.blob there.put_at there.size) (ask_of a number waiting.kind waiting.blob waiting.put_at waiting.size) same there.found waiting.unanswered)) in
           record {
             kind = waiting.kind;
             blob = waiting.blob;
             put_at = waiting.put_at;
+            size = waiting.size;
             unanswered = find-remove a ask low asks last rise ∙ ap (λ b. cond b None (find_ask a asks)) (differ ask a differs) ∙ waiting.unanswered;
             owed = waiting.owed;
             door = waiting.door;
@@ -143,7 +144,7 @@ module _ (ports : List Port) (asks : List Ask) (tied : AreTied ports asks) where
         where
           by_other : ask ≢ a → find_ask a asks ≡ Some one → IsOf one.asker asker f ports port
               → port.waits ≡ OnAsk a
-          by_other differs was (here old same found is) = absurd (differs (sym (one_ask a ask one (ask_of ask asker kind there.blob there.put_at) old was there.found same found)))
+          by_other differs was (here old same found is) = absurd (differs (sym (one_ask a ask one (ask_of ask asker kind there.blob there.put_at there.size) old was there.found same found)))
           by_other differs was (apart other found) = tied.asks a one port was found
 
   -- a client that doesn't wait for an ask is told something, and waits for none
@@ -169,20 +170,20 @@ module _ (ports : List Port) (asks : List Ask) (tied : AreTied ports asks) where
       by_ask a one p was (apart other found) = tied.asks a one p was found
 
   -- a client that doesn't wait for an ask and is owed nothing puts one
-  pub tied-asked : (number low last : ℕ) (kind : AskKind) (blob : List ℕ) (now : ℕ)
+  pub tied-asked : (number low last : ℕ) (kind : AskKind) (blob : List ℕ) (now size : ℕ)
       (port : Port) (f : Port → Port)
       → RiseTo low asks last → find_port number ports ≡ Some port → ((a : ℕ) → port.waits ≢ OnAsk a)
       → port.owed ≡ [] → port.door ≡ Clients → ((p : Port) → (f p).number ≡ p.number)
       → ((p : Port) → (f p).door ≡ p.door) → ((p : Port) → (f p).waits ≡ OnAsk (last + 1))
       → ((p : Port) → p.owed ≡ [] → (f p).owed ≡ [])
-      → AreTied (change_port number f ports) (asks ++ ask_of (last + 1) number kind blob now ∷ [])
-  tied-asked number low last kind blob now port f rise there nothing owed door keeps doors waits owes = record {
+      → AreTied (change_port number f ports) (asks ++ ask_of (last + 1) number kind blob now size ∷ [])
+  tied-asked number low last kind blob now size port f rise there nothing owed door keeps doors waits owes = record {
     waits = λ n a p found is. by_port n a p (found_after n number f ports p keeps found) is;
     asks = λ a one p found at. by_ask a one p (sym (pushed a) ∙ found) (found_after one.asker number f ports p keeps at);
   }
     where
       new : Ask
-      new = ask_of (last + 1) number kind blob now
+      new = ask_of (last + 1) number kind blob now size
 
       pushed : (a : ℕ)
           → find_ask a (asks ++ new ∷ []) ≡ cond (last + 1 == a) (Some new) (find_ask a asks)
@@ -203,7 +204,8 @@ module _ (ports : List Port) (asks : List Ask) (tied : AreTied ports asks) where
             kind = kind;
             blob = blob;
             put_at = now;
-            unanswered = pushed a ∙ ap (λ b. cond b (Some new) (find_ask a asks)) test ∙ ap (λ m. Some (ask_of m number kind blob now)) equal ∙ ap (λ m. Some (ask_of a m kind blob now)) (sym same);
+            size = size;
+            unanswered = pushed a ∙ ap (λ b. cond b (Some new) (find_ask a asks)) test ∙ ap (λ m. Some (ask_of m number kind blob now size)) equal ∙ ap (λ m. Some (ask_of a m kind blob now size)) (sym same);
             owed =
                 ap (λ (q : Port). q.owed) is ∙ owes old (ap (λ (q : Port). q.owed) old_is ∙ owed);
             door =
@@ -216,6 +218,7 @@ module _ (ports : List Port) (asks : List Ask) (tied : AreTied ports asks) where
             kind = w.kind;
             blob = w.blob;
             put_at = w.put_at;
+            size = w.size;
             unanswered = pushed a ∙ ap (λ b. cond b (Some new) (find_ask a asks)) (differ (last + 1) a (λ same. omega (arith, same, within.1))) ∙ w.unanswered;
             owed = w.owed;
             door = w.door;

@@ -45,7 +45,7 @@ tied-fewer old new asks fewer tied = record {
   waits = λ number ask port found is.
       let was = fewer number port found in
       let waiting = tied.waits number ask was.0 was.1 (sym was.2 ∙ is) in
-      record { kind = waiting.kind; blob = waiting.blob; put_at = waiting.put_at; unanswered = waiting.unanswered; owed = was.3 waiting.owed; door = was.4 ∙ waiting.door };
+      record { kind = waiting.kind; blob = waiting.blob; put_at = waiting.put_at; size = waiting.size; unanswered = waiting.unanswered; owed = was.3 waiting.owed; door = was.4 ∙ waiting.door };
   asks = λ ask one port there found.
       let was = fewer one.asker port found in
       was.2 ∙ tied.asks ask one was.0 there was.1;

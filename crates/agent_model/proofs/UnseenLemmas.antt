@@ -7,7 +7,7 @@ use Rattle.std.proofs.lemmas.Slice.Eq.{bytes_eq-Decides}
 use Rattle.identity_table.specs.Identities.{HeldKey, find_identity, has_blob}
 use Rattle.agent_msg.specs.Requests.{Addition, ClientRequest, Signing, ListIdentities, Sign, Add, Remove, RemoveAll, Lock, Unlock, Bind, OtherExtension, Unsupported}
 use Rattle.constraint_rec.specs.declared.constraint.Constraint.{Constraint}
-use Rattle.dest_rule.specs.Rules.{denial, denial_under, visible}
+use Rattle.dest_rule.specs.Rules.{denial_under, visible}
 use Rattle.key_purposes.specs.Messages.{let_sign}
 use Rattle.agent_model.specs.Objections.{objection}
 use Rattle.agent_model.proofs.ObjectionLemmas.{both_permit}

@@ -87,7 +87,7 @@ module _ (port : Port) (confirmation : Confirmation) (state : State) (found : fi
       → (grant confirmation state).state.held ≡ record state.held { table = spent key.number state.held.table }
   used-grant key may room =
       let left : UnderWay = without_confirmation confirmation.job state.under_way in
-      let still : HasRoom left = record { few = room.few; numbers = room.numbers; jobs = room.jobs } in
+      let still : HasRoom left = record { place = room.place; numbers = room.numbers; jobs = room.jobs } in
       used-granted ∙ ap (λ (w : Work). after_use w.used state.held) (granted-put port.chain confirmation state.moment.wall state.held left key may still)
 
   unused_grant : {work : Work} (cause : Cause)

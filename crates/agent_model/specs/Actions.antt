@@ -18,11 +18,12 @@ pub data Purpose : Type 0 where
   ForSignature : (signing : Signing) → Purpose
   ForBinding : (binding : Binding) → Purpose
 
--- an ask that was put to the helper: its number, who asked, and what for
+-- an ask that was put to the helper: its number, who asked, what for, and how many bytes its body has
 pub record Asking : Type 0 where
   pub ask : ℕ
   pub port : ℕ
   pub purpose : Purpose
+  pub size : ℕ
 
 -- a binding whose signature the helper found right, and whose connection is open
 pub record Proving : Type 0 where

@@ -1,6 +1,8 @@
 -- Which requests for a signature are put to the helper or to the user, and why the others are
 -- refused; which grants still hold (ours).
 use Rattle.std.specs.Prelude.{◌≡◌, ◌≢◌, ◌⊎◌, ℕ, List, ◌-◌, ◌^◌, ◌<◌, ◌≤◌, length, Option, None, Some, IsSome, Bool, true, false}
+use Rattle.helper_link.specs.HelperLink.{asked_len}
+use Rattle.helper_link.specs.declared.ask.Ask.{Ask}
 use Rattle.helper_link.specs.declared.state.LinkState.TheVariants as states
 use Rattle.identity_table.specs.Identities.{HeldKey, find_identity, find_number}
 use Rattle.agent_msg.specs.Requests.{Signing}
@@ -27,10 +29,19 @@ pub record IsUsable (signing : Signing) (asks_user : Bool) (asker : Asker) (held
   pub permitted : IsJudgedAs None signing asker held
   pub confirm : permitted.key.confirm ≡ asks_user
 
--- one more ask may be put: fewer than 256 are unanswered, and neither the numbers of asks are spent
--- nor, where no helper is there or being started, those of jobs
+-- there is a place for one more ask: fewer than 256 are unanswered, whose bodies have less than 8 MiB together
+pub record HasPlace (asks : List Ask) : Type 0 where
+  pub few : length asks < 256
+  pub light : asked_len asks < 8388608
+
+-- the places are full
+abbrev pub IsFull : List Ask → Type 0
+IsFull asks = (256 ≤ length asks) ⊎ (8388608 ≤ asked_len asks)
+
+-- one more ask may be put: there is a place for it, and neither the numbers of asks are spent nor, where no helper is
+-- there or being started, those of jobs
 pub record HasRoom (under_way : UnderWay) : Type 0 where
-  pub few : length under_way.link.asks < 256
+  pub place : HasPlace under_way.link.asks
   pub numbers : under_way.link.last ≢ 2 ^ 64 - 1
   pub jobs : under_way.link.state ≡ states.None → under_way.last_job ≢ 2 ^ 64 - 1
 
@@ -51,12 +62,12 @@ IsRefusedFor (DestinationDenied denial) signing asker held under_way =
 IsRefusedFor TooManyConfirmations signing asker held under_way =
     IsUsable signing true asker held × (16 ≤ length under_way.confirmations)
 IsRefusedFor TooManyAsks signing asker held under_way =
-    IsUsable signing false asker held × (256 ≤ length under_way.link.asks)
+    IsUsable signing false asker held × IsFull under_way.link.asks
 IsRefusedFor AsksSpent signing asker held under_way =
-    IsUsable signing false asker held × (length under_way.link.asks < 256) × (under_way.link.last
+    IsUsable signing false asker held × HasPlace under_way.link.asks × (under_way.link.last
     ≡ 2 ^ 64 - 1)
 IsRefusedFor JobsSpent signing asker held under_way =
-    (IsUsable signing false asker held × (length under_way.link.asks < 256) × (under_way.link.last
+    (IsUsable signing false asker held × HasPlace under_way.link.asks × (under_way.link.last
     ≢ 2 ^ 64 - 1)
     × (under_way.link.state ≡ states.None) × (under_way.last_job ≡ 2 ^ 64 - 1))
     ⊎ (IsUsable signing true asker held × (length under_way.confirmations < 16)
@@ -80,12 +91,12 @@ IsRefusedAtGrant NoLongerAllowed chain confirmation wall held under_way =
     (key : HeldKey) → IsGrantable key chain confirmation.addition confirmation.message wall held → ⊥
 IsRefusedAtGrant TooManyAsks chain confirmation wall held under_way =
     (key : HeldKey) × IsGrantable key chain confirmation.addition confirmation.message wall held
-    × (256 ≤ length under_way.link.asks)
+    × IsFull under_way.link.asks
 IsRefusedAtGrant AsksSpent chain confirmation wall held under_way =
     (key : HeldKey) × IsGrantable key chain confirmation.addition confirmation.message wall held
-    × (length under_way.link.asks < 256) × (under_way.link.last ≡ 2 ^ 64 - 1)
+    × HasPlace under_way.link.asks × (under_way.link.last ≡ 2 ^ 64 - 1)
 IsRefusedAtGrant JobsSpent chain confirmation wall held under_way =
     (key : HeldKey) × IsGrantable key chain confirmation.addition confirmation.message wall held
-    × (length under_way.link.asks < 256) × (under_way.link.last ≢ 2 ^ 64 - 1)
+    × HasPlace under_way.link.asks × (under_way.link.last ≢ 2 ^ 64 - 1)
     × (under_way.link.state ≡ states.None) × (under_way.last_job ≡ 2 ^ 64 - 1)
 IsRefusedAtGrant other chain confirmation wall held under_way = ⊥

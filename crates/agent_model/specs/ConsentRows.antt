@@ -1,8 +1,9 @@
 -- Literal rows of the user's consent: what a child process that asks sends, byte by byte (ours).
-use Rattle.std.specs.Prelude.{ℕ, zero, suc, List, [], ◌∷◌, ◌++◌, codes, replicate}
+use Rattle.std.specs.Prelude.{ℕ, zero, suc, List, [], ◌∷◌, ◌++◌, codes, map, replicate}
 use Rattle.world_ports.specs.declared.Door.TheVariants.{Clients, Children}
 use Rattle.world_ports.specs.declared.Job.{Job}
 use Rattle.world_ports.specs.declared.JobKind.TheVariants as kinds
+use Rattle.helper_link.specs.declared.ask.Ask.{Ask}
 use Rattle.agent_model.specs.ChildRows.{hello, number, then, ticket}
 use Rattle.agent_model.specs.Events.{Happening, Ended, Heard, Joined, Started, Took}
 use Rattle.agent_model.specs.Rows.{add, add_asking, add_for_two_asking, add_once_asking, blob, key, sign}
@@ -84,6 +85,16 @@ unanswered zero =
     ∷ Joined Children ∷ Heard 2 (hello 1 9) ∷ [])
 unanswered (suc count) = then (unanswered count)
     (Joined Clients ∷ Heard (suc (suc (suc count))) (sign 18) ∷ Ended (suc (suc (suc count))) ∷ [])
+
+-- each unanswered ask has a body of so many bytes
+abbrev pub of_size : ℕ → State → State
+of_size size state = record state {
+  under_way = record state.under_way {
+    link = record state.under_way.link {
+      asks = map (λ (ask : Ask). record ask { size = size }) state.under_way.link.asks;
+    };
+  };
+}
 
 -- the state after this event, at these seconds of the monotonic and of the wall clock
 abbrev pub at_second : ℕ → ℕ → Happening → State → State

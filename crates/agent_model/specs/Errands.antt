@@ -5,8 +5,9 @@ use Rattle.world_ports.specs.declared.Job.{Job}
 use Rattle.world_ports.specs.declared.JobKind.{JobKind}
 use Rattle.world_ports.specs.declared.JobKind.TheVariants as kinds
 use Rattle.agent_msg.specs.Requests.{BindRequest, Signing}
+use Rattle.child_msg.specs.ChildFrames.{to_child_body}
 use Rattle.child_msg.specs.Messages.{ToChildMessage}
-use Rattle.helper_link.specs.HelperLink.{HelperLink, sign_request, submitted, verify_request}
+use Rattle.helper_link.specs.HelperLink.{HelperLink, is_full, sign_request, submitted, verify_request}
 use Rattle.helper_link.specs.declared.ask.AskKind.{AskKind}
 use Rattle.helper_link.specs.declared.ask.AskKind.TheVariants as asks
 use Rattle.helper_link.specs.declared.state.LinkState.{LinkState}
@@ -15,7 +16,7 @@ use Rattle.identity_table.specs.Identities.{HeldKey}
 use Rattle.dest_rule.specs.declared.binding.Binding.{Binding}
 use Rattle.confirm_desk.specs.Confirmations.{Held, raise}
 use Rattle.confirm_desk.specs.Prompt.{prompt_for}
-use Rattle.agent_model.specs.Limits.{last_number, most_asks, most_confirmations}
+use Rattle.agent_model.specs.Limits.{last_number, most_confirmations}
 use Rattle.agent_model.specs.State.{OnAsk, OnConfirmation, UnderWay, Verification}
 use Rattle.agent_model.specs.Verdicts.{Cause, TooManyAsks, AsksSpent, JobsSpent, TooManyConfirmations, Refuses, Awaits}
 use Rattle.agent_model.specs.Actions.{Asked, Asking, Purpose, ForSignature, ForBinding, Raised, Work, settles}
@@ -101,7 +102,7 @@ noted_verification (Signs key signing) number = []
 noted_verification (Verifies bind is_new) number =
     record { ask = number; binding = binding_of bind; is_new = is_new } ∷ []
 
--- by whether as many asks are unanswered as may be, and whether all numbers were given
+-- by whether the places for unanswered asks are full, and whether all numbers were given
 abbrev pub ask_fault_by : Bool → Bool → UnderWay → Option Cause
 ask_fault_by true spent under_way = Some TooManyAsks
 ask_fault_by false true under_way = Some AsksSpent
@@ -110,8 +111,7 @@ ask_fault_by false false under_way = helper_fault under_way.link.state under_way
 -- why nothing can be put to the helper
 abbrev pub ask_fault : UnderWay → Option Cause
 ask_fault under_way =
-    ask_fault_by (not (nat_lt (length under_way.link.asks) most_asks))
-    (under_way.link.last == last_number) under_way
+    ask_fault_by (is_full under_way.link.asks) (under_way.link.last == last_number) under_way
 
 -- what is under way once an ask is put
 abbrev pub with_ask : Errand → ℕ → UnderWay → UnderWay
@@ -125,7 +125,12 @@ with_ask errand asker under_way = record under_way {
 
 -- the ask of this number for it
 abbrev pub asking_of : Errand → ℕ → ℕ → Asking
-asking_of errand asker number = record { ask = number; port = asker; purpose = purpose_of errand }
+asking_of errand asker number = record {
+  ask = number;
+  port = asker;
+  purpose = purpose_of errand;
+  size = length (to_child_body (message_of errand number));
+}
 
 -- an ask is put, unless there is a cause not to
 abbrev pub put_unless : Option Cause → Errand → ℕ → UnderWay → Work

@@ -9,10 +9,6 @@ most_clients = 128
 abbrev pub most_unnamed : ℕ
 most_unnamed = 32
 
--- the most asks that are unanswered at once
-abbrev pub most_asks : ℕ
-most_asks = 256
-
 -- the most confirmations that the user is asked for at once
 abbrev pub most_confirmations : ℕ
 most_confirmations = 16

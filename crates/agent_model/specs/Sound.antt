@@ -56,7 +56,8 @@ AreJudged ports verifications asks = (ask : ℕ) (what : Ask) (one : Verificatio
 -- each ask to verify has its binding
 abbrev pub AreNoted : List Verification → List Ask → Type 0
 AreNoted verifications asks =
-    (ask asker : ℕ) (blob : List ℕ) (put_at : ℕ) → find_ask ask asks ≡ Some (ask_of ask asker kinds.Verifying blob put_at)
+    (ask asker : ℕ) (blob : List ℕ) (put_at size : ℕ)
+    → find_ask ask asks ≡ Some (ask_of ask asker kinds.Verifying blob put_at size)
     → IsSome (find_verification ask verifications)
 
 -- each binding's session is its own
@@ -84,7 +85,8 @@ pub record IsWaiting (number ask : ℕ) (port : Port) (asks : List Ask) : Type 0
   pub kind : AskKind
   pub blob : List ℕ
   pub put_at : ℕ
-  pub unanswered : find_ask ask asks ≡ Some (ask_of ask number kind blob put_at)
+  pub size : ℕ
+  pub unanswered : find_ask ask asks ≡ Some (ask_of ask number kind blob put_at size)
   pub owed : port.owed ≡ []
   pub door : port.door ≡ Clients
 

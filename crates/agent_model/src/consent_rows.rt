@@ -4,8 +4,9 @@
 
 ghost use Rattle.std.specs.Prelude.{◌≡◌, [], ◌∷◌, ◌++◌, codes, take, drop, length};
 ghost use Rattle.world_ports.specs.declared.Door.TheVariants.{Clients, Children};
+ghost use Rattle.helper_link.specs.HelperLink.{asked_len};
 ghost use Rattle.agent_model.specs.ChildRows.{hello, helper_job, refused, sign_frame, signature, signed, then, ticket};
-ghost use Rattle.agent_model.specs.ConsentRows.{asked, asked_beside, asking, asking_often, at_second, both_asked, both_asked_of_two, bound_to_host, confirm_job, denied, granted, no_frame, short_lived, unanswered};
+ghost use Rattle.agent_model.specs.ConsentRows.{asked, asked_beside, asking, asking_often, at_second, both_asked, both_asked_of_two, bound_to_host, confirm_job, denied, granted, no_frame, of_size, short_lived, unanswered};
 ghost use Rattle.agent_model.specs.Events.{Ended, Heard, Joined, StartFailed, Started, Took};
 ghost use Rattle.agent_model.specs.Rows.{add, add_asking, closed_by, failed, list, listed, lock, remove, remove_all, sign, unlock, with_event};
 ghost use Rattle.agent_model.specs.State.{owed_of, starts};
@@ -127,7 +128,7 @@ pub fn a_client_that_leaves_ends_its_confirmation()
 {}
 
 /// Sixteen confirmations may be waited for, and the seventeenth is refused until one ends; where
-/// 256 asks are unanswered, consent comes to nothing.
+/// 256 asks are unanswered, or the bodies of fewer have 8 MiB together, consent comes to nothing.
 pub fn confirmations_are_bounded()
     ensures last { owed_of 16 (asking_often 15) ≡ [] }
     ensures one_more { owed_of 17 (asking_often 16) ≡ failed }
@@ -136,4 +137,8 @@ pub fn confirmations_are_bounded()
         ∷ Heard 17 (sign 17) ∷ [])) ≡ [] }
     ensures asked { (with_event (Heard 2 (granted 1)) (unanswered 255)).under_way.link.last ≡ 256 }
     ensures unasked { owed_of 1 (with_event (Heard 2 (granted 1)) (unanswered 256)) ≡ failed }
+    ensures size { asked_len (unanswered 2).under_way.link.asks ≡ 382 }
+    ensures light { (with_event (Heard 2 (granted 1)) (of_size 8388607 (unanswered 1))).under_way.link.last ≡ 2 }
+    ensures heavy { owed_of 1 (with_event (Heard 2 (granted 1)) (of_size 8388608 (unanswered 1))) ≡ failed }
+    ensures heavy_together { owed_of 1 (with_event (Heard 2 (granted 1)) (of_size 4194304 (unanswered 2))) ≡ failed }
 {}

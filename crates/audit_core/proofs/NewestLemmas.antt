@@ -21,6 +21,7 @@ use Rattle.agent_model.specs.KeyStates.{KeyState}
 use Rattle.agent_model.specs.State.{State, UnderWay}
 use Rattle.agent_model.specs.Step.{asker_at, handle, step}
 use Rattle.agent_model.specs.Time.{at_moment, time_passes}
+use Rattle.agent_model.proofs.SizeLemmas.{size_of}
 use Rattle.agent_model.proofs.ActionLemmas.{Each, each-tells}
 use Rattle.agent_model.proofs.GrantLemmas.{IsGranted, allowed, disallowed, grant-ends, unasked}
 use Rattle.agent_model.proofs.MakeLemmas.{Makes, Quiet, alters, by_event, closes, first, goes_on, grants, links, loses, names, overs, same_asks, serves, stays, tells}
@@ -63,10 +64,10 @@ module _ (line : ℕ) where
       → PutsNewest under_way.link.last (Asked (asking_of errand asker (under_way.link.last + 1)) ∷ []) (with_ask errand asker under_way).link
   puts-asked errand asker under_way =
       puts-one under_way.link.last (Asked (asking_of errand asker (under_way.link.last + 1)) ∷ []) (with_ask errand asker under_way).link under_way.link.asks
-      (ask_of (under_way.link.last + 1) asker (kind_of errand) (blob_of errand) under_way.second) refl refl (by_errand errand)
+      (ask_of (under_way.link.last + 1) asker (kind_of errand) (blob_of errand) under_way.second (size_of errand (under_way.link.last + 1))) refl refl (by_errand errand)
     where
       by_errand : (e : Errand)
-          → puts_by line (Asked (asking_of e asker (under_way.link.last + 1)) ∷ []) ≡ put_if line (Some (ask_of (under_way.link.last + 1) asker (kind_of e) (blob_of e) under_way.second))
+          → puts_by line (Asked (asking_of e asker (under_way.link.last + 1)) ∷ []) ≡ put_if line (Some (ask_of (under_way.link.last + 1) asker (kind_of e) (blob_of e) under_way.second (size_of e (under_way.link.last + 1))))
       by_errand (Signs key signing) = refl
       by_errand (Verifies bind is_new) = refl
 

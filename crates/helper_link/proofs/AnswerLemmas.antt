@@ -9,7 +9,7 @@ use Rattle.child_msg.specs.Messages.{FromChildMessage, Hello, Signed, Refused, T
 use Rattle.child_msg.specs.Reading.{from_child_of}
 use Rattle.child_msg.specs.declared.fault.ChildFault.{ChildFault}
 use Rattle.helper_link.specs.Answered.{LeadTo, is_answered, kind_answered}
-use Rattle.helper_link.specs.HelperLink.{ask_of, second_of}
+use Rattle.helper_link.specs.HelperLink.{ask_of, asked_len, second_of}
 use Rattle.helper_link.specs.Settling.{Verdict, Settles, Stops, Settling, find_ask, number_of, remove_ask, same_kind, settled_ask, answer_found, message_verdict, reading_verdict, verdict, settling, settle, after_verdict, at_rest}
 use Rattle.helper_link.specs.Sound.{RiseTo}
 use Rattle.helper_link.specs.declared.answer.Answer.{Answer}
@@ -19,7 +19,7 @@ use Rattle.helper_link.specs.declared.ask.Ask.{Ask}
 use Rattle.helper_link.specs.declared.ask.AskKind.{AskKind}
 use Rattle.helper_link.specs.declared.ask.AskKind.TheVariants.{Signing, Verifying}
 use Rattle.helper_link.specs.declared.fault.LinkFault.TheVariants.{WrongKind}
-use Rattle.helper_link.proofs.OrderLemmas.{find-remove, remove_fewer, remove_rises}
+use Rattle.helper_link.proofs.OrderLemmas.{find-remove, remove_fewer, remove_lighter, remove_rises}
 
 -- ---- a frame
 
@@ -49,10 +49,11 @@ found_leads kind number answer (Some ask) asks is at = by_test (same_kind kind a
       record {
         blob = ask.blob;
         put_at = ask.put_at;
+        size = ask.size;
         found =
-            at ∙ ap (λ (n : ℕ). Some (ask_of n ask.asker ask.kind ask.blob ask.put_at))
+            at ∙ ap (λ (n : ℕ). Some (ask_of n ask.asker ask.kind ask.blob ask.put_at ask.size))
             (found_key number_of number asks ask at)
-            ∙ ap (λ (k : AskKind). Some (ask_of number ask.asker k ask.blob ask.put_at))
+            ∙ ap (λ (k : AskKind). Some (ask_of number ask.asker k ask.blob ask.put_at ask.size))
             (kinds_are kind ask.kind same ∙ is);
       },
       refl,
@@ -136,6 +137,14 @@ lead_fewer [] asks left leads =
 lead_fewer (one ∷ later) asks left leads =
     let later_fewer = lead_fewer later (remove_ask one.ask asks) left leads.1 in
     omega (arith, remove_fewer one.ask asks, later_fewer)
+
+-- and their bodies have no more bytes together
+pub lead_lighter : (settled : List Settled) (asks left : List Ask) → LeadTo settled asks left →
+    asked_len left ≤ asked_len asks
+lead_lighter [] asks left leads = let same : asked_len left ≡ asked_len asks = ap asked_len leads in omega arith
+lead_lighter (one ∷ later) asks left leads =
+    let later_lighter = lead_lighter later (remove_ask one.ask asks) left leads.1 in
+    omega (arith, remove_lighter one.ask asks, later_lighter)
 
 -- they stay in order
 pub lead_rise : (settled : List Settled) (asks left : List Ask) (below last : ℕ) →

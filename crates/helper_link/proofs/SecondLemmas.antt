@@ -1,7 +1,8 @@
 -- Which second no ask was put after: it stays so, whatever is called.
-use Rattle.std.proofs.Common.{ℕ, ◌≤◌, List, [], ◌∷◌, ◌++◌, ◌+◌, subst, sym, arith}
+use Rattle.std.proofs.Common.{ℕ, ◌≤◌, List, [], ◌∷◌, ◌++◌, ◌+◌, length, subst, sym, arith}
 use Rattle.lists.specs.Keyed.{has_key}
 use Rattle.lists.proofs.NeverFallLemmas.{up_to-higher, up_to-push, up_to-remove}
+use Rattle.child_msg.specs.ChildFrames.{to_child_body}
 use Rattle.child_msg.specs.Messages.{ToChildMessage}
 use Rattle.helper_link.specs.Answered.{LeadTo}
 use Rattle.helper_link.specs.HelperLink.{ArePutBy, HelperLink, ask_of, second_of, submitted}
@@ -18,16 +19,16 @@ pub put_by_later : (now later : ℕ) (asks : List Ask) → now ≤ later → Are
 put_by_later now later asks before put = up_to-higher second_of now later asks before put
 
 -- one ask more, put by then
-pub put_by_push : (now second number asker : ℕ) (kind : AskKind) (blob : List ℕ) (asks : List Ask) → second ≤ now →
-    ArePutBy now asks → ArePutBy now (asks ++ (ask_of number asker kind blob second ∷ []))
-put_by_push now second number asker kind blob asks before put =
-    up_to-push second_of now asks (ask_of number asker kind blob second) before put
+pub put_by_push : (now second number asker size : ℕ) (kind : AskKind) (blob : List ℕ) (asks : List Ask) → second ≤ now →
+    ArePutBy now asks → ArePutBy now (asks ++ (ask_of number asker kind blob second size ∷ []))
+put_by_push now second number asker size kind blob asks before put =
+    up_to-push second_of now asks (ask_of number asker kind blob second size) before put
 
 pub put_by_submitted : (kind : AskKind) (asker : ℕ) (blob : List ℕ) (request : ℕ → ToChildMessage) (now : ℕ)
     (link : HelperLink) → ArePutBy now link.asks →
     ArePutBy now (submitted kind asker blob request now link).asks
 put_by_submitted kind asker blob request now link put =
-    put_by_push now now (link.last + 1) asker kind blob link.asks (omega arith) put
+    put_by_push now now (link.last + 1) asker (length (to_child_body (request (link.last + 1)))) kind blob link.asks (omega arith) put
 
 -- one ask less
 pub put_by_remove : (now number : ℕ) (asks : List Ask) → ArePutBy now asks →

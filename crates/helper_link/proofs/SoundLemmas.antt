@@ -1,12 +1,15 @@
 -- Links stay sound.
-use Rattle.std.proofs.Common.{◌≡◌, ◌≢◌, ◌==◌, ℕ, ◌+◌, ◌-◌, ◌^◌, ◌<◌, nat_lt, Bool, true, false, List, [], ◌∷◌, ◌++◌, length, None, refl, ◌∙◌, arith, length-append}
+use Rattle.std.proofs.Common.{◌≡◌, ◌≢◌, ◌==◌, ℕ, ◌+◌, ◌-◌, ◌^◌, ◌<◌, ◌≤◌, nat_lt, nat_le, Bool, true, false, ◌||◌, List, [], ◌∷◌, ◌++◌, length, None, refl, ◌∙◌, arith, length-append}
 use Rattle.lists.proofs.NeverFallLemmas.{never_fall-push}
-use Rattle.wire_text.specs.Bounds.{longest_body}
+use Rattle.std.proofs.lemmas.Bool.Decides.{nat_tests}
+use Rattle.std.proofs.lemmas.List.Sums.{sum_by_push}
+use Rattle.wire_text.specs.Bounds.{longest_body, longest_to_child}
 use Rattle.wire_text.specs.Frames.{Front, Whole, Bad, More, front, split, StartsWithFrame}
 use Rattle.wire_text.proofs.FrontLemmas.{front-short, front_says}
 use Rattle.wire_text.proofs.SplitLemmas.{rest_has_no_frame}
+use Rattle.child_msg.specs.ChildFrames.{to_child_body}
 use Rattle.child_msg.specs.Messages.{ToChildMessage}
-use Rattle.helper_link.specs.HelperLink.{ArePutBy, HelperLink, IsLinked, ask_fault, ask_fault_by, ask_of, most_asks, second_of, submitted}
+use Rattle.helper_link.specs.HelperLink.{ArePutBy, HelperLink, IsLinked, ask_fault, ask_fault_by, ask_of, asked_len, most_asked, most_asks, second_of, submitted}
 use Rattle.helper_link.specs.Settling.{Verdict, Settles, Stops, Settling, verdict, settling, settle, after_verdict, at_rest}
 use Rattle.helper_link.specs.Sound.{IsQuiet, IsSound}
 use Rattle.helper_link.specs.Telling.{telling}
@@ -14,8 +17,8 @@ use Rattle.helper_link.specs.declared.ask.Ask.{Ask}
 use Rattle.helper_link.specs.declared.ask.AskKind.{AskKind}
 use Rattle.helper_link.specs.declared.state.LinkState.{LinkState}
 use Rattle.helper_link.specs.declared.state.LinkState.TheVariants as states
-use Rattle.helper_link.proofs.AnswerLemmas.{lead_fewer, lead_rise, lead_seconds, settling_leads}
-use Rattle.helper_link.proofs.OrderLemmas.{push_rises}
+use Rattle.helper_link.proofs.AnswerLemmas.{lead_fewer, lead_lighter, lead_rise, lead_seconds, settling_leads}
+use Rattle.helper_link.proofs.OrderLemmas.{push_rises, size as size_of}
 
 -- nothing is the front of a frame
 pub nothing_is_part : front longest_body [] ≡ More
@@ -23,12 +26,14 @@ nothing_is_part = front-short longest_body [] (omega arith)
 
 -- ---- asks
 
--- fewer than the most are unanswered where no fault stands against an ask
-few_if : (full spent : Bool) (count : ℕ) → nat_lt (most_asks - 1) count ≡ full →
-    ask_fault_by full spent ≡ None → count < most_asks
-few_if true spent count is none = absurd cc
-few_if false true count is none = absurd cc
-few_if false false count is none = grind arith
+-- fewer than the most are unanswered, and of fewer bytes, where no fault stands against an ask
+room_if : (many heavy spent : Bool) (asks : List Ask) → nat_lt (most_asks - 1) (length asks) ≡ many →
+    nat_le most_asked (asked_len asks) ≡ heavy → ask_fault_by (many || heavy) spent ≡ None →
+    (length asks < most_asks) × (asked_len asks < most_asked)
+room_if true heavy spent asks is weighs none = absurd cc
+room_if false true spent asks is weighs none = absurd cc
+room_if false false true asks is weighs none = absurd cc
+room_if false false false asks is weighs none = (grind (arith, nat_tests), grind (arith, nat_tests))
 
 -- more may be asked than nothing, as far as the link has come
 quiet_asked : (state : LinkState) (old new : HelperLink) → state ≢ states.None →
@@ -37,21 +42,27 @@ quiet_asked states.None old new some same quiet = absurd (some refl)
 quiet_asked (states.Starting job) old new some same quiet = same ∙ quiet
 quiet_asked (states.Linked port) old new some same quiet = tt
 
+-- one ask more, of a body that is no longer than may be
+asked_more : (asks : List Ask) (new : Ask) → asked_len asks < most_asked → new.size ≤ longest_to_child →
+    asked_len (asks ++ (new ∷ [])) < most_asked + longest_to_child
+asked_more asks new light short = omega (arith, sum_by_push size_of asks new, light, short)
+
 -- one ask more, where there is room, whatever is to be sent
-pub IsSound-push : (kind : AskKind) (asker : ℕ) (blob : List ℕ) (now : ℕ) (owed : List ℕ) (link : HelperLink) →
-    link.state ≢ states.None →
-    length link.asks < most_asks → ArePutBy now link.asks → IsSound link →
+pub IsSound-push : (kind : AskKind) (asker : ℕ) (blob : List ℕ) (now size : ℕ) (owed : List ℕ) (link : HelperLink) →
+    link.state ≢ states.None → length link.asks < most_asks → asked_len link.asks < most_asked →
+    size ≤ longest_to_child → ArePutBy now link.asks → IsSound link →
     IsSound (record link {
-      asks = link.asks ++ (ask_of (link.last + 1) asker kind blob now ∷ []);
+      asks = link.asks ++ (ask_of (link.last + 1) asker kind blob now size ∷ []);
       last = link.last + 1;
       owed = owed;
     })
-IsSound-push kind asker blob now owed link some room later sound = record {
+IsSound-push kind asker blob now size owed link some room light short later sound = record {
   quiet = quiet_asked link.state link _ some refl sound.quiet;
-  few = omega (arith, length-append link.asks (ask_of (link.last + 1) asker kind blob now ∷ []), room);
-  order = push_rises 0 link.asks link.last asker kind blob now sound.order;
+  few = omega (arith, length-append link.asks (ask_of (link.last + 1) asker kind blob now size ∷ []), room);
+  light = asked_more link.asks (ask_of (link.last + 1) asker kind blob now size) light short;
+  order = push_rises 0 link.asks link.last asker kind blob now size sound.order;
   seconds =
-      never_fall-push second_of 0 link.asks (ask_of (link.last + 1) asker kind blob now) (omega arith) later
+      never_fall-push second_of 0 link.asks (ask_of (link.last + 1) asker kind blob now size) (omega arith) later
       sound.seconds;
   part = sound.part;
 }
@@ -59,12 +70,14 @@ IsSound-push kind asker blob now owed link some room later sound = record {
 -- the same, by the fault
 pub IsSound-submitted : (kind : AskKind) (asker : ℕ) (blob : List ℕ) (request : ℕ → ToChildMessage) (now : ℕ)
     (link : HelperLink) → link.state ≢ states.None →
-    ask_fault link ≡ None → ArePutBy now link.asks → IsSound link →
+    ask_fault link ≡ None → length (to_child_body (request (link.last + 1))) ≤ longest_to_child →
+    ArePutBy now link.asks → IsSound link →
     IsSound (submitted kind asker blob request now link)
-IsSound-submitted kind asker blob request now link some fault later sound =
-    IsSound-push kind asker blob now (submitted kind asker blob request now link).owed link some
-    (few_if (nat_lt (most_asks - 1) (length link.asks)) (link.last == 2 ^ 64 - 1)
-    (length link.asks) refl fault) later sound
+IsSound-submitted kind asker blob request now link some fault short later sound =
+    let room = room_if (nat_lt (most_asks - 1) (length link.asks)) (nat_le most_asked (asked_len link.asks))
+    (link.last == 2 ^ 64 - 1) link.asks refl refl fault in
+    IsSound-push kind asker blob now (length (to_child_body (request (link.last + 1))))
+    (submitted kind asker blob request now link).owed link some room.0 room.1 short later sound
 
 -- ---- the helper's stream
 
@@ -116,9 +129,11 @@ IsSound-settled bytes asks heard link is sound left rest =
     let all = settling bytes link.asks in
     let leads = settling_leads bytes link.asks in
     let fewer = lead_fewer all.settled link.asks all.asks leads in
+    let lighter = lead_lighter all.settled link.asks all.asks leads in
     rw (← left, ← rest) record {
       quiet = quiet_linked link.state _ is;
       few = omega (arith, fewer, sound.few);
+      light = omega (arith, lighter, sound.light);
       order = lead_rise all.settled link.asks all.asks 0 link.last leads sound.order;
       seconds = lead_seconds all.settled link.asks all.asks 0 leads sound.seconds;
       part = settling_part bytes link.asks;
@@ -130,6 +145,7 @@ pub IsSound-cleared : (link : HelperLink) → IsLinked link.state →
 IsSound-cleared link is = record {
   quiet = quiet_linked link.state _ is;
   few = omega arith;
+  light = omega arith;
   order = omega arith;
   seconds = tt;
   part = nothing_is_part;
@@ -141,6 +157,7 @@ pub IsSound-gone : (link : HelperLink) →
 IsSound-gone link = record {
   quiet = (refl, refl, refl);
   few = omega arith;
+  light = omega arith;
   order = omega arith;
   seconds = tt;
   part = nothing_is_part;

@@ -16,11 +16,13 @@ kind_answered answer.Refused = Signing
 kind_answered answer.True = Verifying
 kind_answered answer.False = Verifying
 
--- the ask of this number is unanswered: this asker put it, for some key at some second, and it is of this kind
+-- the ask of this number is unanswered: this asker put it, for some key at some second with a body of some size, and
+-- it is of this kind
 pub record IsUnanswered (number asker : ℕ) (kind : AskKind) (asks : List Ask) : Type 0 where
   pub blob : List ℕ
   pub put_at : ℕ
-  pub found : find_ask number asks ≡ Some (ask_of number asker kind blob put_at)
+  pub size : ℕ
+  pub found : find_ask number asks ≡ Some (ask_of number asker kind blob put_at size)
 
 -- each answer is one to the unanswered ask of its number, goes to the asker of that ask, and is of
 -- its kind; the ask is unanswered no more, and the others are left

@@ -1,5 +1,6 @@
 -- The link to the helper process, as plain values (ours).
-use Rattle.std.specs.Prelude.{◌≡◌, ℕ, ◌+◌, ◌-◌, ◌^◌, ◌==◌, nat_lt, Bool, true, false, List, [], ◌∷◌, ◌++◌, Option, Some, None, drop, length, map, min, slice_get}
+use Rattle.std.specs.Prelude.{◌≡◌, ℕ, ◌+◌, ◌-◌, ◌^◌, ◌==◌, ◌||◌, nat_lt, nat_le, Bool, true, false, List, [], ◌∷◌, ◌++◌, Option, Some, None, drop, length, map, min, slice_get}
+use Rattle.std.specs.List.{sum_by}
 use Rattle.lists.specs.Keyed.{AreUpToBy}
 use Rattle.wire_text.specs.Wire.{string}
 use Rattle.child_msg.specs.ChildFrames.{to_child_body}
@@ -77,7 +78,19 @@ verify_request host_key signature session number =
 abbrev pub most_asks : ℕ
 most_asks = 256
 
--- by whether so many are unanswered, and whether each number was used
+-- with so many bytes in the bodies of the unanswered asks together, 8 MiB, no ask is put (ours)
+abbrev pub most_asked : ℕ
+most_asked = 8388608
+
+-- how many bytes the bodies of these asks have together
+abbrev pub asked_len : List Ask → ℕ
+asked_len asks = sum_by (λ (ask : Ask). ask.size) asks
+
+-- there is no place for one more
+abbrev pub is_full : List Ask → Bool
+is_full asks = nat_lt (most_asks - 1) (length asks) || nat_le most_asked (asked_len asks)
+
+-- by whether the places are full, and whether each number was used
 abbrev pub ask_fault_by : Bool → Bool → Option AskFault
 ask_fault_by true spent = Some Full
 ask_fault_by false true = Some NumbersSpent
@@ -85,7 +98,7 @@ ask_fault_by false false = None
 
 -- why no ask can be put
 abbrev pub ask_fault : HelperLink → Option AskFault
-ask_fault link = ask_fault_by (nat_lt (most_asks - 1) (length link.asks)) (link.last == 2 ^ 64 - 1)
+ask_fault link = ask_fault_by (is_full link.asks) (link.last == 2 ^ 64 - 1)
 
 -- an ask is refused with this fault: memory is wanting only where nothing else stands against it
 abbrev pub IsRefusedWith : Option AskFault → AskFault → Type 0
@@ -93,10 +106,10 @@ IsRefusedWith why Full = why ≡ Some Full
 IsRefusedWith why NumbersSpent = why ≡ Some NumbersSpent
 IsRefusedWith why Memory = why ≡ None
 
--- an ask of this number, for the key of this blob, put at this second
-abbrev pub ask_of : ℕ → ℕ → AskKind → List ℕ → ℕ → Ask
-ask_of number asker kind blob now =
-    record { number = number; asker = asker; kind = kind; blob = blob; put_at = now }
+-- an ask of this number, for the key of this blob, put at this second by a body of so many bytes
+abbrev pub ask_of : ℕ → ℕ → AskKind → List ℕ → ℕ → ℕ → Ask
+ask_of number asker kind blob now size =
+    record { number = number; asker = asker; kind = kind; blob = blob; put_at = now; size = size }
 
 -- the earlier of two seconds, where there is a second one
 abbrev pub earlier : ℕ → Option ℕ → ℕ
@@ -120,11 +133,11 @@ ArePutBy now asks = AreUpToBy second_of now asks
 abbrev pub newest : List Ask → Option Ask
 newest asks = slice_get asks (length asks - 1)
 
--- an ask for the key of this blob is put at this second: it has the next number, and the frame of its request is to be
--- sent
+-- an ask for the key of this blob is put at this second: it has the next number and its request's size, and the frame
+-- of that is to be sent
 abbrev pub submitted : AskKind → ℕ → List ℕ → (ℕ → ToChildMessage) → ℕ → HelperLink → HelperLink
 submitted kind asker blob request now link = record link {
-  asks = link.asks ++ (ask_of (link.last + 1) asker kind blob now ∷ []);
+  asks = link.asks ++ (ask_of (link.last + 1) asker kind blob now (length (to_child_body (request (link.last + 1)))) ∷ []);
   last = link.last + 1;
   owed = link.owed ++ string (to_child_body (request (link.last + 1)));
 }

@@ -1,9 +1,9 @@
 -- What holds of every link (ours).
-use Rattle.std.specs.Prelude.{◌≡◌, ℕ, ◌≤◌, List, [], length}
+use Rattle.std.specs.Prelude.{◌≡◌, ℕ, ◌+◌, ◌<◌, ◌≤◌, List, [], length}
 use Rattle.lists.specs.Keyed.{NeverFallBy, RiseBy}
-use Rattle.wire_text.specs.Bounds.{longest_body}
+use Rattle.wire_text.specs.Bounds.{longest_body, longest_to_child}
 use Rattle.wire_text.specs.Frames.{More, front}
-use Rattle.helper_link.specs.HelperLink.{HelperLink, most_asks, second_of}
+use Rattle.helper_link.specs.HelperLink.{HelperLink, asked_len, most_asked, most_asks, second_of}
 use Rattle.helper_link.specs.Settling.{number_of}
 use Rattle.helper_link.specs.declared.ask.Ask.{Ask}
 use Rattle.helper_link.specs.declared.state.LinkState.{LinkState}
@@ -26,6 +26,8 @@ pub record IsSound (link : HelperLink) : Type 0 where
   pub quiet : IsQuiet link.state link
   -- at most 256 asks are unanswered
   pub few : length link.asks ≤ most_asks
+  -- their bodies have fewer bytes together than 8 MiB and the longest body
+  pub light : asked_len link.asks < most_asked + longest_to_child
   -- their numbers rise from 1 at least to the last number at most
   pub order : RiseTo 0 link.asks link.last
   -- none was put before the one that stands before it

@@ -22,4 +22,6 @@ pub struct Ask {
     pub blob: Bytes,
     /// The second at which it was put, of the caller's monotonic clock.
     pub put_at: u64,
+    /// How many bytes the body that asks has: its number, kind and fields, without the frame's length.
+    pub size: usize,
 }

@@ -8,7 +8,7 @@ use std::alloc::{AllocError, AllocFailed};
 /// Why an ask was refused. The first that holds, in this order.
 #[derive(Clone, Copy, Debug, PartialEq, Eq)]
 pub enum AskFault {
-    /// 256 asks are unanswered.
+    /// 256 asks are unanswered, or their bodies have 8388608 bytes (8 MiB) or more together.
     Full,
     /// The number 2^64 - 1 was used.
     NumbersSpent,

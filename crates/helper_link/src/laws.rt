@@ -2,6 +2,8 @@
 
 ghost use Rattle.std.specs.Prelude.{◌≡◌, ◌≢◌, ◌+◌, ◌^◌, ◌<◌, ◌≤◌, ◌==◌, ℕ, All, IsSome, List, [], None, Some, length, if◌then◌else◌};
 ghost use Rattle.lists.specs.Keyed.{find_by};
+ghost use Rattle.wire_text.specs.Bounds.{longest_to_child};
+ghost use Rattle.child_msg.specs.ChildFrames.{to_child_body};
 ghost use Rattle.child_msg.specs.Messages.{ToChildMessage};
 ghost use Rattle.helper_link.specs.Answered.{LeadTo, is_answered};
 ghost use Rattle.helper_link.specs.Calls.{Call, RiseFrom, numbers_of};
@@ -22,8 +24,9 @@ pub fn cuts_of_the_stream_do_not_matter()
 
 /// What holds of the first link holds after each call that may be made: while no helper is there or
 /// being started, nothing is unanswered, to be sent or heard; at most 256 asks are unanswered, in
-/// the order of their numbers, in which the seconds at which they were put never fall; and what was
-/// heard is less than a frame.
+/// the order of their numbers, in which the seconds at which they were put never fall; their bodies
+/// have fewer than 8 MiB and 1 MiB together, as no body has more than 1 MiB; and what was heard is
+/// less than a frame.
 pub fn links_stay_sound()
     ensures first { IsSound no_link }
     ensures begun { (job : ℕ) (link : HelperLink) → IsSound link → IsSound (begun job link) }
@@ -31,6 +34,7 @@ pub fn links_stay_sound()
         → IsStarting link.state → IsSound link → IsSound (linked_to port link) }
     ensures submitted { (kind : AKind) (asker : ℕ) (blob : List ℕ) (request : ℕ → ToChildMessage) (now : ℕ)
         (link : HelperLink) → link.state ≢ states.None → ask_fault link ≡ None
+        → length (to_child_body (request (link.last + 1))) ≤ longest_to_child
         → ArePutBy now link.asks → IsSound link → IsSound (submitted kind asker blob request now link) }
     ensures sent { (count : ℕ) (link : HelperLink) → IsSound link → IsSound (sent count link) }
     ensures told { (piece : List ℕ) (link : HelperLink)
@@ -51,7 +55,8 @@ pub fn an_ask_has_a_number_of_its_own()
     ensures submitted { (number : ℕ) (kind : AKind) (asker : ℕ) (blob : List ℕ)
         (request : ℕ → ToChildMessage) (now : ℕ) (link : HelperLink) → IsSound link
         → find_ask number (submitted kind asker blob request now link).asks
-        ≡ (if link.last + 1 == number then Some (ask_of (link.last + 1) asker kind blob now)
+        ≡ (if link.last + 1 == number then Some (ask_of (link.last + 1) asker kind blob now
+        (length (to_child_body (request (link.last + 1)))))
         else find_ask number link.asks) }
 {}
 

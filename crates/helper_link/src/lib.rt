@@ -22,5 +22,5 @@ pub use laws::{
     the_oldest_ask_is_the_longest_unanswered,
 };
 pub use link::Link;
-pub use rows::the_oldest_unanswered_ask_counts;
+pub use rows::{bodies_fill_the_places, the_oldest_unanswered_ask_counts};
 pub use state::LinkState;

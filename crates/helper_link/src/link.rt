@@ -1,11 +1,12 @@
 //! The link itself: what was asked and is unanswered, and what is still to be sent.
 
-ghost use Rattle.std.specs.Prelude.{◌≡◌, ◌≢◌, ◌↔◌, ◌+◌, ◌-◌, ◌^◌, ◌<◌, ◌≤◌, IsTrue, IfOk, MatchResult, None, Some, OnOk, OnErr, length};
+ghost use Rattle.std.specs.Prelude.{◌≡◌, ◌≢◌, ◌↔◌, ◌+◌, ◌-◌, ◌^◌, ◌<◌, ◌≤◌, ◌++◌, IsTrue, IfOk, MatchResult, None, Some, OnOk, OnErr, length};
 ghost use Rattle.std.specs.Option.{option_copied};
 ghost use Rattle.wire_text.specs.Bounds.{longest_to_child};
-ghost use Rattle.child_msg.specs.ChildFrames.{to_child_length};
+ghost use Rattle.wire_text.specs.Wire.{string};
+ghost use Rattle.child_msg.specs.ChildFrames.{to_child_body, to_child_length};
 ghost use Rattle.child_msg.specs.Messages.{to_child_message};
-ghost use Rattle.helper_link.specs.HelperLink.{ArePutBy, ask_fault, begun, linked_to, lost, newest, no_link, oldest, sendable, sent, sign_request, submitted, verify_request, IsLinked, IsRefusedWith, IsStarting};
+ghost use Rattle.helper_link.specs.HelperLink.{ArePutBy, ask_fault, asked_len, begun, linked_to, lost, newest, no_link, oldest, sendable, sent, sign_request, submitted, verify_request, IsLinked, IsRefusedWith, IsStarting};
 ghost use Rattle.helper_link.specs.Sound.{IsSound};
 ghost use Rattle.helper_link.specs.Telling.{telling};
 
@@ -24,6 +25,9 @@ use std::mem;
 /// How many asks may be unanswered (ours).
 const MAX_ASKS: usize = 256;
 
+/// With so many bytes in the bodies of the unanswered asks together no ask is put (ours).
+const MAX_ASKED: usize = 8_388_608;
+
 /// The agent's side of the link to its helper process.
 ///
 /// Dropping it wipes what is to be sent.
@@ -31,6 +35,8 @@ const MAX_ASKS: usize = 256;
 pub struct Link {
     state: LinkState,
     asks: Vec<Ask>,
+    // How many bytes the bodies of `asks` have together.
+    asked: usize,
     last: u64,
     owed: ScrubBuf,
     heard: ScrubBuf,
@@ -38,7 +44,8 @@ pub struct Link {
 }
 
 impl Model for Link {
-    ghost use Rattle.helper_link.specs.HelperLink.{HelperLink};
+    ghost use Rattle.std.specs.Prelude.{◌≡◌};
+    ghost use Rattle.helper_link.specs.HelperLink.{HelperLink, asked_len};
     ghost use Rattle.helper_link.specs.Sound.{IsSound, link_of};
 
     ghost Value = { HelperLink };
@@ -47,7 +54,7 @@ impl Model for Link {
         link.heard.live link.faults };
 
     ghost invariant = { λ link. IsSound (link_of link.state link.asks.items link.last
-        link.owed.live link.heard.live link.faults) };
+        link.owed.live link.heard.live link.faults) × (link.asked ≡ asked_len link.asks.items) };
 }
 
 impl Link {
@@ -58,6 +65,7 @@ impl Link {
         Link {
             state: LinkState::None,
             asks: Vec::new(alloc),
+            asked: 0,
             last: 0,
             owed: ScrubBuf::new(alloc),
             heard: ScrubBuf::new(alloc),
@@ -200,8 +208,10 @@ impl Link {
     {
         self.heard.push_slice(piece)?;
         let alloc = *self.asks.allocator();
-        let Ok(end) = settle_stream(alloc, self.heard.live(), &mut self.asks) else {
+        let Ok(end) = settle_stream(alloc, self.heard.live(), &mut self.asks, &mut self.asked)
+        else {
             self.asks.clear();
+            self.asked = 0;
             self.heard.wipe();
             return Err(AllocError);
         };
@@ -224,6 +234,7 @@ impl Link {
         self.owed.wipe();
         self.heard.wipe();
         self.faults = self.faults.saturating_add(1);
+        self.asked = 0;
         let none = Vec::new(*self.asks.allocator());
         mem::replace(&mut self.asks, none)
     }
@@ -260,12 +271,13 @@ impl Link {
 impl Link {
     // The number of an ask that is put now.
     fn next_number(&self) -> Result<u64, AskFault>
-        ensures room { OnOk result ((length self.now.asks < 256) × (self.now.last < 2 ^ 64 - 1)) }
+        ensures room { OnOk result ((length self.now.asks < 256) × (asked_len self.now.asks < 8388608)
+            × (self.now.last < 2 ^ 64 - 1)) }
         ensures value { IfOk result (λ number. number ≡ self.now.last + 1) }
         ensures fault { MatchResult result (λ _. ask_fault self.now ≡ None)
             (λ fault. ask_fault self.now ≡ Some fault) }
     {
-        if self.asks.len() >= MAX_ASKS {
+        if self.asks.len() >= MAX_ASKS || self.asked >= MAX_ASKED {
             return Err(AskFault::Full);
         }
         self.last.checked_add(1).ok_or(AskFault::NumbersSpent)
@@ -283,6 +295,7 @@ impl Link {
         requires state { self.old.state ≢ LinkState.None }
         requires later { ArePutBy now self.old.asks }
         requires few { length self.old.asks < 256 }
+        requires light { asked_len self.old.asks < 8388608 }
         requires last { self.old.last < 2 ^ 64 - 1 }
         requires body { to_child_length (to_child_message request.now) ≤ longest_to_child }
         ensures ok { OnOk result (self.new
@@ -291,15 +304,31 @@ impl Link {
     {
         self.asks.reserve(1)?;
         let blob = Bytes::from_vec(Vec::from_slice(*self.asks.allocator(), blob)?);
-        write_to_child(&mut self.owed, request)?;
+        let size = append_request(&mut self.owed, request)?;
         self.last += 1;
+        self.asked += size;
         self.asks.push(Ask {
             number: self.last,
             asker,
             kind,
             blob,
             put_at: now,
+            size,
         })?;
         Ok(())
     }
+}
+
+// Appends the frame of a request to what is owed, and gives the length of its body.
+fn append_request(owed: &mut ScrubBuf, request: &ToChild<'_>) -> Result<usize, AllocError>
+    requires { to_child_length (to_child_message request.now) ≤ longest_to_child }
+    ensures live { OnOk result
+        (owed.new.live ≡ owed.old.live ++ string (to_child_body (to_child_message request.now))) }
+    ensures size { IfOk result (λ size. size ≡ length (to_child_body (to_child_message request.now))) }
+    ensures small { IfOk result (λ size. size ≤ longest_to_child) }
+    ensures err { OnErr result (owed.new ≡ owed.old) }
+{
+    let before = owed.live().len();
+    write_to_child(owed, request)?;
+    Ok(owed.live().len() - before - 4)
 }

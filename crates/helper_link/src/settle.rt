@@ -1,8 +1,9 @@
 //! The frames of the helper's stream, one after another.
 
-ghost use Rattle.std.specs.Prelude.{◌≡◌, ◌≤◌, IfOk, IfErr, MatchOption, MatchResult, OnErr, drop, length, vec_len};
+ghost use Rattle.std.specs.Prelude.{◌≡◌, ◌<◌, ◌≤◌, IfOk, IfErr, MatchOption, MatchResult, OnErr, drop, length, vec_len};
 ghost use Rattle.helper_link.specs.Settling.{Settles, Stops, answer_to, find_ask, number_of, settled_ask, settling, verdict};
-ghost use Rattle.std.specs.List.{position};
+ghost use Rattle.std.specs.List.{position, remove};
+ghost use Rattle.helper_link.specs.HelperLink.{asked_len};
 ghost use Rattle.lists.specs.Firsts.{IsFirst};
 ghost use Rattle.lists.specs.Keyed.{has_key};
 ghost use Rattle.helper_link.specs.Stream.{StopsAt, settled_to};
@@ -26,23 +27,27 @@ pub struct Settlement {
     pub fault: Option<LinkFault>,
 }
 
-/// Settles the whole frames of `stream` in order, up to the first faulty one.
+/// Settles the whole frames of `stream` in order, up to the first faulty one. `asked` is how many bytes the bodies of
+/// the unanswered asks have together, before and afterwards.
 pub fn settle_stream(
     alloc: Global,
     stream: &[u8],
     asks: &mut Vec<Ask>,
+    asked: &mut usize,
 ) -> Result<Settlement, AllocError>
+    requires { asked.old ≡ asked_len asks.old.items }
     ensures settled { IfOk result (λ end.
         settling stream.now asks.old.items ≡ settled_to stream.now end asks.new.items) }
     ensures read { IfOk result (λ end. end.read ≤ length stream.now) }
     ensures fewer { vec_len asks.new ≤ vec_len asks.old }
+    ensures sum { asked.new ≡ asked_len asks.new.items }
 {
     let mut settled = Vec::new(alloc);
     let mut at = 0;
     'frames: loop {
         match first(behind(stream, at), LONGEST_BODY) {
             Front::Whole { body, .. } => {
-                match settle_frame(alloc, body, asks) {
+                match settle_frame(alloc, body, asks, asked) {
                     Ok(one) => settled.push(one)?,
                     Err(Stop::Fault(fault)) => return Ok(faulty(stream, settled, fault)),
                     Err(Stop::Memory) => return Err(AllocError),
@@ -82,16 +87,23 @@ fn faulty(stream: &[u8], settled: Vec<Settled>, fault: LinkFault) -> Settlement
 
 // Settles the ask that a frame of this body answers.
 #[tactic(auto, unfolding(crate::specs::Settling::verdict))]
-fn settle_frame(alloc: Global, body: &[u8], asks: &mut Vec<Ask>) -> Result<Settled, Stop>
+fn settle_frame(
+    alloc: Global,
+    body: &[u8],
+    asks: &mut Vec<Ask>,
+    asked: &mut usize,
+) -> Result<Settled, Stop>
+    requires { asked.old ≡ asked_len asks.old.items }
     ensures settled { IfOk result (λ one.
         verdict body.now asks.old.items ≡ Settles one asks.new.items) }
     ensures stops { IfErr result (λ stop. StopsAt stop (verdict body.now asks.old.items)
         (asks.new.items ≡ asks.old.items)) }
     ensures fewer { vec_len asks.new ≤ vec_len asks.old }
+    ensures sum { asked.new ≡ asked_len asks.new.items }
 {
     match read_from_child(body) {
         Ok(FromChild::Signed { ask, signature }) => {
-            let asker = settle_ask(asks, ask, AskKind::Signing)?;
+            let asker = settle_ask(asks, asked, ask, AskKind::Signing)?;
             let signature = Bytes::from_vec(Vec::from_slice(alloc, signature)?);
             Ok(Settled {
                 ask,
@@ -101,17 +113,17 @@ fn settle_frame(alloc: Global, body: &[u8], asks: &mut Vec<Ask>) -> Result<Settl
         }
         Ok(FromChild::Refused { ask }) => Ok(Settled {
             ask,
-            asker: settle_ask(asks, ask, AskKind::Signing)?,
+            asker: settle_ask(asks, asked, ask, AskKind::Signing)?,
             answer: Answer::Refused,
         }),
         Ok(FromChild::True { ask }) => Ok(Settled {
             ask,
-            asker: settle_ask(asks, ask, AskKind::Verifying)?,
+            asker: settle_ask(asks, asked, ask, AskKind::Verifying)?,
             answer: Answer::True,
         }),
         Ok(FromChild::False { ask }) => Ok(Settled {
             ask,
-            asker: settle_ask(asks, ask, AskKind::Verifying)?,
+            asker: settle_ask(asks, asked, ask, AskKind::Verifying)?,
             answer: Answer::False,
         }),
         Ok(FromChild::Hello { .. }) => Err(Stop::Fault(LinkFault::BadFrame)),
@@ -123,7 +135,13 @@ fn settle_frame(alloc: Global, body: &[u8], asks: &mut Vec<Ask>) -> Result<Settl
 
 // Takes the ask of this number from those that are unanswered, and gives its asker.
 #[tactic(auto, using(lists::proofs::FirstLemmas::found_there, lists::proofs::FirstLemmas::removed_there))]
-fn settle_ask(asks: &mut Vec<Ask>, number: u64, kind: AskKind) -> Result<u64, LinkFault>
+fn settle_ask(
+    asks: &mut Vec<Ask>,
+    asked: &mut usize,
+    number: u64,
+    kind: AskKind,
+) -> Result<u64, LinkFault>
+    requires { asked.old ≡ asked_len asks.old.items }
     ensures settled { IfOk result (λ asker. (answer : AnAnswer)
         → answer_to kind number answer asks.old.items
         ≡ Settles (settled_ask number asker answer) asks.new.items) }
@@ -131,6 +149,7 @@ fn settle_ask(asks: &mut Vec<Ask>, number: u64, kind: AskKind) -> Result<u64, Li
         → answer_to kind number answer asks.old.items ≡ Stops fault) }
     ensures unchanged { OnErr result (asks.new.items ≡ asks.old.items) }
     ensures fewer { vec_len asks.new ≤ vec_len asks.old }
+    ensures sum { asked.new ≡ asked_len asks.new.items }
 {
     let Some(place) = place_of(asks, number) else {
         return Err(LinkFault::NotPending { ask: number });
@@ -139,8 +158,20 @@ fn settle_ask(asks: &mut Vec<Ask>, number: u64, kind: AskKind) -> Result<u64, Li
     if asks[place].kind != kind {
         return Err(LinkFault::WrongKind { ask: number });
     }
-    asks.remove(place);
+    take_out(asks, asked, place);
     Ok(asker)
+}
+
+// Takes out the ask at this place, and its size off the sum.
+fn take_out(asks: &mut Vec<Ask>, asked: &mut usize, place: usize)
+    requires place { place < vec_len asks.old }
+    requires sum { asked.old ≡ asked_len asks.old.items }
+    ensures left { asks.new.items ≡ remove asks.old.items place }
+    ensures fewer { vec_len asks.new ≤ vec_len asks.old }
+    ensures sum { asked.new ≡ asked_len asks.new.items }
+{
+    let ask = asks.remove(place);
+    *asked -= ask.size;
 }
 
 // Where the first ask of this number stands.

@@ -38,7 +38,7 @@ waiting_client = record (first_state (record { life = None; limits = record { as
   ports = record (new_port 1 Clients) { waits = OnAsk 1 } ∷ [];
   last_port = 1;
   under_way = record (nothing_under_way (record { ask = Some 60; confirmation = None })) {
-    link = record no_link { state = states.Starting 1; asks = ask_of 1 1 kinds.Signing [] 0 ∷ []; last = 1 };
+    link = record no_link { state = states.Starting 1; asks = ask_of 1 1 kinds.Signing [] 0 25 ∷ []; last = 1 };
     last_job = 1;
   };
 }

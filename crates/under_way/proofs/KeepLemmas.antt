@@ -149,18 +149,18 @@ keeps-dropped u linked kept = record {
 }
 
 -- an ask is put
-pub keeps-put : (u : UnderWay) (new : HelperLink) (kind : AskKind) (asker : ℕ) (blob : List ℕ) → IsKept u → new.state ≡ u.link.state →
-    new.asks ≡ u.link.asks ++ (ask_of (u.link.last + 1) asker kind blob u.second ∷ []) → IsKept (record u { link = new })
-keeps-put u new kind asker blob kept state asks =
+pub keeps-put : (u : UnderWay) (new : HelperLink) (kind : AskKind) (asker : ℕ) (blob : List ℕ) (size : ℕ) → IsKept u → new.state ≡ u.link.state →
+    new.asks ≡ u.link.asks ++ (ask_of (u.link.last + 1) asker kind blob u.second size ∷ []) → IsKept (record u { link = new })
+keeps-put u new kind asker blob size kept state asks =
     keeps-link u new kept state
-    (subst (ArePutBy u.second) (sym asks) (up_to-push put_second u.second u.link.asks (ask_of (u.link.last + 1) asker kind blob u.second) (omega arith) kept.asked))
+    (subst (ArePutBy u.second) (sym asks) (up_to-push put_second u.second u.link.asks (ask_of (u.link.last + 1) asker kind blob u.second size) (omega arith) kept.asked))
 
 -- or isn't
-pub keeps-asked : {N F : Type 0} (u : UnderWay) (link new : HelperLink) (kind : AskKind) (asker : ℕ) (blob : List ℕ) (answer : Result N F) → IsKept u → new.state ≡ u.link.state →
-    new.asks ≡ u.link.asks ++ (ask_of (u.link.last + 1) asker kind blob u.second ∷ []) → OnOk answer (link ≡ new) → OnErr answer (link ≡ u.link) → IsKept (record u { link = link })
-keeps-asked u link new kind asker blob (Ok number) kept state asks put unchanged =
-    subst (λ (l : HelperLink). IsKept (record u { link = l })) (sym put) (keeps-put u new kind asker blob kept state asks)
-keeps-asked u link new kind asker blob (Err fault) kept state asks put unchanged =
+pub keeps-asked : {N F : Type 0} (u : UnderWay) (link new : HelperLink) (kind : AskKind) (asker : ℕ) (blob : List ℕ) (size : ℕ) (answer : Result N F) → IsKept u → new.state ≡ u.link.state →
+    new.asks ≡ u.link.asks ++ (ask_of (u.link.last + 1) asker kind blob u.second size ∷ []) → OnOk answer (link ≡ new) → OnErr answer (link ≡ u.link) → IsKept (record u { link = link })
+keeps-asked u link new kind asker blob size (Ok number) kept state asks put unchanged =
+    subst (λ (l : HelperLink). IsKept (record u { link = l })) (sym put) (keeps-put u new kind asker blob size kept state asks)
+keeps-asked u link new kind asker blob size (Err fault) kept state asks put unchanged =
     subst (λ (l : HelperLink). IsKept (record u { link = l })) (sym unchanged) kept
 
 -- time passes

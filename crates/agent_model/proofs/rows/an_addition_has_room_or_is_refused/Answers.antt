@@ -1,4 +1,4 @@
-use Rattle.std.proofs.Common.{List, ap, ◌∙◌, ◌==◌, Bool, true, false}
+use Rattle.std.proofs.Common.{List, ap, ◌∙◌, ◌==◌, Bool, false}
 use Rattle.identity_table.specs.Identities.{HeldKey, identities_with}
 use Rattle.identity_table.proofs.KeptLemmas.{full_where_large, room_for_all}
 use Rattle.agent_model.specs.Dispatch.{add_by, add_fault, add_unless}

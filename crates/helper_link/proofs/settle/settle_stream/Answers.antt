@@ -9,6 +9,7 @@ pub frames-preserved : goal.frames-preserved
 frames-preserved c = record {
   within = frame_within c.args.stream.now c.behind.result.now c.frames.at (length c.in-Whole.body.now) c.behind.ensures c.frames.invariant.within c.in-Whole.ensures.exact;
   fewer = omega (arith, c.settle_frame.ensures.fewer);
+  sum = c.settle_frame.ensures.sum;
   whole = next_frame c.args.stream.now c.behind.result.now c.frames.at _ (length c.in-Whole.body.now) c.frames.asks.items c.settle_frame.new.asks.items c.frames.settled.items c.push.new.self.items c.in-Ok.one _ c.behind.ensures (omega arith) c.in-Whole.ensures.exact (ap (λ (body : List ℕ). verdict body c.frames.asks.items) (sym c.in-Whole.ensures.cut.0) ∙ c.in-Ok.ensures.settled) c.in_ok-push-in-Ok.ensures.items c.frames.invariant.whole;
 }
 

@@ -1,4 +1,5 @@
 use Rattle.std.proofs.Common.{◌≡◌, ◌≤◌, ◌-◌, drop, length, vec_len}
+use Rattle.helper_link.specs.HelperLink.{asked_len}
 use Rattle.helper_link.specs.Settling.{onto, settling}
 use Rattle.helper_link.proofs.settle.settle_stream.Given as goal
 
@@ -7,6 +8,7 @@ abbrev pub invariant-frames : goal.invariant-frames
 invariant-frames l = record {
   within : l.at ≤ length l.stream;
   fewer : vec_len l.asks ≤ vec_len l.fn.asks;
+  sum : l.asked ≡ asked_len l.asks.items;
   whole : onto l.settled.items (settling (drop l.at l.stream) l.asks.items) ≡ settling l.stream l.fn.asks.items;
 }
 

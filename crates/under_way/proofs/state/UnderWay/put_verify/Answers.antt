@@ -12,6 +12,6 @@ invariant_of-self c =
     let inside = c.self.inside in
     let u : State = under_way_of inside.link inside.to_start.items inside.started.items inside.verifications.items inside.desk inside.last_job (limits_of inside.limits) inside.second in (
       subst (λ (link : HelperLink). IsKept (record u { link = link })) (sym c.in-Ok.ensures.ok)
-          (keeps-put u (submitted asks.Verifying c.args.asker c.args.host_key.now (verify_request c.args.host_key.now c.args.signature.now c.args.session.now) inside.second inside.link) asks.Verifying c.args.asker c.args.host_key.now c.self.invariant.0 refl refl),
+          (keeps-put u (submitted asks.Verifying c.args.asker c.args.host_key.now (verify_request c.args.host_key.now c.args.signature.now c.args.session.now) inside.second inside.link) asks.Verifying c.args.asker c.args.host_key.now _ c.self.invariant.0 refl refl),
       c.self.invariant.1,
     )
