@@ -1,10 +1,11 @@
 //! A law of a record's log.
 
-ghost use Rattle.std.specs.Prelude.{◌≡◌, ℕ, List};
+ghost use Rattle.std.specs.Prelude.{◌≡◌, ℕ, List, []};
 ghost use Rattle.agent_model.specs.Runs.{history};
 ghost use Rattle.agent_model.specs.State.{Settings, first_state};
 ghost use Rattle.log_core.specs.Logs.{requests_of, sights_of};
 ghost use Rattle.log_core.specs.Lines.{whole_lines};
+ghost use Rattle.log_laws.specs.Ends.{TellsEnds};
 ghost use Rattle.log_laws.specs.Reads.{reads_of, told_of_client};
 ghost use Rattle.log_laws.specs.Sights.{run_sights, told_in};
 ghost use Rattle.replay_run.specs.Replay.{events_of, settings_of};
@@ -13,7 +14,9 @@ ghost use Rattle.replay_run.specs.Replay.{events_of, settings_of};
 /// record's log are those of that run. The laws of log_laws say of it that the requests which are seen to be put to the
 /// helper, and those about which the user is seen to be asked, are those of the run's history. And of each client the
 /// requests of the log are the requests for signatures that the history says were read of it, each once and in their
-/// order, with the second, the key and the message.
+/// order, with the second, the key and the message. And they stand in the order of the run's events: of each event those
+/// that it ends, with what came of them by the history (signed, refused, or left by the client), and behind them those that
+/// wait.
 pub fn a_log_is_of_the_records_run()
     ensures seen { (settings : Settings) (text : List ℕ) → sights_of settings text
         ≡ run_sights (first_state (settings_of settings text)) (events_of settings text) }
@@ -23,4 +26,7 @@ pub fn a_log_is_of_the_records_run()
         → told_of_client port (requests_of settings text)
         ≡ reads_of port (history (first_state (settings_of settings (whole_lines text)))
         (events_of settings (whole_lines text))) }
+    ensures came { (settings : Settings) (text : List ℕ)
+        → TellsEnds [] (first_state (settings_of settings (whole_lines text)))
+        (events_of settings (whole_lines text)) (requests_of settings text) }
 {}

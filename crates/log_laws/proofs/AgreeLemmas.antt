@@ -102,14 +102,14 @@ module _ (number : ℕ) (state : State) (moment : Moment) (event : Happening) (t
   outcome = step state moment event
 
   -- a port that is open afterwards wasn't closed
-  open-after : (port : Port) → find_port number outcome.state.ports ≡ Some port → is_among number outcome.closes ≡ false
+  pub open-after : (port : Port) → find_port number outcome.state.ports ≡ Some port → is_among number outcome.closes ≡ false
   open-after port found =
       ap (is_among number) (closes-closed state moment event tied.rising)
       ∙ without-kept number _ (numbers outcome.state.ports)
       (is_among-open number outcome.state.ports ∙ ap is_some found)
 
   -- and one that was open and isn't was
-  closed-after : (port : Port) → find_port number state.ports ≡ Some port → find_port number outcome.state.ports ≡ None
+  pub closed-after : (port : Port) → find_port number state.ports ≡ Some port → find_port number outcome.state.ports ≡ None
       → is_among number outcome.closes ≡ true
   closed-after port found gone =
       ap (is_among number) (closes-closed state moment event tied.rising)
@@ -127,7 +127,7 @@ module _ (number : ℕ) (state : State) (moment : Moment) (event : Happening) (t
     -- ---- what is seen of it
 
     -- what came of the event, by whether it closed the port
-    came-brings : (seen : Book) → IsAlone number seen.peers → (is : Bool) → is_among number outcome.closes ≡ is
+    pub came-brings : (seen : Book) → IsAlone number seen.peers → (is : Bool) → is_among number outcome.closes ≡ is
         → Brings number (if is then claim_of (at_port number seen) else []) (if is then None else at_port number seen) (see_all (came_of wall outcome) seen)
     came-brings seen seen_alone is among =
         let faults = outcome.state.under_way.link.faults in
@@ -205,7 +205,7 @@ module _ (number : ℕ) (state : State) (moment : Moment) (event : Happening) (t
     -- ---- an event of others
 
     -- the bytes that go over other sockets tell nothing of it
-    bytes-apart : (IsOf event number → is_of_client (find_port number state.ports) ≡ false)
+    pub bytes-apart : (IsOf event number → is_of_client (find_port number state.ports) ≡ false)
         → Brings number [] (at_port number book) (see_all (goes_over moment state event) book)
     bytes-apart silent = by_event_of event refl silent
       where

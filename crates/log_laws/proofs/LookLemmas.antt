@@ -61,12 +61,12 @@ pub data LooksAt (number wall : ℕ) (before : List Reading) (new : Peer) (outco
       → claim new ≡ before ++ filter_map (read_in wall number) outcome.actions → LooksAt number wall before new outcome
 
 -- nothing is to be taken of who waits, or has bytes to take
-due-waits : (on : Waits) (owed heard : List ℕ) → on ≢ Nothing → due_front on owed heard ≡ More
+pub due-waits : (on : Waits) (owed heard : List ℕ) → on ≢ Nothing → due_front on owed heard ≡ More
 due-waits Nothing owed heard some = absurd (some refl)
 due-waits (OnAsk ask) owed heard some = refl
 due-waits (OnConfirmation job) owed heard some = refl
 
-due-owed : (owed heard : List ℕ) → owed ≢ [] → due_front Nothing owed heard ≡ More
+pub due-owed : (owed heard : List ℕ) → owed ≢ [] → due_front Nothing owed heard ≡ More
 due-owed [] heard some = absurd (some refl)
 due-owed (byte ∷ owed) heard some = refl
 
@@ -176,7 +176,7 @@ module _ (number wall : ℕ) (state : State) (port : Port) (peer : Peer) (found 
 -- ---- the client takes
 
 -- the front of a frame isn't whole
-front-part : (part rest body : List ℕ) → IsBody longest_body body → part ++ rest ≡ string body → rest ≢ []
+pub front-part : (part rest body : List ℕ) → IsBody longest_body body → part ++ rest ≡ string body → rest ≢ []
     → front longest_body part ≡ More
 front-part part [] body fits is some = absurd (some refl)
 front-part part (byte ∷ rest) body fits is some = elim (cases_lt (length part) 4) [
@@ -197,13 +197,13 @@ pub record TakesAt (number wall : ℕ) (peer : Peer) (given : List ℕ) (outcome
   pub end : LooksAt number wall before (peers.answered wall given peer) outcome
 
 -- by the message that the bytes end
-answered-by : (wall : ℕ) (given : List ℕ) (peer : Peer) (next : Option (List ℕ × List ℕ))
+pub answered-by : (wall : ℕ) (given : List ℕ) (peer : Peer) (next : Option (List ℕ × List ℕ))
     → next_in (peer.given ++ given) ≡ next
     → peers.answered wall given peer ≡ answered_by wall (peer.given ++ given) next peer
 unfolding peers.answered
 answered-by wall given peer next is = ap (λ n. answered_by wall (peer.given ++ given) n peer) is
 
-ended-by : (given : List ℕ) (peer : Peer) (next : Option (List ℕ × List ℕ)) → next_in (peer.given ++ given) ≡ next
+pub ended-by : (given : List ℕ) (peer : Peer) (next : Option (List ℕ × List ℕ)) → next_in (peer.given ++ given) ≡ next
     → ended_by given peer ≡ option_map (ended_with peer) next
 unfolding ended_by
 ended-by given peer next is = ap (option_map (ended_with peer)) is

@@ -29,7 +29,7 @@ use Rattle.log_laws.specs.Reads.{Reading, read_in}
 
 module _ (number : ℕ) where
   -- the action is no request of this client
-  abbrev IsOther : Action → Type 0
+  abbrev pub IsOther : Action → Type 0
   IsOther (Requested requesting) = requesting.port ≢ number
   IsOther (Asked asking) = Unit {0}
   IsOther (Answered settled) = Unit {0}
@@ -78,7 +78,7 @@ module _ (number : ℕ) where
       let was = leads-found number 0 old.last_port old.ports port leads tied.rising found in
       was.2 ∙ foreign of was.0 was.1
 
-  served-others : {asker : Asker} {held : KeyState} {under_way : UnderWay} {served : Served}
+  pub served-others : {asker : Asker} {held : KeyState} {under_way : UnderWay} {served : Served}
       → IsServed asker held under_way served → Each IsOther served.work.actions
   served-others (answered reply kept greatest) = tt
   served-others (refused cause) = tt
@@ -116,7 +116,7 @@ module _ (number : ℕ) where
 
   -- ---- a moment
 
-  ends-others : {actions : List Action} → AreEnds actions → Each IsOther actions
+  pub ends-others : {actions : List Action} → AreEnds actions → Each IsOther actions
   ends-others no_more = tt
   ends-others (one_more action later loss ends) = (tt, ends-others ends)
   ends-others (one_more action later (end job) ends) = (tt, ends-others ends)

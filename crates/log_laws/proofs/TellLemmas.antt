@@ -28,7 +28,7 @@ use Rattle.log_laws.proofs.ShortLemmas.{always-brief}
 use Rattle.log_laws.proofs.SightsLemmas.{book-append, tells-open, told-append}
 
 -- the wall clock of a step is that of its moment
-step-wall : (state : State) (moment : Moment) (event : Happening) → (step state moment event).state.moment.wall ≡ moment.wall
+pub step-wall : (state : State) (moment : Moment) (event : Happening) → (step state moment event).state.moment.wall ≡ moment.wall
 step-wall state moment event =
     ap (λ (m : Moment). m.wall) ((keeps_time-handle event (at_moment moment state)).moment ∙ at_moment-moment moment state)
 
@@ -80,7 +80,7 @@ module _ (number : ℕ) where
         by_kind Tick is fit =
             by_others (foreign-unless (λ piece same. absurd (let it = sym is ∙ same in cc)) (λ count same. absurd (let it = sym is ∙ same in cc)))
 
-    told-event : Matches number (find_port number state.ports) (at_port number book) → Fits event state → IsTold
+    pub told-event : Matches number (find_port number state.ports) (at_port number book) → Fits event state → IsTold
     told-event match fits = by_match refl match
       where
         by_match : {what : Option Peer} → at_port number book ≡ what → Matches number (find_port number state.ports) what → IsTold

@@ -72,14 +72,14 @@ turn-then (gets new verdict waits owed door heard owes awaits some) client next 
 turn-then {may = may} {old = old} (leaves is) client next gone = subst (Turns may old) (sym (gone refl)) (leaves is)
 
 -- a request that waits for consent isn't left without an end or something to wait for
-granted-some : {chain : List Binding} {one : Confirmation} {wall : ℕ} {held : KeyState} {under_way : UnderWay} {work : Work}
+pub granted-some : {chain : List Binding} {one : Confirmation} {wall : ℕ} {held : KeyState} {under_way : UnderWay} {work : Work}
     → IsGranted chain one wall held under_way work → work.verdict ≢ Awaits Nothing
 granted-some (disallowed never) none = absurd (cc)
 granted-some (unasked cause key may fault) none = absurd (cc)
 granted-some (allowed key may free) none = absurd (cc)
 
 -- a child process that names itself is at a child process's port
-named-child : {event : Happening} {kind : JobKind} {job at : ℕ} {old : State} (other : Port) (new : Names event kind job at old)
+pub named-child : {event : Happening} {kind : JobKind} {job at : ℕ} {old : State} (other : Port) (new : Names event kind job at old)
     → find_port at old.ports ≡ Some other → other.door ≡ Children
 named-child other new found =
     let it : Some other ≡ Some new.port = sym found ∙ new.found in
@@ -187,7 +187,7 @@ module _ (number : ℕ) (may : Type 0) where
       (λ gone. leads-absent number next (leads-tell_each next (Refuses HelperLost) (askers asks) next same) gone)
 
   -- a child process's port isn't the client's
-  not_at : (at : ℕ) (ports : List Port) (port : Port) → Here ports port
+  pub not_at : (at : ℕ) (ports : List Port) (port : Port) → Here ports port
       → ((other : Port) → find_port at ports ≡ Some other → other.door ≡ Children) → number ≢ at
   not_at at ports port here child equal =
       let is : port.door ≡ Children = child port (ap (λ n. find_port n ports) (sym equal) ∙ here.0) in
@@ -219,7 +219,7 @@ module _ (number : ℕ) (may : Type 0) where
   gone-fault (Some fault) state gone =
       leads-absent number state.ports (follows-makes Tick state (loses state) record { last = refl; ports = same }).ports gone
 
-  turn-tells : (piece : List ℕ) (state : State) (port : Port) → IsTied state → Here state.ports port
+  pub turn-tells : (piece : List ℕ) (state : State) (port : Port) → IsTied state → Here state.ports port
       → Turned port (lose_if (telling piece state.under_way.link).fault (with_answers (telling piece state.under_way.link).link (answers_in (telling piece state.under_way.link).settled state) state)).state.ports
   turn-tells piece state port tied here =
       let said = telling piece state.under_way.link in

@@ -3,3 +3,5 @@ pub mod Sights
 pub mod Raised
 pub mod Puts
 pub mod Reads
+pub mod Ends
+pub mod EndRows

@@ -4,6 +4,7 @@ ghost use Rattle.std.specs.Prelude.{List};
 ghost use Rattle.world_ports.specs.declared.Moment.{Moment as AMoment};
 ghost use Rattle.agent_model.specs.Events.{Happening, Timed};
 ghost use Rattle.agent_model.specs.State.{Settings, State};
+ghost use Rattle.log_laws.specs.Ends.{TellsWhatCame};
 ghost use Rattle.log_laws.specs.Puts.{SeesPuts, SeesRaises};
 ghost use Rattle.log_laws.specs.Raised.{RaisesItsOwn};
 ghost use Rattle.log_laws.specs.Reads.{TellsWhatIsRead};
@@ -29,4 +30,12 @@ pub fn what_is_asked_is_seen()
 /// the order in which it read them, with the second of the reading, the key and the message.
 pub fn what_is_told_was_read()
     ensures { (settings : Settings) (events : List Timed) → TellsWhatIsRead settings events }
+{}
+
+/// The requests for signatures that are told in a run stand in the order of its events: of each event those that it
+/// ends, of each client and no other, and behind them those that wait in the end. Of each is told what came of it by the
+/// run's history: it was signed where the helper answered its ask with a signature and the client took that, refused
+/// where the client took another reply, and left where its port ended before.
+pub fn what_is_told_is_what_came()
+    ensures { (settings : Settings) (events : List Timed) → TellsWhatCame settings events }
 {}

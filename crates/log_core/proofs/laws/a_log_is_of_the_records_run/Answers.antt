@@ -1,5 +1,8 @@
-use Rattle.std.proofs.Common.{ap, ◌∙◌}
+use Rattle.std.proofs.Common.{[], ap, subst, sym, ◌∙◌}
+use Rattle.agent_model.specs.State.{first_state}
+use Rattle.log_laws.specs.Ends.{TellsEnds}
 use Rattle.log_laws.specs.Reads.{told_of_client}
+use Rattle.log_laws.proofs.FineLemmas.{tells-what-came}
 use Rattle.log_laws.proofs.TellLemmas.{tells-what-is-read}
 use Rattle.replay_run.specs.Replay.{events_of, settings_of}
 use Rattle.replay_run.proofs.FitLemmas.{schedule-fits}
@@ -18,3 +21,8 @@ returns-clause-read c = λ settings text port.
     ap (told_of_client port) (all_told settings text)
     ∙ tells-what-is-read (settings_of settings (whole_lines text)) (events_of settings (whole_lines text))
     (schedule-fits settings (whole_lines text)) port
+
+pub returns-clause-came : goal.returns-clause-came
+returns-clause-came c = λ settings text.
+    subst (TellsEnds [] (first_state (settings_of settings (whole_lines text))) (events_of settings (whole_lines text))) (sym (all_told settings text))
+    (tells-what-came (settings_of settings (whole_lines text)) (events_of settings (whole_lines text)) (schedule-fits settings (whole_lines text)))

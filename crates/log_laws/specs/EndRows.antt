@@ -1,0 +1,55 @@
+-- Literal histories of the client at port 1, and what its port is (ours).
+use Rattle.std.specs.Prelude.{ℕ, List, [], ◌∷◌, drop, Option, Some}
+use Rattle.world_ports.specs.declared.Door.TheVariants.{Clients}
+use Rattle.helper_link.specs.declared.answer.Answer.TheVariants as answer
+use Rattle.agent_model.specs.Actions.{Action, Answered, Asked, ForSignature, Requested}
+use Rattle.agent_model.specs.Runs.{Stamped}
+use Rattle.agent_model.specs.State.{OnAsk, Port, Waits, new_port}
+use Rattle.agent_model.specs.Verdicts.{Awaits}
+use Rattle.log_book.specs.Rows.{ask}
+use Rattle.log_laws.specs.Ends.{Request}
+use Rattle.log_laws.specs.Reads.{Reading}
+
+-- at this second of the wall clock
+abbrev pub at : ℕ → Action → Stamped
+at wall action = record { moment = record { mono = 0; wall = wall }; action = action }
+
+-- the body of a request for a signature of "m" by the key of the blob "k"
+abbrev pub body : List ℕ
+body = drop 4 ask
+
+-- the client at this port makes it
+abbrev pub asks : ℕ → Action
+asks port = Requested (record { port = port; body = body; verdict = Awaits (OnAsk 1) })
+
+-- it was made at this second, and this was done behind it
+abbrev pub asked : ℕ → List Action → Option Request
+asked wall later = Some (record { wall = wall; body = body; later = later })
+
+-- what is read of it then
+abbrev pub reading : ℕ → Reading
+reading wall = record { since = wall; blob = 107 ∷ []; message = 109 ∷ [] }
+
+-- an ask of this number is put for the client at this port
+abbrev pub puts : ℕ → ℕ → Action
+puts number port = Asked (record {
+  ask = number;
+  port = port;
+  purpose = ForSignature (record { blob = 107 ∷ []; message = 109 ∷ []; flags = 0 });
+})
+
+-- the helper signs, and it refuses
+abbrev pub signs : ℕ → Action
+signs number = Answered (record { ask = number; asker = 1; answer = answer.Signed (115 ∷ []) })
+
+-- the ask of this number
+abbrev pub refuses : ℕ → Action
+refuses number = Answered (record { ask = number; asker = 1; answer = answer.Refused })
+
+-- the client's port, which is owed these bytes
+abbrev pub owes : List ℕ → Port
+owes bytes = record (new_port 1 Clients) { owed = bytes }
+
+-- and which waits
+abbrev pub waits : Waits → Port
+waits on = record (new_port 1 Clients) { waits = on }
