@@ -91,6 +91,24 @@ has_control() {
     case $1 in *[[:cntrl:]]*) return 0 ;; *) return 1 ;; esac
 }
 
+lf='
+'
+# OPTION WORDS, with commas between them: puts what the programs call these purposes behind `purposes`, a
+# line each.
+name_purposes() {
+    ! has_control "$2" || die "$1: a word with control characters"
+    case ,$2, in *,,*) die "$1 '$2': a word is empty" ;; esac
+    rest=$2,
+    while [ -n "$rest" ]; do
+        word=${rest%%,*} rest=${rest#*,}
+        case $word in
+        all) word="login${lf}sshsig${lf}other" ;;
+        git | file) word=sshsig:$word ;;
+        esac
+        purposes=$purposes$word$lf
+    done
+}
+
 # FILE: what stands between its armour lines, read by this shell: no other program gets an open key.
 body() {
     while IFS= read -r line || [ -n "$line" ]; do

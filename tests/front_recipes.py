@@ -150,6 +150,25 @@ def a_host_gets_the_key_of_a_socket_that_stays(folder):
 
 
 @check
+def a_key_signs_commits_and_logs_in_nowhere(folder):
+    (lines,) = recipe("A key that signs commits and logs in nowhere")
+    signing_line, forge_line = lines.splitlines()
+    with Home(folder) as home, Hosts(folder, "forge") as hosts:
+        keys = [keygen(home.home / f".ssh/{name}") for name in ("signing", "forge")]
+        hosts.allow(*keys)
+        home.with_ours(signing_line)
+        home.with_ours(forge_line.replace("mortarleek add", f"mortarleek add -H {hosts.known}"))
+        home.with_ours("rm ~/.ssh/signing ~/.ssh/forge")
+        settings = ("user.name=me", "user.email=me@example.org", "gpg.format=ssh")
+        for key, signs, logs_in in zip(keys, (0, 128), (255, 0)):
+            git = " ".join(f"-c {setting}" for setting in (*settings, f"user.signingkey={key}.pub"))
+            place = folder / f"repository of {key.name}"
+            home.with_ours(f"git init -q '{place}'; git -C '{place}' {git} commit -q -S --allow-empty -m signed", signs)
+            only = f"ssh -F {hosts.config} -o IdentitiesOnly=yes -i {key}.pub"
+            assert ("in\n" == home.with_ours(f"{only} forge echo in", logs_in)) == (logs_in == 0)
+
+
+@check
 def a_host_signs_commits_with_a_key_and_logs_in_nowhere(folder):
     start, lines = recipe("A host that signs commits and logs in nowhere")
     with Home(folder) as home, Hosts(folder, "build", "two") as hosts:

@@ -28,6 +28,10 @@ def uses(count):
     return b"\xff" + string(b"uses-v00@example.com") + count.to_bytes(4, "big")
 
 
+def purposes(*words):
+    return b"\xff" + string(b"purposes-v00@example.com") + string(b"".join(string(word) for word in words))
+
+
 class Recorder:
     """An agent that answers additions as done and all else as refused, or as it is told, and keeps what it gets."""
 
@@ -58,11 +62,11 @@ class Recorder:
 class Relay:
     """A relay before the agent at a path, and a client of it."""
 
-    def __init__(self, folder, agent, count=2, name="relay"):
+    def __init__(self, folder, agent, count=2, name="relay", words=None):
         folder.chmod(0o700)
         self.path = folder / name
         self.process = subprocess.Popen(
-            [rig.there(PROGRAM), "-u", str(count), self.path, agent],
+            [rig.there(PROGRAM), *(words or ["-u", str(count)]), self.path, agent],
             stdin=subprocess.DEVNULL,
             stdout=subprocess.PIPE,
             stderr=subprocess.PIPE,
@@ -82,9 +86,9 @@ class Relay:
         return said
 
 
-def talk(folder, agent, sent, status, name, count=2):
+def talk(folder, agent, sent, status, name, count=2, words=None):
     """What the relay gives back to a client that sends these bytes and ends."""
-    relay = Relay(folder, agent, count, name)
+    relay = Relay(folder, agent, count, name, words)
     assert relay.line == "listens\n", relay.process.communicate()
     with relay.connect() as peer:
         peer.sendall(sent)
@@ -118,6 +122,43 @@ def what_is_passed_on(folder):
     heard = talk(folder, agent.path, b"".join(string(body) for body, _ in cases[:4]), 0, "many")
     assert agent.bodies == [becomes for _, becomes in cases[:4]] and heard == string(b"\6") * 2 + string(b"\5") * 2
     assert talk(folder, agent.path, b"", 0, "none") == b""
+
+
+@check
+def purposes_become_a_constraint(folder):
+    agent = Recorder(folder / "agent")
+    many = [word for number in range(64) for word in ("-p", f"sshsig:{number}")]
+    for place, (words, behind) in enumerate(
+        (
+            (["-p", "login"], purposes(b"login")),
+            (["-p", "sshsig:git", "-p", "other", "-p", "sshsig"], purposes(b"sshsig:git", b"other", b"sshsig")),
+            (["-p", "sshsig:my own", "-u", "7", "-p", "login"], uses(7) + purposes(b"sshsig:my own", b"login")),
+            (["-p", "sshsig:" + "n" * 248], purposes(b"sshsig:" + b"n" * 248)),
+            (many, purposes(*(b"sshsig:%d" % number for number in range(64)))),
+        )
+    ):
+        agent.bodies.clear()
+        talk(folder, agent.path, string(bytes([ADD]) + b"fields") + string(b"\x0b"), 0, f"p{place}", words=words)
+        assert agent.bodies == [bytes([LIMITED]) + b"fields" + behind, b"\x0b"], (words, agent.bodies)
+    key = keygen(folder / "key")
+    first = Relay(folder, agent.path, name="first", words=["-p", "login"])
+    run(["ssh-add", "-q", key], env=dict(os.environ, SSH_AUTH_SOCK=str(first.path)))
+    first.end(0)
+    body = agent.bodies[-1]
+    agent.bodies.clear()
+    assert talk(folder, agent.path, string(body), 4, "again", words=["-p", "other"]) == b"" and agent.bodies == []
+    assert talk(folder, agent.path, string(body), 0, "beside") == string(b"\6") and agent.bodies == [body + uses(2)]
+    for words, why in (
+        (["-p", "git"], "each is login"),
+        (["-p", "sshsig:"], "each is login"),
+        (["-p", ""], "each is login"),
+        (["-u", "2", "-p", "login", "-p", "other", "-p", "login"], "twice"),
+        (["-p", "sshsig:" + "n" * 249], "255 bytes"),
+        ([*many, "-p", "login"], "64"),
+    ):
+        relay = Relay(folder, agent.path, name="none", words=words)
+        said = relay.end(11)
+        assert relay.line == "" and "the purposes are refused" in said and why in said, said
 
 
 @check

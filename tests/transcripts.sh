@@ -3,7 +3,7 @@
 # `make demo` prints.
 set -u
 cd "$(dirname "$0")/.." || exit 2
-make -s bin/agent_prog bin/audit_prog bin/log_prog bin/filter_proxy > /dev/null || exit 1
+make -s bin/agent_prog bin/mortarleek_signer bin/add_tool bin/audit_prog bin/log_prog bin/filter_proxy > /dev/null || exit 1
 console() { sed -n '/^```console$/,/^```$/p' "$1" | grep -v '^```'; }
 for page in examples/*.md; do
     name=$(basename "$page" .md)

@@ -21,8 +21,9 @@ _mortarleek_add() {
     -E:*) _mortarleek_offer -W 'md5 sha256' -- "$2" ;;
     -t:*) _mortarleek_offer -W '30m 1h 8h 1d' -- "$2" ;;
     -u:*) _mortarleek_offer -W '1 3' -- "$2" ;;
+    --for:*) _mortarleek_offer -W 'login git login,git file sshsig other all' -- "$2" ;;
     -h:*) _mortarleek_offer -A hostname -- "$2" ;;
-    *:-*) _mortarleek_offer -W '--any-agent -C -c -D -d -E -H -h -k -L -l -N -q -T -t -u -v -X -x' -- "$2" ;;
+    *:-*) _mortarleek_offer -W '--any-agent --for -C -c -D -d -E -H -h -k -L -l -N -q -T -t -u -v -X -x' -- "$2" ;;
     *) _mortarleek_offer -f -- "$2" ;;
     esac
 }

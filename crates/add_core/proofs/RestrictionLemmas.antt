@@ -32,6 +32,7 @@ refuses_on (Fault (why.FileTooLong place)) part whole on h = on (why.FileTooLong
 refuses_on (Fault (why.Body fault)) part whole on h = on (why.Body fault) h
 refuses_on (Fault (why.Public fault)) part whole on h = on (why.Public fault) h
 refuses_on (Fault (why.Destination fault)) part whole on h = on (why.Destination fault) h
+refuses_on (Fault (why.Purpose fault)) part whole on h = on (why.Purpose fault) h
 refuses_on (Fault why.EmptyPassphrase) part whole on h = on why.EmptyPassphrase h
 refuses_on (Fault why.LongPassphrase) part whole on h = on why.LongPassphrase h
 refuses_on (Fault why.TooLong) part whole on h = on why.TooLong h

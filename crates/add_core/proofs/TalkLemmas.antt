@@ -121,6 +121,8 @@ list_ends (Err (Fault (why.Public fault))) step p0 p1 o0 o1 e0 m e1 runs ends =
     list_done (Failed (why.Public fault)) step p0 p1 o0 o1 e0 m e1 (fault_status (why.Public fault) step runs.0.fault_is) runs.0.made runs.1 ends
 list_ends (Err (Fault (why.Destination fault))) step p0 p1 o0 o1 e0 m e1 runs ends =
     list_done (Failed (why.Destination fault)) step p0 p1 o0 o1 e0 m e1 (fault_status (why.Destination fault) step runs.0.fault_is) runs.0.made runs.1 ends
+list_ends (Err (Fault (why.Purpose fault))) step p0 p1 o0 o1 e0 m e1 runs ends =
+    list_done (Failed (why.Purpose fault)) step p0 p1 o0 o1 e0 m e1 (fault_status (why.Purpose fault) step runs.0.fault_is) runs.0.made runs.1 ends
 list_ends (Err (Fault why.EmptyPassphrase)) step p0 p1 o0 o1 e0 m e1 runs ends =
     list_done (Failed why.EmptyPassphrase) step p0 p1 o0 o1 e0 m e1 (fault_status why.EmptyPassphrase step runs.0.fault_is) runs.0.made runs.1 ends
 list_ends (Err (Fault why.LongPassphrase)) step p0 p1 o0 o1 e0 m e1 runs ends =
@@ -159,6 +161,8 @@ lines_ends (Err (Fault (why.Public fault))) step p0 p1 o0 o1 e0 m e1 runs later 
     lines_done (Failed (why.Public fault)) step p0 p1 o0 o1 e0 m e1 (fault_status (why.Public fault) step runs.0.fault_is) runs.0.made runs.1 later ends
 lines_ends (Err (Fault (why.Destination fault))) step p0 p1 o0 o1 e0 m e1 runs later ends =
     lines_done (Failed (why.Destination fault)) step p0 p1 o0 o1 e0 m e1 (fault_status (why.Destination fault) step runs.0.fault_is) runs.0.made runs.1 later ends
+lines_ends (Err (Fault (why.Purpose fault))) step p0 p1 o0 o1 e0 m e1 runs later ends =
+    lines_done (Failed (why.Purpose fault)) step p0 p1 o0 o1 e0 m e1 (fault_status (why.Purpose fault) step runs.0.fault_is) runs.0.made runs.1 later ends
 lines_ends (Err (Fault why.EmptyPassphrase)) step p0 p1 o0 o1 e0 m e1 runs later ends =
     lines_done (Failed why.EmptyPassphrase) step p0 p1 o0 o1 e0 m e1 (fault_status why.EmptyPassphrase step runs.0.fault_is) runs.0.made runs.1 later ends
 lines_ends (Err (Fault why.LongPassphrase)) step p0 p1 o0 o1 e0 m e1 runs later ends =

@@ -8,6 +8,7 @@ ghost use Rattle.add_core.specs.declared.fault.Stop.TheVariants.{Fault as Faulty
 ghost use Rattle.add_core.specs.Steps.{stop_of};
 
 use add_rules::DestFault;
+use add_words::PurposeFault;
 use key_file::{KeyFileFault, PubFault};
 use std::alloc::{AllocError, AllocFailed};
 use world_ports::Fault;
@@ -28,6 +29,8 @@ pub enum AddFault {
     Public(PubFault),
     /// A destination is none.
     Destination(DestFault),
+    /// What signatures are to be for is no purpose.
+    Purpose(PurposeFault),
     /// The passphrase has no byte.
     EmptyPassphrase,
     /// The passphrase has more than 1024 bytes.

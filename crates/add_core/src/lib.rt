@@ -15,6 +15,7 @@ mod sending;
 mod tool;
 
 pub use add_rules::DestFault;
+pub use add_words::PurposeFault;
 pub use fault::{AddFault, AddStatus};
 pub use tool::add_main;
 pub use world_ports::read_life;

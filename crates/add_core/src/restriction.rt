@@ -12,9 +12,9 @@ ghost use Rattle.constraint_rec.specs.Writing.{MeetsRules};
 use crate::fault::{AddFault, Stop};
 use crate::files::read_text;
 use add_rules::destination_rules;
-use add_words::AddWords;
+use add_words::{AddWords, PurposeFault, named_purposes};
 use constraint_rec::Terms;
-use plain_lists::{Bytes, PlainList};
+use plain_lists::Bytes;
 use std::alloc::Global;
 use world_ports::Files;
 
@@ -50,15 +50,20 @@ fn terms_by(alloc: Global, words: &AddWords<'_>, hosts: &[Bytes]) -> Result<Term
     ensures writable { IfOk result (λ terms. MeetsRules terms) }
     ensures own { IsOwn result }
 {
-    match destination_rules(alloc, hosts, &words.destinations)? {
-        Ok(rules) => Ok(Terms {
+    let rules = match destination_rules(alloc, hosts, &words.destinations)? {
+        Ok(rules) => rules,
+        Err(fault) => return Err(Stop::Fault(AddFault::Destination(fault))),
+    };
+    match named_purposes(alloc, &words.purposes) {
+        Ok(purposes) => Ok(Terms {
             life: words.life,
             confirm: words.confirm,
             uses: words.uses,
             rules,
-            purposes: PlainList::new(alloc),
+            purposes,
         }),
-        Err(fault) => Err(Stop::Fault(AddFault::Destination(fault))),
+        Err(PurposeFault::Memory) => Err(Stop::Memory),
+        Err(fault) => Err(Stop::Fault(AddFault::Purpose(fault))),
     }
 }
 

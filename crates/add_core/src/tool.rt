@@ -100,6 +100,7 @@ fn last_line(status: AddStatus) -> &'static [u8]
         AddFault::Body(_) => b"ssh-add: body\n",
         AddFault::Public(_) => b"ssh-add: public\n",
         AddFault::Destination(_) => b"ssh-add: destination\n",
+        AddFault::Purpose(_) => b"ssh-add: purpose\n",
         AddFault::EmptyPassphrase => b"ssh-add: emptypassphrase\n",
         AddFault::LongPassphrase => b"ssh-add: longpassphrase\n",
         AddFault::TooLong => b"ssh-add: toolong\n",

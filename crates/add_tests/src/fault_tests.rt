@@ -2,7 +2,7 @@
 
 use crate::fixtures::{NO_IDENTITIES, SUCCESS};
 use crate::play::{Failing, NOTHING, ends, play, play_words, prints, sends, words};
-use add_core::{AddFault, AddStatus, DestFault, add_main};
+use add_core::{AddFault, AddStatus, DestFault, PurposeFault, add_main};
 use key_file::{KeyFileFault, PubFault};
 use std::alloc::Global;
 use std::process::Abort;
@@ -10,7 +10,7 @@ use std::test::*;
 use world_ports::{MapFiles, MemPeer, SliceSource, VecSink};
 
 // Words, the agent's bytes, the fault, and all that stands on the errors. Nothing is sent in these.
-const UNSENT: [(&str, AddFault, &str); 21] = [
+const UNSENT: [(&str, AddFault, &str); 29] = [
     ("-l -L", AddFault::Usage, "ssh-add: usage\n"),
     ("-u 0 f1", AddFault::Usage, "ssh-add: usage\n"),
     ("-u 03 f1", AddFault::Usage, "ssh-add: usage\n"),
@@ -18,6 +18,34 @@ const UNSENT: [(&str, AddFault, &str); 21] = [
     ("-u 4294967296 f1", AddFault::Usage, "ssh-add: usage\n"),
     ("-u 3 -u 3 f1", AddFault::Usage, "ssh-add: usage\n"),
     ("-l -u 3", AddFault::Usage, "ssh-add: usage\n"),
+    ("-l -p login", AddFault::Usage, "ssh-add: usage\n"),
+    ("-d -p login f1.pub", AddFault::Usage, "ssh-add: usage\n"),
+    ("f1 -p", AddFault::Usage, "ssh-add: usage\n"),
+    (
+        "-p git f1",
+        AddFault::Purpose(PurposeFault::Unknown),
+        "ssh-add: purpose\n",
+    ),
+    (
+        "-p sshsig: f1",
+        AddFault::Purpose(PurposeFault::Unknown),
+        "ssh-add: purpose\n",
+    ),
+    (
+        "-p login -p other -p login -p x f1",
+        AddFault::Purpose(PurposeFault::Twice),
+        "ssh-add: purpose\n",
+    ),
+    (
+        "-H kh -h bad.example.org -p git f1",
+        AddFault::Destination(DestFault::NoKeys),
+        "ssh-add: destination\n",
+    ),
+    (
+        "-p git -H missing f1",
+        AddFault::File { place: 0 },
+        "ssh-add: file\n",
+    ),
     (
         "-h scylla.example.org f1",
         AddFault::Usage,

@@ -1,8 +1,8 @@
 //! Tests of keys that are added, of lists, of lifetimes, and of replies that come in pieces.
 
 use crate::fixtures::{
-    ADD_ONE, ADD_ONE_RESTRICTED, ADD_ONE_THRICE, ENTRY, FINGERPRINT_LINE, NO_IDENTITIES, PUBLIC,
-    SUCCESS,
+    ADD_ONE, ADD_ONE_FOR, ADD_ONE_RESTRICTED, ADD_ONE_THRICE, ENTRY, FINGERPRINT_LINE,
+    NO_IDENTITIES, PUBLIC, SUCCESS,
 };
 use crate::play::{NOTHING, ends, play, play_words, prints, sends, words};
 use add_core::{AddFault, AddStatus, read_life};
@@ -35,6 +35,25 @@ fn a_key_is_added_for_three_uses(rt: HostRuntime) -> Result<(), Fail> {
         b"",
         b"Identity added: f1 (one)\n",
         "three uses",
+    );
+    Ok(())
+}
+
+#[test]
+fn a_key_is_added_for_two_purposes(rt: HostRuntime) -> Result<(), Fail> {
+    let alloc = rt.alloc();
+    let wanted = hex::decode(alloc, ADD_ONE_FOR)?;
+    let text = "-p login -u 3 -p sshsig:git f1";
+    let played = play(&rt, alloc, text, b"", SUCCESS);
+    ends(&rt, &played, AddStatus::Done, text);
+    sends(&rt, &played, &wanted, text);
+    prints(
+        &rt,
+        &played,
+        b"",
+        b"Identity added: f1 (one)
+",
+        text,
     );
     Ok(())
 }

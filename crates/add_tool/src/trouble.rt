@@ -1,6 +1,6 @@
 //! The messages of a failure, from the program's status and the file that was read last.
 
-use add_core::{AddFault, AddStatus, DestFault};
+use add_core::{AddFault, AddStatus, DestFault, PurposeFault};
 use key_file::{KeyFileFault, PubFault};
 use std::fmt;
 use std::io::ErrorKind;
@@ -71,6 +71,7 @@ fn words(status: AddStatus, reason: Option<ErrorKind>) -> &'static str {
         AddStatus::Failed(AddFault::Body(fault)) => body(fault),
         AddStatus::Failed(AddFault::Public(fault)) => public(fault),
         AddStatus::Failed(AddFault::Destination(fault)) => destination(fault),
+        AddStatus::Failed(AddFault::Purpose(fault)) => purpose(fault),
         AddStatus::Failed(fault) => plain(fault),
     }
 }
@@ -88,7 +89,7 @@ fn unread(reason: Option<ErrorKind>) -> &'static str {
 fn plain(fault: AddFault) -> &'static str {
     match fault {
         AddFault::Usage => {
-            "usage: ssh-add [-c] [-t LIFE] [-H HOSTS]... [-h DEST]... FILE... | -d FILE... | -D | -l | -L | -x | -X"
+            "usage: ssh-add [-c] [-t LIFE] [-u COUNT] [-p PURPOSE]... [-H HOSTS]... [-h DEST]... FILE... | -d FILE... | -D | -l | -L | -x | -X"
         }
         AddFault::EmptyPassphrase =>
             "the passphrase is empty: give it in the first line of the input",
@@ -128,6 +129,15 @@ fn public(fault: PubFault) -> &'static str {
         PubFault::Base64 => "the public key isn't base64: is the file whole?",
         PubFault::OtherType => "the line names another type than the public key's",
         _ => "the public key's type is none of those that are known, or its fields are broken",
+    }
+}
+
+fn purpose(fault: PurposeFault) -> &'static str {
+    match fault {
+        PurposeFault::Long => "a purpose has more than 255 bytes: give a shorter namespace",
+        PurposeFault::Twice => "a purpose is named twice: give each once",
+        PurposeFault::Many => "there are more than 64 purposes: give fewer",
+        _ => "a purpose is none: give login, sshsig:NAMESPACE, sshsig or other",
     }
 }
 

@@ -1,10 +1,10 @@
 -- A number of uses that words say is one that may be given.
-use Rattle.std.proofs.Common.{◌≡◌, ℕ, ◌^◌, ◌<◌, ◌≤◌, nat_lt, Bool, true, false, cond, ◌&&◌, List, [], ◌∷◌, Option, None, Some, is_some, refl, ap, subst, arith}
+use Rattle.std.proofs.Common.{◌≡◌, ℕ, ◌^◌, nat_lt, Bool, true, false, cond, ◌&&◌, List, [], ◌∷◌, Option, None, Some, is_some, refl, ap, subst, arith}
 use Rattle.std.proofs.lemmas.Bool.Decides.{nat_tests}
 use Rattle.std.specs.Str.{all_ascii_digits}
 use Rattle.std.specs.Prelude.{option_and_then}
 use Rattle.add_words.specs.declared.option.Wanted.{Wanted}
-use Rattle.add_words.specs.declared.option.Wanted.TheVariants.{Life, Uses, Destination, Hosts}
+use Rattle.add_words.specs.declared.option.Wanted.TheVariants.{Life, Uses, Destination, Hosts, Purpose}
 use Rattle.add_words.specs.declared.option.Word.{Word}
 use Rattle.add_words.specs.declared.option.Word.TheVariants.{Does, Confirm, Wants, Ends, Unknown, File}
 use Rattle.world_ports.specs.Life.{life_of}
@@ -50,6 +50,7 @@ by_value Life given after word is count = subst IsCount (by_life given after (li
 by_value Uses given after word is count = by_uses given after word (count_of word) refl is
 by_value Destination given after word is count = subst IsCount (ap uses_in is) count
 by_value Hosts given after word is count = subst IsCount (ap uses_in is) count
+by_value Purpose given after word is count = subst IsCount (ap uses_in is) count
 
 by_kind : (kind : Word) (given after : Given) (word : List ℕ) → after_kind kind given word ≡ Some after → IsCount given.uses → IsCount after.uses
 by_kind (Does command) given after word is count = subst IsCount (unless (is_some given.command) (record given { command = Some command }) after is) count
@@ -58,6 +59,7 @@ by_kind (Wants Life) given after word is count = subst IsCount (unless (is_some 
 by_kind (Wants Uses) given after word is count = subst IsCount (unless (is_some given.uses) (record given { wanted = Some Uses }) after is) count
 by_kind (Wants Destination) given after word is count = subst IsCount (ap uses_in is) count
 by_kind (Wants Hosts) given after word is count = subst IsCount (ap uses_in is) count
+by_kind (Wants Purpose) given after word is count = subst IsCount (ap uses_in is) count
 by_kind Ends given after word is count = subst IsCount (ap uses_in is) count
 by_kind Unknown given after word is count = absurd cc
 by_kind File given after word is count = subst IsCount (ap uses_in is) count

@@ -4,7 +4,7 @@ use Rattle.world_ports.specs.Life.{life_of}
 use Rattle.add_words.specs.declared.command.Command.{Command}
 use Rattle.add_words.specs.declared.given.Given.{Given as CodeGiven}
 use Rattle.add_words.specs.declared.option.Wanted.{Wanted}
-use Rattle.add_words.specs.declared.option.Wanted.TheVariants.{Life, Uses, Destination, Hosts}
+use Rattle.add_words.specs.declared.option.Wanted.TheVariants.{Life, Uses, Destination, Hosts, Purpose}
 use Rattle.add_words.specs.declared.option.Word.{Word}
 use Rattle.add_words.specs.declared.option.Word.TheVariants.{Does, Confirm, Wants, Ends, Unknown, File}
 use Rattle.add_words.specs.Counts.{count_of}
@@ -18,6 +18,7 @@ pub record Given : Type 0 where
   pub uses : Option ℕ
   pub destinations : List (List ℕ)
   pub hosts : List (List ℕ)
+  pub purposes : List (List ℕ)
   pub files : List (List ℕ)
   pub wanted : Option Wanted
   pub ended : Bool
@@ -31,6 +32,7 @@ given_of given = record {
   uses = given.uses;
   destinations = map (λ word. word.now) given.destinations.items;
   hosts = map (λ word. word.now) given.hosts.items;
+  purposes = map (λ word. word.now) given.purposes.items;
   files = map (λ word. word.now) given.files.items;
   wanted = given.wanted;
   ended = given.ended;
@@ -45,6 +47,7 @@ nothing_given = record {
   uses = None;
   destinations = [];
   hosts = [];
+  purposes = [];
   files = [];
   wanted = None;
   ended = false;
@@ -69,6 +72,7 @@ after_value Uses given word = with_uses given (count_of word)
 after_value Destination given word =
     Some record given { wanted = None; destinations = given.destinations ++ word ∷ [] }
 after_value Hosts given word = Some record given { wanted = None; hosts = given.hosts ++ word ∷ [] }
+after_value Purpose given word = Some record given { wanted = None; purposes = given.purposes ++ word ∷ [] }
 
 -- what is given and one more file
 abbrev pub with_file : Given → List ℕ → Option Given
@@ -86,6 +90,7 @@ after_kind (Wants Uses) given word =
     if is_some given.uses then None else Some record given { wanted = Some Uses }
 after_kind (Wants Destination) given word = Some record given { wanted = Some Destination }
 after_kind (Wants Hosts) given word = Some record given { wanted = Some Hosts }
+after_kind (Wants Purpose) given word = Some record given { wanted = Some Purpose }
 after_kind Ends given word = Some record given { ended = true }
 after_kind Unknown given word = None
 after_kind File given word = with_file given word

@@ -3,7 +3,7 @@ use Rattle.std.specs.Prelude.{ℕ, nat_eq, List, codes, if◌then◌else◌}
 use Rattle.std.specs.List.{starts_with}
 use Rattle.std.specs.Str.{bytes_eq}
 use Rattle.add_words.specs.declared.command.Command.TheVariants.{List as ListIdentities, ListKeys, Remove, RemoveAll, Lock, Unlock}
-use Rattle.add_words.specs.declared.option.Wanted.TheVariants.{Life, Uses, Destination, Hosts}
+use Rattle.add_words.specs.declared.option.Wanted.TheVariants.{Life, Uses, Destination, Hosts, Purpose}
 use Rattle.add_words.specs.declared.option.Word.{Word}
 use Rattle.add_words.specs.declared.option.Word.TheVariants.{Does, Confirm, Wants, Ends, Unknown, File}
 
@@ -21,6 +21,7 @@ option_of word =
     else if bytes_eq word (codes "-u") then Wants Uses
     else if bytes_eq word (codes "-h") then Wants Destination
     else if bytes_eq word (codes "-H") then Wants Hosts
+    else if bytes_eq word (codes "-p") then Wants Purpose
     else if bytes_eq word (codes "--") then Ends
     else if starts_with nat_eq word (codes "-") then Unknown
     else File

@@ -1,6 +1,6 @@
 -- The words of `ssh-add` as a whole: what is to be done (ssh-add(1); that options may follow files is
 -- ours).
-use Rattle.std.specs.Prelude.{ℕ, ◌==◌, ◌&&◌, not, Bool, true, false, List, [], ◌∷◌, map, length, Option, Some, None, is_none, if◌then◌else◌, option_and_then}
+use Rattle.std.specs.Prelude.{ℕ, ◌==◌, ◌&&◌, not, Bool, true, false, List, [], ◌∷◌, map, Option, Some, None, is_none, if◌then◌else◌, option_and_then}
 use Rattle.add_words.specs.declared.command.Command.{Command}
 use Rattle.add_words.specs.declared.command.Command.TheVariants as does
 use Rattle.add_words.specs.declared.command.AddWords.{AddWords}
@@ -14,6 +14,7 @@ pub record PlainWords : Type 0 where
   pub uses : Option ℕ
   pub destinations : List (List ℕ)
   pub hosts : List (List ℕ)
+  pub purposes : List (List ℕ)
   pub files : List (List ℕ)
 
 -- the code's value, with lists in the place of vectors
@@ -25,6 +26,7 @@ plain_words words = record {
   uses = words.uses;
   destinations = map (λ word. word.now) words.destinations.items;
   hosts = map (λ word. word.now) words.hosts.items;
+  purposes = map (λ word. word.now) words.purposes.items;
   files = map (λ word. word.now) words.files.items;
 }
 
@@ -53,7 +55,7 @@ has_some (x ∷ xs) = true
 abbrev pub is_unconstrained : Given → Bool
 is_unconstrained given =
     not given.confirm && is_none given.life && is_none given.uses
-    && not (has_some given.destinations) && not (has_some given.hosts)
+    && not (has_some given.destinations) && not (has_some given.hosts) && not (has_some given.purposes)
 
 -- the words that there are go together with the command: files to add and to remove and nowhere
 -- else, constraints where keys are added, and files of known hosts where there are destinations
@@ -78,6 +80,7 @@ words_of_given given =
       uses = given.uses;
       destinations = given.destinations;
       hosts = given.hosts;
+      purposes = given.purposes;
       files = given.files;
     }
     else None

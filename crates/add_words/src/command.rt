@@ -38,6 +38,8 @@ pub struct AddWords<'a> {
     pub destinations: Vec<&'a str>,
     /// `-H FILE`: files of known hosts.
     pub hosts: Vec<&'a str>,
+    /// `-p WORD`: what signatures may be for, as it was typed.
+    pub purposes: Vec<&'a str>,
     /// Files of keys.
     pub files: Vec<&'a str>,
 }

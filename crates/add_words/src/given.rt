@@ -20,6 +20,7 @@ pub struct Given<'a> {
     pub uses: Option<u32>,
     pub destinations: Vec<&'a str>,
     pub hosts: Vec<&'a str>,
+    pub purposes: Vec<&'a str>,
     pub files: Vec<&'a str>,
     /// The value that the next word is.
     pub wanted: Option<Wanted>,
@@ -38,6 +39,7 @@ impl<'a> Given<'a> {
             uses: None,
             destinations: Vec::new(alloc),
             hosts: Vec::new(alloc),
+            purposes: Vec::new(alloc),
             files: Vec::new(alloc),
             wanted: None,
             ended: false,
@@ -75,6 +77,7 @@ impl<'a> Given<'a> {
             },
             Wanted::Destination => self.destinations.push(word)?,
             Wanted::Hosts => self.hosts.push(word)?,
+            Wanted::Purpose => self.purposes.push(word)?,
         }
         Ok(())
     }

@@ -12,6 +12,7 @@ pub enum Wanted {
     Uses,
     Destination,
     Hosts,
+    Purpose,
 }
 
 /// What a word is that is no value of the word before it.
@@ -47,6 +48,7 @@ pub fn option_of(word: &str) -> Word
         "-u" => Word::Wants(Wanted::Uses),
         "-h" => Word::Wants(Wanted::Destination),
         "-H" => Word::Wants(Wanted::Hosts),
+        "-p" => Word::Wants(Wanted::Purpose),
         "--" => Word::Ends,
         _ if word.as_bytes().starts_with(b"-") => Word::Unknown,
         _ => Word::File,

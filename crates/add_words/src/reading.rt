@@ -12,7 +12,7 @@ use std::alloc::Global;
 
 /// Reads the words behind the program's name, from the left.
 ///
-/// Each option is a word of its own. A word behind `-t`, `-u`, `-h` or `-H` is its value, whatever it is;
+/// Each option is a word of its own. A word behind `-t`, `-u`, `-h`, `-H` or `-p` is its value, whatever it is;
 /// behind `--` all words are files.
 pub fn read_words<'a>(alloc: Global, words: &'a [String]) -> Result<AddWords<'a>, WordsFault>
     ensures value { MatchResult result
@@ -59,6 +59,7 @@ fn whole(given: Given<'_>) -> Result<AddWords<'_>, WordsFault>
         uses,
         destinations,
         hosts,
+        purposes,
         files,
         ..
     } = given;
@@ -69,6 +70,7 @@ fn whole(given: Given<'_>) -> Result<AddWords<'_>, WordsFault>
         uses,
         destinations,
         hosts,
+        purposes,
         files,
     })
 }
@@ -90,6 +92,7 @@ fn is_unconstrained(given: &Given<'_>) -> bool
         && given.uses.is_none()
         && given.destinations.is_empty()
         && given.hosts.is_empty()
+        && given.purposes.is_empty()
 }
 
 fn goes_with(command: Command, given: &Given<'_>) -> bool

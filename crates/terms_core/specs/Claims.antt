@@ -6,7 +6,7 @@ use Rattle.terms_core.specs.Relays.{Both, IsBroken, IsRelayed}
 use Rattle.terms_core.specs.declared.fault.BodyFault.{BodyFault}
 use Rattle.terms_core.specs.declared.fault.BodyFault.TheVariants as bodies
 use Rattle.terms_core.specs.declared.status.TermsStatus.{TermsStatus}
-use Rattle.terms_core.specs.declared.status.TermsStatus.TheVariants.{Done, BadRequest, Usage, TooLong, Twice, Memory, ReadFault, WriteFault, TornEnd, BadReply, LostAgent}
+use Rattle.terms_core.specs.declared.status.TermsStatus.TheVariants.{Done, BadRequest, Usage, TooLong, Twice, Memory, ReadFault, WriteFault, TornEnd, BadReply, LostAgent, BadPurpose}
 use Rattle.wire_text.specs.Bounds.{longest_body}
 use Rattle.wire_text.specs.Frames.{Front, Whole, Bad, More, front, front_body}
 use Rattle.world_ports.specs.Causes.{Rose}
@@ -74,8 +74,9 @@ pub record EndsAtWriteFault (terms : List ℕ) (old new : Both) : Type 0 where
 abbrev pub Ends : TermsStatus → List ℕ → Both → Both → Type 0
 Ends Done terms old new = EndsDone terms old new
 Ends BadRequest terms old new = EndsBadly terms old new
--- this comes before a relay
+-- these two come before a relay
 Ends Usage terms old new = ⊥
+Ends (BadPurpose fault) terms old new = ⊥
 Ends TooLong terms old new = EndsRefused bodies.TooLong terms old new
 Ends Twice terms old new = EndsRefused bodies.Twice terms old new
 Ends Memory terms old new = IsBroken terms old new

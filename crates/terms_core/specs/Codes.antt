@@ -1,7 +1,7 @@
 -- The exit statuses (ours).
 use Rattle.std.specs.Prelude.{ℕ}
 use Rattle.terms_core.specs.declared.status.TermsStatus.{TermsStatus}
-use Rattle.terms_core.specs.declared.status.TermsStatus.TheVariants.{Done, BadRequest, Usage, TooLong, Twice, Memory, ReadFault, WriteFault, TornEnd, BadReply, LostAgent}
+use Rattle.terms_core.specs.declared.status.TermsStatus.TheVariants.{Done, BadRequest, Usage, TooLong, Twice, Memory, ReadFault, WriteFault, TornEnd, BadReply, LostAgent, BadPurpose}
 
 -- the exit status
 abbrev pub code_of : TermsStatus → ℕ
@@ -16,3 +16,4 @@ code_of WriteFault = 7
 code_of TornEnd = 8
 code_of BadReply = 9
 code_of LostAgent = 10
+code_of (BadPurpose fault) = 11

@@ -3,6 +3,7 @@
 ghost use Rattle.std.specs.Prelude.{◌≡◌};
 ghost use Rattle.terms_core.specs.Codes.{code_of};
 
+use add_words::PurposeFault;
 use thiserror::Error;
 
 /// How a relay ended, in words for the user.
@@ -15,7 +16,7 @@ pub enum TermsStatus {
     #[error("a request of no bytes, or of more than an agent takes")]
     BadRequest,
     /// The words are none of the program's.
-    #[error("usage: terms_relay [-u COUNT] SOCKET AGENT")]
+    #[error("usage: terms_relay [-u COUNT] [-p PURPOSE] ... SOCKET AGENT")]
     Usage,
     /// An addition is with the terms longer than an agent takes. Nothing of it was sent.
     #[error("with its terms the key is longer than an agent takes")]
@@ -41,6 +42,21 @@ pub enum TermsStatus {
     /// The agent ended before a whole reply.
     #[error("the agent ended before a whole reply")]
     LostAgent,
+    /// A word behind `-p` names no purpose, or they are too many.
+    #[error("the purposes are refused: {}", why(.fault))]
+    BadPurpose { fault: PurposeFault },
+}
+
+// Why words name no purposes.
+fn why(fault: &PurposeFault) -> &'static str {
+    match fault {
+        PurposeFault::Missing => "there are none",
+        PurposeFault::Many => "there are more than 64",
+        PurposeFault::Long => "one has more than 255 bytes",
+        PurposeFault::Unknown => "each is login, sshsig:NAMESPACE, sshsig or other",
+        PurposeFault::Twice => "one is named twice",
+        PurposeFault::Memory => "out of memory",
+    }
 }
 
 impl TermsStatus {
@@ -60,6 +76,7 @@ impl TermsStatus {
             TermsStatus::TornEnd => 8,
             TermsStatus::BadReply => 9,
             TermsStatus::LostAgent => 10,
+            TermsStatus::BadPurpose { .. } => 11,
         }
     }
 }

@@ -4,14 +4,16 @@
 ghost use Rattle.std.specs.Prelude.{◌≡◌, ◌≤◌, ◌∷◌, [], IfOk, length, map, string_bytes, true};
 ghost use Rattle.add_words.specs.Counts.{IsCount};
 ghost use Rattle.add_words.specs.Words.{plain_words};
-ghost use Rattle.constraint_rec.specs.Writing.{constraints_bytes};
-ghost use Rattle.terms_core.specs.RelayWords.{Asks, asks_terms, terms_with};
+ghost use Rattle.constraint_rec.specs.Writing.{AreNamed, constraints_bytes};
+ghost use Rattle.terms_core.specs.RelayWords.{Asks, IsTextOf, asks_terms, terms_with};
 ghost use Rattle.wire_text.specs.Bounds.{longest_body};
 
 use crate::status::TermsStatus;
-use add_words::{AddWords, Command, WordsFault, read_words};
+use add_words::{AddWords, Command, PurposeFault, WordsFault, named_purposes, read_words};
 use constraint_rec::{Terms, write_constraints};
 use frame_core::LONGEST_BODY;
+use key_purposes::Purpose;
+use plain_lists::PlainList;
 use std::alloc::{AllocError, Global};
 
 /// What the words say.
@@ -40,11 +42,11 @@ pub fn read_relay<'a>(alloc: Global, words: &'a [String]) -> Result<RelayWords<'
     }
 }
 
-// The words add keys, with a term of ours and none of ssh-add's.
+// The words add keys, with terms of ours and none of ssh-add's.
 fn asks_terms(given: &AddWords<'_>) -> bool
     ensures { result ≡ asks_terms (plain_words given.now) }
 {
-    given.uses.is_some()
+    (given.uses.is_some() || !given.purposes.is_empty())
         && !given.confirm
         && given.life.is_none()
         && given.destinations.is_empty()
@@ -55,30 +57,50 @@ fn asks_terms(given: &AddWords<'_>) -> bool
 fn relay_of<'a>(alloc: Global, given: AddWords<'a>) -> Result<RelayWords<'a>, TermsStatus>
     requires uses { IsCount given.uses }
     requires only { asks_terms (plain_words given) ≡ true }
-    ensures text { IfOk result (λ read. read.terms.items ≡ constraints_bytes (terms_with given.entry.uses)) }
+    ensures text { IfOk result (λ read. IsTextOf (plain_words given.entry) read.terms.items) }
     ensures places { IfOk result (λ read. (plain_words given.entry).files ≡ read.path.now ∷ read.agent.now ∷ []) }
     ensures short { IfOk result (λ read. length read.terms.items ≤ longest_body) }
 {
     let [path, agent] = given.files.as_slice() else {
         return Err(TermsStatus::Usage);
     };
-    let Ok(terms) = text_of(alloc, given.uses) else {
-        return Err(TermsStatus::Memory);
-    };
+    let terms = text_of(alloc, &given)?;
     if terms.len() > LONGEST_BODY as usize {
         return Err(TermsStatus::TooLong);
     }
     Ok(RelayWords { terms, path, agent })
 }
 
-// The text of a number of uses, as the agent reads it.
+// The text of the number of uses and of the purposes, as the agent reads it.
+fn text_of(alloc: Global, given: &AddWords<'_>) -> Result<Vec<u8>, TermsStatus>
+    requires { IsCount given.now.uses }
+    ensures { IfOk result (λ text. IsTextOf (plain_words given.now) text.items) }
+{
+    let purposes = match named_purposes(alloc, &given.purposes) {
+        Ok(purposes) => purposes,
+        Err(PurposeFault::Memory) => return Err(TermsStatus::Memory),
+        Err(fault) => return Err(TermsStatus::BadPurpose { fault }),
+    };
+    match terms_text(alloc, given.uses, purposes) {
+        Ok(text) => Ok(text),
+        Err(_) => Err(TermsStatus::Memory),
+    }
+}
+
+// The text of these terms.
 #[tactic(auto, using(crate::proofs::WordLemmas::is_use_count))]
-fn text_of(alloc: Global, uses: Option<u32>) -> Result<Vec<u8>, AllocError>
-    requires { IsCount uses }
-    ensures { IfOk result (λ text. text.items ≡ constraints_bytes (terms_with uses)) }
+fn terms_text(
+    alloc: Global,
+    uses: Option<u32>,
+    purposes: PlainList<Purpose>,
+) -> Result<Vec<u8>, AllocError>
+    requires uses { IsCount uses }
+    requires purposes { AreNamed purposes }
+    ensures { IfOk result (λ text. text.items ≡ constraints_bytes (terms_with uses purposes)) }
 {
     let terms = Terms {
         uses,
+        purposes,
         ..Terms::new(alloc)
     };
     let mut text = Vec::new(alloc);

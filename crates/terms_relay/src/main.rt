@@ -1,8 +1,8 @@
-//! `terms_relay -u COUNT PATH AGENT` stands between one client and the agent at AGENT: behind the constraints
-//! of each key that the client adds it sets the number of uses, and passes everything else on as it is. It
-//! listens at PATH, tells so by a line on its standard output, and takes one connection, with which PATH is
-//! gone. `relay` of terms_core is the relay; here are its words and its sockets, and what it says on
-//! standard error.
+//! `terms_relay [-u COUNT] [-p PURPOSE] ... PATH AGENT` stands between one client and the agent at AGENT: behind
+//! the constraints of each key that the client adds it sets the number of uses and the purposes, and passes
+//! everything else on as it is. It listens at PATH, tells so by a line on its standard output, and takes one
+//! connection, with which PATH is gone. `relay` of terms_core is the relay; here are its words and its sockets,
+//! and what it says on standard error.
 #![tactic(auto)]
 
 mod one_client;
