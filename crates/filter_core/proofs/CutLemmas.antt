@@ -2,14 +2,13 @@
 use Rattle.std.proofs.Common.{◌≡◌, ◌∙◌, ℕ, ◌+◌, ◌<◌, ◌≤◌, Bool, true, false, List, [], ◌∷◌, ◌++◌, length, map, drop, get_or, refl, ap, sym, arith, cond, filter, append_assoc}
 use Rattle.std.proofs.lemmas.List.{drop_all, drop_more, length-append}
 use Rattle.std.specs.Borrow.{Bor}
-use Rattle.wire_text.specs.Wire.{uint32}
+use Rattle.wire_text.specs.Wire.{string, uint32}
 use Rattle.wire_text.specs.Bounds.{longest_body}
 use Rattle.wire_text.proofs.WireLemmas.{length-uint32}
 use Rattle.agent_msg.specs.Replies.{entries, entries_length, identities_answer, list_head}
-use Rattle.agent_msg.specs.ReplyReading.{AgentReply, Failure, Identities, IsReply, Signature, Success, lent}
+use Rattle.agent_msg.specs.ReplyReading.{Identities, IsReply, lent}
 use Rattle.agent_msg.proofs.ReplyLemmas.{length-entries, list_head-entries}
 use Rattle.filter_model.specs.Looking.{is_listed, only_listed}
-use Rattle.filter_core.specs.Slots.{IsShort}
 
 -- ---- what is kept
 
@@ -32,6 +31,30 @@ shorter listed [] = omega arith
 shorter listed (first ∷ others) =
     shorter_by (is_listed first.0 listed) first (only_listed listed others) others (shorter listed others)
 
+-- where as many are kept, all are
+no_more_by : (test : Bool) (first : List ℕ × List ℕ) (some all : List (List ℕ × List ℕ)) → length some ≤ length all → length (cond test (first ∷ some) some) ≤ length (first ∷ all)
+no_more_by true first some all rest = omega (arith, rest)
+no_more_by false first some all rest = omega (arith, rest)
+
+no_more : (listed : List (List ℕ)) (identities : List (List ℕ × List ℕ)) → length (only_listed listed identities) ≤ length identities
+no_more listed [] = omega arith
+no_more listed (first ∷ others) = no_more_by (is_listed first.0 listed) first (only_listed listed others) others (no_more listed others)
+
+all_kept_by : (test : Bool) (first : List ℕ × List ℕ) (some all : List (List ℕ × List ℕ)) → length some ≤ length all → (length some ≡ length all → some ≡ all)
+    → length (cond test (first ∷ some) some) ≡ length (first ∷ all) → cond test (first ∷ some) some ≡ first ∷ all
+all_kept_by true first some all less later same = ap (λ (l : List (List ℕ × List ℕ)). first ∷ l) (later (omega (arith, same)))
+all_kept_by false first some all less later same = absurd (omega (arith, less, same))
+
+all_kept : (listed : List (List ℕ)) (identities : List (List ℕ × List ℕ)) → length (only_listed listed identities) ≡ length identities → only_listed listed identities ≡ identities
+all_kept listed [] same = refl
+all_kept listed (first ∷ others) same =
+    all_kept_by (is_listed first.0 listed) first (only_listed listed others) others (no_more listed others) (all_kept listed others) same
+
+-- then the answer is the list of them
+pub as_it_is : (listed : List (List ℕ)) (answer : List ℕ) (identities : List (List ℕ × List ℕ)) → IsReply answer (Identities identities) → length (only_listed listed identities) ≡ length identities
+    → string answer ≡ identities_answer (only_listed listed identities)
+as_it_is listed answer identities is same = ap string is.printed ∙ ap identities_answer (sym (all_kept listed identities same))
+
 -- there are no more identities than bytes of entries
 pub few : (identities : List (List ℕ × List ℕ)) → length identities ≤ entries_length identities
 few [] = omega arith
@@ -49,12 +72,9 @@ none_left identities i past = ap (λ (l : List (Bor (List ℕ) × Bor (List ℕ)
 -- ---- a reply that is read
 
 -- it is no longer than its body
-pub short_reply : (body : List ℕ) (reply : AgentReply) → IsReply body reply → length body ≤ longest_body → IsShort reply
-short_reply body Failure is short = tt
-short_reply body Success is short = tt
-short_reply body (Identities identities) is short =
+pub short_list : (body : List ℕ) (identities : List (List ℕ × List ℕ)) → IsReply body (Identities identities) → length body ≤ longest_body → 5 + entries_length identities ≤ longest_body
+short_list body identities is short =
     omega (arith, short, ap length is.printed, length-append (uint32 (length identities)) (entries identities), length-uint32 (length identities), length-entries identities)
-short_reply body (Signature signature) is short = tt
 
 -- ---- a list that is written
 

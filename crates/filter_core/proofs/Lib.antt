@@ -2,4 +2,4 @@ pub mod PlaceLemmas
 pub mod SlotLemmas
 pub mod CutLemmas
 pub mod LookLemmas
-pub mod ListedLemmas
+pub mod IndexLemmas

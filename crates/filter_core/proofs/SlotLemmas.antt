@@ -1,14 +1,15 @@
 -- Edits of the slots are edits of the pairs, and these are the steps of the definition.
-use Rattle.std.proofs.Common.{◌≡◌, ◌∙◌, ℕ, zero, suc, ◌+◌, ◌-◌, ◌^◌, ◌<◌, List, [], ◌∷◌, ◌++◌, Bool, true, false, length, cond, get_or, set, refl, ap, arith, sym, subst, Option, Some, None, slice_get, Result, Ok, Err}
+use Rattle.std.proofs.Common.{◌≡◌, ◌∙◌, ℕ, zero, suc, ◌+◌, ◌-◌, ◌^◌, ◌<◌, ◌≤◌, List, [], ◌∷◌, ◌++◌, Bool, true, false, length, cond, get_or, set, refl, ap, arith, sym, subst, Option, Some, None, nat_lt, slice_get, Result, Ok, Err}
 use Rattle.std.proofs.lemmas.List.{map-set, map-append, drop-map, take-map}
 use Rattle.std.specs.Prelude.{OnOk}
 use Rattle.std.proofs.lemmas.Option.{none-some, same_Some, slice_get-map}
 use Rattle.std.specs.List.{count_by, filter, remove}
+use Rattle.std.proofs.lemmas.Bool.Decides.{nat_tests}
 use Rattle.std.proofs.lemmas.List.Sums.{length-filter}
 use Rattle.std.specs.Option.{option_map}
 use Rattle.filter_model.specs.Lists.{Listed}
 use Rattle.filter_model.specs.Pairs.{Pair, is_spare, unlinked}
-use Rattle.filter_model.specs.Filters.{Happening, Numbered, State, at_pair, find_pair, is_crowded, links, parted, put_pair, remove_pair, settled, spares_if, told, trimmed, trimmed_by, unlinked_by, unlinked_in, without}
+use Rattle.filter_model.specs.Filters.{Happening, Numbered, State, at_pair, find_pair, is_crowded, links, most_links, parted, put_pair, remove_pair, settled, spares_if, told, trimmed, trimmed_by, unlinked_by, unlinked_in, without}
 use Rattle.filter_core.specs.declared.slot.Slot.{Slot}
 use Rattle.filter_core.specs.Slots.{IsKept, IsRising, Leaves, numbered_of, pair_of, pairs_of}
 use Rattle.filter_core.specs.Places.{IsPlace}
@@ -117,6 +118,22 @@ as_many (slot ∷ slots) =
 -- slots and pairs with a connection are as many
 pub counted : (slots : List Slot) → count_by (λ slot. slot.is_linked) slots ≡ links (pairs_of slots)
 counted slots = sym (length-filter (λ slot. slot.is_linked) slots) ∙ as_many slots
+
+few_by : (test : Bool) (one : Numbered) (some all : List Numbered) → length some ≤ length all → length (cond test (one ∷ some) some) ≤ length (one ∷ all)
+few_by true one some all few = omega (arith, few)
+few_by false one some all few = omega (arith, few)
+
+few : (pairs : List Numbered) → links pairs ≤ length pairs
+few [] = omega arith
+few (one ∷ others) = few_by one.pair.is_linked one (filter (λ other. other.pair.is_linked) others) others (few others)
+
+-- no more slots have a connection than there are
+few_links : (slots : List Slot) → links (pairs_of slots) ≤ length slots
+few_links slots = omega (arith, few (pairs_of slots), length-pairs_of slots)
+
+-- where few pairs are open, there is a place
+pub has_few : (slots : List Slot) (count : ℕ) → count ≡ length slots → count < most_links → nat_lt count most_links ≡ nat_lt (links (pairs_of slots)) most_links
+has_few slots count is low = grind (arith, nat_tests, is, low, few_links slots)
 
 -- ---- the state of the storage
 

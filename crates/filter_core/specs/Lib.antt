@@ -1,3 +1,4 @@
+pub mod Index
 pub mod Slots
 pub mod Places
 pub mod Happenings

@@ -2,9 +2,6 @@
 use Rattle.std.specs.Prelude.{◌≡◌, ℕ, ◌+◌, ◌^◌, ◌<◌, ◌≤◌, Bool, ◌&&◌, List, [], ◌∷◌, length, map, Option, Some, None, Vec, option_map}
 use Rattle.std.specs.declared.alloc.Global.{Global}
 use Rattle.std.specs.BTreeSet.{BTreeSet}
-use Rattle.wire_text.specs.Bounds.{longest_body}
-use Rattle.agent_msg.specs.Replies.{entries_length}
-use Rattle.agent_msg.specs.ReplyReading.{AgentReply, Failure, Identities, Signature, Success}
 use Rattle.key_purposes.specs.declared.purpose.Purpose.{Purpose}
 use Rattle.filter_core.specs.declared.listed.Listed as code
 use Rattle.filter_core.specs.declared.slot.Slot.{Slot}
@@ -23,7 +20,7 @@ purposes_of purposes = option_map (λ given. given.items) purposes
 
 -- what the filter lets be used, without its storage
 abbrev pub listed_of : code.Listed → Listed
-listed_of listed = record { blobs = blobs_of listed.blobs; purposes = purposes_of listed.purposes }
+listed_of listed = record { blobs = listed.blobs; purposes = purposes_of listed.purposes }
 
 -- a pair without its storage, and with its number
 abbrev pub pair_of : Slot → Pair
@@ -67,13 +64,6 @@ is_free pair = is_quiet pair.waits && (is_none pair.client.owed && is_none pair.
 pub record Leaves (is_open : Bool) (pair : Pair) (after : Looked) : Type 0 where
   pub stays : is_open ≡ after.is_open
   pub left : pair ≡ after.pair
-
--- a list is no longer than a message
-abbrev pub IsShort : AgentReply → Type 0
-IsShort Failure = Unit {0}
-IsShort Success = Unit {0}
-IsShort (Identities identities) = 5 + entries_length identities ≤ longest_body
-IsShort (Signature signature) = Unit {0}
 
 -- the event may come to the pair: no more is taken than is owed
 abbrev pub FitsPair : Happening → Pair → Type 0

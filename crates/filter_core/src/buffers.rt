@@ -18,7 +18,7 @@ use std::alloc::{AllocError, Global};
 use std::marker::Model;
 
 /// The storage of longer bodies isn't kept for the next one, in bytes.
-const LONG: usize = 4096;
+const LONG: usize = 8192;
 
 /// How many bytes FAILURE has as it is sent.
 const STATUS_LEN: usize = 5;

@@ -3,22 +3,21 @@
 ghost use Rattle.std.specs.Prelude.{◌≡◌, ◌+◌, ◌≤◌, ◌++◌, IfOk, OnOk, Some, length, map, is_some, Ok};
 ghost use Rattle.wire_text.specs.Bounds.{longest_body};
 ghost use Rattle.agent_msg.specs.Replies.{entries, entries_length, entry, identities_answer};
-ghost use Rattle.agent_msg.specs.ReplyReading.{agent_reply, lent, reply_of};
+ghost use Rattle.agent_msg.specs.ReplyReading.{Identities, IsReply, agent_reply, lent, reply_of};
 ghost use Rattle.filter_model.specs.Looking.{cut_reply, only_listed};
-ghost use Rattle.filter_core.specs.Slots.{IsShort, blobs_of, owes_reply};
+ghost use Rattle.filter_core.specs.Slots.{owes_reply};
 
+use crate::blobs::Blobs;
 use crate::buffers::Buffers;
-use crate::fate::is_listed;
 use agent_msg::{Reply, ReplyFault, put_list_entry, put_list_head, read_reply};
 use secret_buf::ScrubBuf;
 use std::alloc::{AllocError, Global};
-use std::collections::BTreeSet;
 
 // Keeps those of the identities whose blobs are listed.
-fn keep_listed(identities: &mut Vec<(&[u8], &[u8])>, listed: &BTreeSet<Vec<u8>>)
-    ensures { map lent identities.new.items ≡ only_listed (blobs_of listed.now) (map lent identities.old.items) }
+fn keep_listed(identities: &mut Vec<(&[u8], &[u8])>, listed: &Blobs)
+    ensures { map lent identities.new.items ≡ only_listed listed.now (map lent identities.old.items) }
 {
-    identities.retain(|identity| is_listed(listed, identity.0));
+    identities.retain(|identity| listed.has(identity.0));
 }
 
 // The length of some entries with one more.
@@ -78,33 +77,35 @@ pub fn put_list(out: &mut ScrubBuf, identities: &[(&[u8], &[u8])]) -> Result<(),
 pub fn owe_cut(
     alloc: Global,
     client: &mut Buffers,
-    listed: &BTreeSet<Vec<u8>>,
+    listed: &Blobs,
     answer: &[u8],
 ) -> Result<bool, AllocError>
     requires { length answer.now ≤ longest_body }
     ensures is_one { IfOk result (λ is_one. is_one
-        ≡ is_some (cut_reply (blobs_of listed.now) (reply_of answer.now))) }
+        ≡ is_some (cut_reply listed.now (reply_of answer.now))) }
     ensures owed { OnOk result (client.new
-        ≡ owes_reply (cut_reply (blobs_of listed.now) (reply_of answer.now)) client.old) }
+        ≡ owes_reply (cut_reply listed.now (reply_of answer.now)) client.old) }
 {
     match read_reply(alloc, answer) {
-        Ok(reply) => owe_read(client, listed, reply),
+        Ok(reply) => owe_read(client, listed, answer, reply),
         Err(ReplyFault::Memory) => Err(AllocError),
         Err(_) => Ok(false),
     }
 }
 
-// Owes the client what this reply makes, cut to what is listed; tells whether it answers a list.
+// Owes the client what the reply of this answer makes, cut to what is listed; tells whether it answers a list.
 fn owe_read(
     client: &mut Buffers,
-    listed: &BTreeSet<Vec<u8>>,
+    listed: &Blobs,
+    answer: &[u8],
     reply: Reply<'_>,
 ) -> Result<bool, AllocError>
-    requires { IsShort (agent_reply reply) }
+    requires is { IsReply answer.now (agent_reply reply) }
+    requires short { length answer.now ≤ longest_body }
     ensures is_one { IfOk result (λ is_one. is_one
-        ≡ is_some (cut_reply (blobs_of listed.now) (Ok (agent_reply reply.entry)))) }
+        ≡ is_some (cut_reply listed.now (Ok (agent_reply reply.entry)))) }
     ensures owed { OnOk result (client.new
-        ≡ owes_reply (cut_reply (blobs_of listed.now) (Ok (agent_reply reply.entry))) client.old) }
+        ≡ owes_reply (cut_reply listed.now (Ok (agent_reply reply.entry))) client.old) }
 {
     match reply {
         Reply::Failure => {
@@ -112,7 +113,7 @@ fn owe_read(
             Ok(true)
         }
         Reply::Identities(identities) => {
-            owe_listed(client, listed, identities)?;
+            owe_listed(client, listed, answer, identities)?;
             Ok(true)
         }
         Reply::Success => Ok(false),
@@ -120,18 +121,23 @@ fn owe_read(
     }
 }
 
-// Owes the list of those of these identities that are listed.
+// Owes the list of those of these identities that are listed: the answer as it is, where all of them are.
 fn owe_listed(
     client: &mut Buffers,
-    listed: &BTreeSet<Vec<u8>>,
+    listed: &Blobs,
+    answer: &[u8],
     identities: Vec<(&[u8], &[u8])>,
 ) -> Result<(), AllocError>
-    requires { 5 + entries_length (map lent identities.items) ≤ longest_body }
+    requires is { IsReply answer.now (Identities (map lent identities.items)) }
+    requires short { length answer.now ≤ longest_body }
     ensures { OnOk result (client.new ≡ owes_reply
-        (Some (identities_answer (only_listed (blobs_of listed.now) (map lent identities.entry.items)))) client.old) }
+        (Some (identities_answer (only_listed listed.now (map lent identities.entry.items)))) client.old) }
 {
+    let all = identities.len();
     let mut kept = identities;
     keep_listed(&mut kept, listed);
-    client.owe_list(&kept)?;
-    Ok(())
+    if kept.len() == all {
+        return client.owe(answer);
+    }
+    client.owe_list(&kept)
 }

@@ -4,21 +4,13 @@ ghost use Rattle.std.specs.Prelude.{◌≡◌, ◌&&◌, IfOk, Ok};
 ghost use Rattle.agent_msg.specs.Requests.{client_request};
 ghost use Rattle.key_purposes.specs.Messages.{may_be_for};
 ghost use Rattle.filter_model.specs.Looking.{fate_of, is_listed, waits_by, waits_for};
-ghost use Rattle.filter_core.specs.Slots.{blobs_of, listed_of, purposes_of};
+ghost use Rattle.filter_core.specs.Slots.{listed_of, purposes_of};
 
 use crate::listed::Listed;
 use agent_msg::{MsgFault, Request, read_request};
 use filter_model::Waits;
 use key_purposes::{Purpose, are_for};
 use std::alloc::{AllocError, Global};
-use std::collections::BTreeSet;
-
-/// Whether the blob stands in the list.
-pub fn is_listed(listed: &BTreeSet<Vec<u8>>, blob: &[u8]) -> bool
-    ensures { result ≡ is_listed blob.now (blobs_of listed.now) }
-{
-    listed.contains(blob)
-}
 
 // Whether no purposes are given, or the message is for one of them.
 fn may_be_for(purposes: &Option<Vec<Purpose>>, message: &[u8], blob: &[u8]) -> bool
@@ -32,10 +24,10 @@ fn may_be_for(purposes: &Option<Vec<Purpose>>, message: &[u8], blob: &[u8]) -> b
 
 // Whether the key of this blob is listed, and the message is for one of its purposes, where there are any.
 fn may_sign(listed: &Listed, blob: &[u8], message: &[u8]) -> bool
-    ensures { result ≡ (is_listed blob.now (blobs_of listed.now.blobs)
+    ensures { result ≡ (is_listed blob.now listed.now.blobs
         && may_be_for (purposes_of listed.now.purposes) message.now blob.now) }
 {
-    is_listed(&listed.blobs, blob) && may_be_for(&listed.purposes, message, blob)
+    listed.blobs.has(blob) && may_be_for(&listed.purposes, message, blob)
 }
 
 /// What a pair waits for after this body: nothing where the request is refused. Only a list, a signature by a key that

@@ -187,11 +187,11 @@ impl Filter {
         }
     }
 
-    // Whether one pair more may have a connection to the agent behind.
+    // Whether one pair more may have a connection to the agent behind: counted only where so many pairs are open.
     fn has_place(&self) -> bool
         ensures { result ≡ has_place self.now }
     {
-        count_links(&self.slots) < MOST_LINKS
+        self.slots.len() < MOST_LINKS || count_links(&self.slots) < MOST_LINKS
     }
 
     // Whether more connections are spare than may be, or no place is left for one that is needed.

@@ -2,6 +2,7 @@
 //! Each step is one step of filter_model. Stands on filter_model, agent_msg, key_purposes, frame_core and secret_buf.
 #![tactic(auto)]
 
+mod blobs;
 mod buffers;
 mod cut;
 mod event;
@@ -11,6 +12,7 @@ mod listed;
 mod places;
 mod slot;
 
+pub use blobs::Blobs;
 pub use event::FilterEvent;
 pub use filter::Filter;
 pub use listed::Listed;

@@ -1,9 +1,11 @@
 //! Keys, requests and replies of the agent protocol (draft-miller-ssh-agent), in hexadecimal. The keys have the type
 //! keyed-sha256@example.com of the stand-in helper, the first one the tag 11.., the second one 12...
 
-/// The public key of the first one, as a line of a list.
+/// The public keys of the first one and of one that differs from it in the middle of its tag alone, as lines of a list:
+/// both have the same length, the same byte in the middle of their blob and the same last one.
 pub const LISTED: &str =
-    "keyed-sha256@example.com AAAAGGtleWVkLXNoYTI1NkBleGFtcGxlLmNvbQAAACAREREREREREREREREREREREREREREREREREREREREREQ== one\n";
+    "keyed-sha256@example.com AAAAGGtleWVkLXNoYTI1NkBleGFtcGxlLmNvbQAAACAREREREREREREREREREREREREREREREREREREREREREQ== one\n\
+    keyed-sha256@example.com AAAAGGtleWVkLXNoYTI1NkBleGFtcGxlLmNvbQAAACARMzMzMzMzMzMzMzMzMzMzMzMzMzMzMzMzMzMzMzMzEQ== two\n";
 
 /// SSH_AGENTC_REQUEST_IDENTITIES.
 pub const LIST: &str = "000000010b";
@@ -50,3 +52,12 @@ pub const BOTH: &str = "0000009b0c00000002\
     000000201111111111111111111111111111111111111111111111111111111111111111000000036f6e65\
     00000040000000186b657965642d736861323536406578616d706c652e636f6d\
     0000002012121212121212121212121212121212121212121212121212121212121212120000000374776f";
+
+/// SSH_AGENT_IDENTITIES_ANSWER with a third such key, "odd", which isn't listed, and both listed ones, "two" and "one".
+pub const ALIKE: &str =
+    "000000e60c0000000300000040000000186b657965642d736861323536406578616d706c652e636f6d000000\
+    201144444444444444444444444444444444444444444444444444444444444411000000036f646400000040\
+    000000186b657965642d736861323536406578616d706c652e636f6d00000020113333333333333333333333\
+    33333333333333333333333333333333333333110000000374776f00000040000000186b657965642d736861\
+    323536406578616d706c652e636f6d0000002011111111111111111111111111111111111111111111111111\
+    11111111111111000000036f6e65";

@@ -1,6 +1,6 @@
 //! Whole runs, whose deeds are written out by hand.
 use crate::fixtures::{
-    BIND, BOTH, LIST, REMOVE_ALL, SIGN_COMMIT, SIGN_FIRST, SIGN_LOGIN, SIGN_SECOND, SIGNED,
+    ALIKE, BIND, BOTH, LIST, REMOVE_ALL, SIGN_COMMIT, SIGN_FIRST, SIGN_LOGIN, SIGN_SECOND, SIGNED,
 };
 use crate::play::{PLAIN, Run, plays, sends};
 use filter_top::{FilterStatus, PurposeFault, Side};
@@ -43,7 +43,35 @@ fn a_list_is_cut_to_the_listed_keys(rt: HostRuntime) -> Result<(), Fail> {
     Ok(())
 }
 
-// The calls of that run are a bind, a wait, an accept, a read and an accept that find nothing; a wait, the read of the
+/// And the client is told of the two listed ones among three keys that differ in the middle of their tags alone.
+const ANSWERED_ALIKE: &str = "connect 1\n1 upstream 000000010b\n\
+    1 client 0000009b0c0000000200000040000000186b657965642d736861323536406578616d706c652e636f6d000000\
+    2011333333333333333333333333333333333333333333333333333333333333110000000374776f00000040\
+    000000186b657965642d736861323536406578616d706c652e636f6d00000020111111111111111111111111\
+    1111111111111111111111111111111111111111000000036f6e65\n";
+
+#[test]
+fn keys_that_are_alike_are_told_apart(rt: HostRuntime) -> Result<(), Fail> {
+    let alloc = rt.alloc();
+    let run = Run {
+        words: PLAIN,
+        failing: 0,
+        status: FilterStatus::Done,
+        deeds: ANSWERED_ALIKE,
+        label: "keys that are alike",
+    };
+    let asked = sends(alloc, 1, Side::Client, LIST)?;
+    let answered = sends(alloc, 1, Side::Upstream, ALIKE)?;
+    let turns = vec![in alloc;
+        vec![in alloc; PairCue::Connect]?,
+        vec![in alloc; asked]?,
+        vec![in alloc; answered]?,
+    ]?;
+    plays(&rt, alloc, turns, &run);
+    Ok(())
+}
+
+// The calls of the first run are a bind, a wait, an accept, a read and an accept that find nothing; a wait, the read of the
 // request, the connect, a read that finds nothing, the write of the request; a wait, the read of the answer, its write,
 // a read that finds nothing; and the last wait.
 #[test]

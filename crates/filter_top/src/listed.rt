@@ -11,7 +11,7 @@ use crate::list::{ListFault, read_list};
 use crate::purposes::read_given;
 use crate::status::FilterStatus;
 use crate::words::Words;
-use filter_core::Listed;
+use filter_core::{Blobs, Listed};
 use std::alloc::Global;
 use std::collections::BTreeSet;
 use world_ports::{FileFault, Files};
@@ -36,7 +36,10 @@ pub fn read_listed<F: Files>(
         → IsUnread asked.now.list.now (F.seen files.old) (F.seen files.new) }
 {
     let purposes = read_given(alloc, asked.purposes)?;
-    let blobs = read_blobs(alloc, files, asked.list)?;
+    let set = read_blobs(alloc, files, asked.list)?;
+    let Ok(blobs) = Blobs::new(alloc, set) else {
+        return Err(FilterStatus::Memory);
+    };
     Ok(Listed { blobs, purposes })
 }
 
