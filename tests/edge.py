@@ -11,6 +11,7 @@ import hashlib
 import os
 import pathlib
 import pwd
+import random
 import re
 import select
 import shutil
@@ -45,8 +46,9 @@ from rig import (
     zombies,
 )
 
-sys.path.insert(0, str(rig.TOP))
+sys.path[:0] = [str(rig.TOP), str(rig.TOP / "helper/tests")]
 
+import openssh
 from model import ed25519
 
 check = rig.Checks("edge")
@@ -1043,13 +1045,13 @@ def bind(peer, helper, host_key, forwarding=b"\0"):
     return child
 
 
-def processor_time(agent, call, times=5):
-    """How many seconds of the agent's processor time a call takes, the least of some."""
+def processor_time(pid, call, times=5):
+    """How many seconds of a process's processor time a call takes, the least of some."""
     took = []
     for _ in range(times):
-        before = rig.spent(agent.process.pid)
+        before = rig.spent(pid)
         call()
-        took.append(rig.spent(agent.process.pid) - before)
+        took.append(rig.spent(pid) - before)
     return min(took)
 
 
@@ -1084,7 +1086,7 @@ def a_list_over_a_full_table_is_short_whatever_its_hosts_and_principals_are(fold
             with serve(home, helper=helper.program) as agent, agent.peer(seconds=60) as peer:
                 count = filled_with_hosts(agent, host)
                 child = bind(peer, helper, certified(names))
-                took = processor_time(agent, lambda: peer.ask(LIST))
+                took = processor_time(agent.process.pid, lambda: peer.ask(LIST))
                 print(f"{len(names)} principals, {count} keys for hosts of {len(host)} letters: {took:.2f} s a list")
                 assert peer.blobs() == [], "none of the hosts has such a name"
                 assert took <= 0.5, took
@@ -1108,12 +1110,89 @@ def a_login_is_judged_shortly_whatever_its_user_is(folder):
                 for size in (4096, 4097, 250000):
                     login = string(b"session") + b"\x32" + string(b"a" * size) + string(b"ssh-connection")
                     login += string(b"publickey") + b"\1" + string(b"keyed-sha256@example.com") + string(blob)
-                    took = processor_time(agent, lambda: peer.send(request(blob, login)) or peer.reply())
+                    took = processor_time(agent.process.pid, lambda: peer.send(request(blob, login)) or peer.reply())
                     print(f"users like {len(pattern)} bytes, a user of {size} letters: {took:.2f} s a signature")
                     assert took <= 0.5, took
             child.close()
     finally:
         helper.close()
+
+
+# What a signature costs the helper, which makes one after another.
+
+
+def mpint(number):
+    return string(number.to_bytes(number.bit_length() // 8 + 1, "big"))
+
+
+def rsa_key(n, e, d, p, q, iqmp):
+    """The fields of an RSA key as they are added, and its blob."""
+    kind = string(b"ssh-rsa")
+    return kind + b"".join(map(mpint, (n, e, d, iqmp, p, q))), string(b"one"), kind + mpint(e) + mpint(n)
+
+
+def time_of_a_signature(agent, peer, key, wanted, times=5):
+    """How many seconds of the helper's processor time a request with a key takes, which ends as is said."""
+    fields, comment, blob = key
+    assert peer.ask(ADD, fields, comment)[0] == SUCCESS
+    text = request(blob)
+    assert peer.ask(text[0], text[1:])[0] == wanted
+    (helper,) = children(agent.process.pid)
+    return processor_time(helper, lambda: peer.send(text) or peer.reply(), times)
+
+
+def drawn_rsa(bits, exponent):
+    """Odd numbers in the places of an RSA key's, which make no signature: of so many bits, and its exponent of so many."""
+    draw = random.Random(bits + exponent)
+    odd = lambda bits: draw.getrandbits(bits) | 1 << bits - 1 | 1
+    p, q = odd(bits // 2), odd(bits // 2)
+    return rsa_key(p * q, odd(exponent), odd(bits - 2), p, q, odd(bits // 2 - 1))
+
+
+@check
+def an_rsa_key_beyond_the_bounds_is_refused_before_it_costs_anything(folder):
+    """As long as an addition may have it, and just beyond what the helper takes."""
+    with serve(folder, helper=rig.built("mortarleek_signer"), stderr=subprocess.DEVNULL) as agent, agent.peer() as peer:
+        for bits, exponent in ((16384, 16383), (16384, 17), (8208, 17), (8192, 8191), (8192, 65)):
+            took = time_of_a_signature(agent, peer, drawn_rsa(bits, exponent), FAILURE)
+            print(f"{bits} bits, an exponent of {exponent}: {took:.2f} s a request")
+            assert took <= 0.05, took
+
+
+@check
+def as_many_signatures_as_may_be_asked_for_come_before_the_helper_is_given_up(folder):
+    """With the dearest key, of 8192 bits and an exponent of 64: 256 within the 60 seconds of one. Numbers within the
+    bounds that are no key cost no more."""
+    path = folder / "key"
+    words = ["-pkeyopt", "rsa_keygen_bits:8192", "-pkeyopt", f"rsa_keygen_pubexp:{2**64 - 59}"]
+    run(["openssl", "genpkey", "-quiet", "-algorithm", "RSA", *words, "-out", path], timeout=600)
+    path.chmod(0o600)
+    run(["ssh-keygen", "-q", "-p", "-N", "", "-f", path])
+    key = openssh.read(path)
+    keys = ((key.private, string(b"one"), key.blob), SIGNATURE), (drawn_rsa(8192, 64), FAILURE)
+    with serve(folder, helper=rig.built("mortarleek_signer"), stderr=subprocess.DEVNULL) as agent:
+        for each, wanted in keys:
+            with agent.peer(seconds=60) as peer:
+                took = time_of_a_signature(agent, peer, each, wanted)
+            print(f"8192 bits, an exponent of 64: {took:.3f} s a request, 256 in {256 * took:.0f} s")
+            assert 256 * took < 60, took
+
+
+# Hosts that nobody answers for.
+
+
+@check
+def a_host_s_certificate_by_sha1_binds_nobody(folder):
+    """By an authority whose other signatures are taken."""
+    rig.built("mortarleek_signer")
+    host, authority = openssh.generate(folder, "ed25519", "256"), openssh.generate(folder, "rsa", "2048")
+    session, signature = openssh.signed_text(b"a session"), openssh.signature_by_openssh(host, b"a session")
+    with serve(folder, stderr=subprocess.DEVNULL) as agent:
+        for algorithm, wanted in (("rsa-sha2-256", SUCCESS), ("rsa-sha2-512", SUCCESS), ("ssh-rsa", FAILURE)):
+            certificate = openssh.certify(host, authority, "a.example.org", True, algorithm)
+            words = map(string, (b"session-bind@openssh.com", certificate.blob, session, signature))
+            with agent.peer() as peer:
+                assert peer.ask(rig.EXTENSION, *words, b"\0")[0] == wanted, algorithm
 
 
 # Paths, and what is inherited.

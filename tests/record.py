@@ -187,7 +187,7 @@ def with_record_or_stop_nothing_is_signed_unseen(folder):
     words = ("--record", "--record-or-stop")
     with open(record, "wb") as file:
         agent = our_agent(PROGRAM, folder, *words, helper=helper, limits=LIMITED, stdout=file, stderr=subprocess.PIPE)
-    fields, comment, blob = rig.plain_key(b"t" * 32)
+    fields, comment, blob = rig.stand_in_key(b"t" * 32)
     asked = (SIGN, string(blob), string(b"data"), bytes(4))
     with agent.peer() as peer:
         assert peer.ask(ADD, fields, comment)[0] == SUCCESS

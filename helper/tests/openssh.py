@@ -55,6 +55,11 @@ def generate(folder, kind, bits):
     """Makes a key, and reads the files that it is kept in."""
     path = pathlib.Path(folder) / f"{kind}-{bits}-{len(list(pathlib.Path(folder).iterdir()))}"
     keygen("-q", "-t", kind, "-b", bits, "-N", "", "-C", "", "-f", str(path), check=True)
+    return read(path)
+
+
+def read(path):
+    """The key of a file that ssh-keygen wrote."""
     text = base64.b64decode("".join(path.read_text().splitlines()[1:-1]))
     assert text.startswith(b"openssh-key-v1\0")
     _, rest = take(text[15:], 3)
@@ -74,10 +79,10 @@ def take(content, count):
     return found, content
 
 
-def certify(key, authority, principal="user", host=False):
+def certify(key, authority, principal="user", host=False, algorithm=None):
     """The key in a certificate of the authority, with the fields that an agent is given."""
     public = str(key.path) + ".pub"
-    words = ["-h"] if host else []
+    words = (["-h"] if host else []) + (["-t", algorithm] if algorithm else [])
     keygen("-q", "-s", str(authority.path), "-I", "id", "-n", principal, *words, public, check=True)
     certificate = key.path.with_name(key.path.name + "-cert.pub")
     blob = base64.b64decode(certificate.read_text().split()[1])
