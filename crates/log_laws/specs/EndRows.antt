@@ -36,6 +36,7 @@ puts number port = Asked (record {
   ask = number;
   port = port;
   purpose = ForSignature (record { blob = 107 ∷ []; message = 109 ∷ []; flags = 0 });
+  size = 64;
 })
 
 -- the helper signs, and it refuses
