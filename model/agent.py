@@ -9,6 +9,7 @@ from collections.abc import Callable
 from dataclasses import dataclass, field
 
 from . import formats
+from .questions import line_of, question
 from .rules import Binding, Chain, Purposes, Rules, are_for, may_sign, principals, room, visible
 from .wire import Fault, demand, string, take_frame, uint32, within
 
@@ -241,7 +242,11 @@ class Agent:
         demand(not self.above("confirmations", len(self.confirmations) + 1), "confirmations")
         job = self.next_number("job")
         self.starts[job] = "confirm"
-        frame = formats.confirm_frame(job, identity.comment, blob)
+        line = line_of(blob, message)
+        text = question(identity.comment, blob, identity.purposes, line)
+        if identity.purposes:
+            self.seen[f"question: {line.split(b' ')[2].decode()}"] += 1
+        frame = formats.confirm_frame(job, text)
         self.confirmations[job] = Confirmation(
             number, self.mono, identity.addition, signing, frame
         )

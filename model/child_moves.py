@@ -130,7 +130,8 @@ class ChildMoves(Moves):
         for _ in range(random.choice([1, 2, 3])):
             if port not in self.agent.ports or self.agent.ports[port].waits:
                 return
-            messages = [self.login(port, key), pool.file_data(random), b"m", pool.login(random, key, b"s", b"u", None)]
+            user = random.choice([b"u", b"u" * 65, b"\x1f\x7f u\n"])
+            messages = [self.login(port, key), pool.file_data(random), b"m", pool.login(random, key, b"s", user, None)]
             self.send(port, b"\x0d" + string(key.blob) + string(random.choice(messages)) + uint32(0), cut=0.03)
             if self.chance(0.15):
                 other = self.client(fresh=0.3)
@@ -230,11 +231,13 @@ class ChildMoves(Moves):
         host = pool.HOSTS[8]
         self.say(f"at {self.run.moment[0]} 150")
         rule = pool.rule(pool.hop(b"", b"", []), pool.hop(b"", host.name, [host.entry]))
-        add = b"\x19" + key.added + string(b"c") + b"\x02" + pool.restrict(rule)
+        purposes = random.choice([b"", pool.purposes(b"login"), pool.purposes(b"other", b"login")])
+        add = b"\x19" + key.added + string(b"c") + b"\x02" + pool.restrict(rule) + purposes
         if port in self.agent.ports:
             self.send(port, add, cut=0)
         self.bind(port, host.key, b"login", forwarding=0)
-        message = pool.login(random, key, b"login", b"u", None)
+        user = random.choice([b"u", b"\x1b[2J" + b"u" * 61])
+        message = pool.login(random, key, b"login", user, None)
         if port in self.agent.ports and not self.agent.ports[port].waits:
             body = b"\x0d" + string(key.blob) + string(message) + uint32(0)
             self.send(port, body, cut=0)

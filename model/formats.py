@@ -3,8 +3,6 @@
 draft-miller-ssh-agent; RFC 4252; OpenSSH's PROTOCOL files; docs/PROTOCOL.md for what is ours.
 """
 
-import base64
-import hashlib
 from collections.abc import Iterator
 from dataclasses import dataclass
 from typing import Any
@@ -254,11 +252,7 @@ def verify_frame(ask: int, host_key: bytes, signature: bytes, session: bytes) ->
     return string(b"\x02", uint64(ask), string(host_key), string(signature), string(session))
 
 
-def confirm_frame(job: int, comment: bytes, blob: bytes) -> bytes:
-    """Asks the user about a key by its comment and the fingerprint of its plain key."""
-    shown = bytes(byte if 0x20 <= byte <= 0x7E else ord("?") for byte in comment[:256])
-    digest = base64.b64encode(hashlib.sha256(public_key(blob).plain_blob).digest()).rstrip(b"=")
-    text = b"Allow use of key %s?\nKey fingerprint SHA256:%s." % (shown, digest)
+def confirm_frame(job: int, text: bytes) -> bytes:
     return string(b"\x03", uint64(job), string(text))
 
 

@@ -5,11 +5,11 @@ from __future__ import annotations
 import hashlib
 
 from .rows import K1, LIST, NO, NOTHING, OK, ONE, S1, TERMS1, USES, H1, hear, listing, row, st, to, u32
-from .rows_children import bind, helper, put1, sign, signed, true, verify
+from .rows_children import bind, hello, helper, put1, sign, signed, true, verify
 from .rows_hostile import answer
 from .rows_room import EVERY_ROW as EARLIER
 from .rows_room import FILL, KEY, LEFT, RULE, ruled
-from .rows_rules import ORIGIN, bound_login, hop, plain_login, restrict, rule
+from .rows_rules import ORIGIN, bound_login, confirm, hop, plain_login, restrict, rule
 
 DIGEST = hashlib.sha512(b"what is signed\n").digest()
 
@@ -104,6 +104,37 @@ row(
     ["join client", *hear(1, TERMS1 + purposes(b"sshsig") + FOR_H1, bind(H1, S1, 0)), *helper(2), *hear(2, true(1))]
     + hear(1, LIST, sign(K1, bound_login(S1, b"root", H1)), sign(K1, GIT)),
     [to(1, OK), "start 1 helper", to(2, verify(1, H1, S1)), to(1, OK), to(1, listing(ONE)), to(1, NO), to(1, NO)],
+)
+
+# The third line of a question
+
+
+def asks(name: str, terms: bytes, message: bytes, line: bytes) -> None:
+    """The user is asked for a signature of this message, with this behind the two lines."""
+    row(
+        name,
+        ["join client", *hear(1, TERMS1 + terms + b"\x02", sign(K1, message)), *helper(2)],
+        [to(1, OK), "start 1 confirm", to(2, confirm(1, line=line))],
+    )
+
+
+ALL = purposes(b"login", b"sshsig", b"other")
+asks("no purposes, no third line", b"", LOGIN, b"")
+asks("a login's third line", ALL, LOGIN, b"\nFor a login as root.")
+asks("a file's third line", ALL, GIT, b"\nFor a signature in namespace git.")
+asks("the third line of other data", ALL, OTHER, b"\nFor other data of 7 bytes.")
+asks("the third line of no data", ALL, b"", b"\nFor other data of 0 bytes.")
+asks("a user of 64 bytes is shown", ALL, plain_login(S1, b"u" * 64), b"\nFor a login as " + b"u" * 64 + b".")
+asks("a user of 65 bytes is cut", ALL, plain_login(S1, b"u" * 64 + b"v"), b"\nFor a login as " + b"u" * 64 + b".")
+asks("a user's line ends are shown", ALL, plain_login(S1, b"a\nb\x7f\xc3\xa9 "), b"\nFor a login as a?b??? .")
+asks("a namespace is cut", ALL, file_in(b"\t" + b"n" * 64), b"\nFor a signature in namespace ?" + b"n" * 63 + b".")
+
+row(
+    "a login's third line names no host",
+    ["join client", *hear(1, TERMS1 + ALL + FOR_H1 + b"\x02", bind(H1, S1, 0)), *helper(2), *hear(2, true(1))]
+    + hear(1, sign(K1, bound_login(S1, b"root", H1))) + ["started 2 " + "00" * 16, "join child", *hear(3, hello(2))],
+    [to(1, OK), "start 1 helper", to(2, verify(1, H1, S1)), to(1, OK), "start 2 confirm"]
+    + [to(3, confirm(2, line=b"\nFor a login as root."))],
 )
 
 EVERY_ROW = EARLIER  # with those of the files that this one stands on

@@ -255,9 +255,9 @@ row(
 # Confirmation
 
 
-def confirm(job: int, comment: bytes = b"one", blob: bytes = K1) -> bytes:
+def confirm(job: int, comment: bytes = b"one", blob: bytes = K1, line: bytes = b"") -> bytes:
     digest = base64.b64encode(hashlib.sha256(blob).digest()).rstrip(b"=")
-    text = b"Allow use of key " + comment + b"?\nKey fingerprint SHA256:" + digest + b"."
+    text = b"Allow use of key " + comment + b"?\nKey fingerprint SHA256:" + digest + b"." + line
     return b"\x03" + u64(job) + st(text)
 
 

@@ -31,6 +31,9 @@ CASES = (
     ("all", "login git file own other"),
 )
 NAMESPACES = {"git": "git", "file": "file", "own": "my own"}
+# The third line of a question about each; `ssh-add -T` has 1024 random bytes signed (OpenSSH's ssh-add.c, test_key).
+LINES = {name: f"For a signature in namespace {namespace}." for name, namespace in NAMESPACES.items()}
+LINES |= {"login": f"For a login as {USER}.", "other": "For other data of 1024 bytes."}
 
 
 def shown(key):
@@ -184,7 +187,7 @@ def a_login_over_two_hosts_with_a_certificate_too(folder):
 
 @check
 def nobody_is_asked_about_what_a_key_is_not_for(folder):
-    """What a question begins with is what it is for a key without purposes."""
+    """A question begins with what it is for a key without purposes, and then tells what is signed."""
     relay = rig.built("confirm_relay")
     installed, key = Installed(folder), keygen(folder / "key")
     asked = folder / "asked"
@@ -199,9 +202,8 @@ def nobody_is_asked_about_what_a_key_is_not_for(folder):
             questions = asked.read_text().split("\n--\n")[:-1]
             assert len(questions) == len(wanted.split()), (words, questions)
             fingerprint = run(["ssh-keygen", "-lf", f"{key}.pub"]).split()[1]
-            for question in questions:
-                lines = question.splitlines()
-                assert lines[0] == "Allow use of key key?" and lines[1] == f"Key fingerprint {fingerprint}.", question
+            begin = f"Allow use of key key?\nKey fingerprint {fingerprint}.\n"
+            assert sorted(questions) == sorted(begin + LINES[name] for name in wanted.split()), questions
 
 
 @check

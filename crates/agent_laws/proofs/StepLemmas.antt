@@ -167,7 +167,7 @@ module _ (life : Option ℕ) (moment : Moment) (asker : Asker) (held after : Key
       all_raised-more past _ after under_way.confirmations (λ job. refl) (all_raised-kept past held after under_way.confirmations kept all)
   raised-acts (raises_it key signing found none) order numbers kept all =
       all_raised-kept _ held after _ kept
-      (all_raised-push moment past held asker.port key signing (prompt_for key.comment key.blob) under_way.last_job under_way.second under_way.confirmations order numbers found all)
+      (all_raised-push moment past held asker.port key signing (prompt_for key.comment key.blob key.purposes signing.message) under_way.last_job under_way.second under_way.confirmations order numbers found all)
 
 module _ {N : Type 0} (life : Option ℕ) (past : List Stamped) (body_len : ℕ) (port : Port) (state : State) (found : find_port port.number state.ports ≡ Some port) (order : JobsRise 0 state.under_way.confirmations state.under_way.last_job) (opened : Opened N life past state) where
   abbrev body : List ℕ

@@ -191,7 +191,7 @@ module _ (body : List ℕ) (take : Port → Port) (keeps : (p : Port) → (take 
   served-attended (raised key signing free) =
       let job : ℕ = state.under_way.last_job + 1 in
       attended-opens state.ports _ (opens-served (Awaits (OnConfirmation job)))
-      (attended-raised state.under_way.last_job (confirmation_of job (held_for port.number key signing) (prompt_for key.comment key.blob) state.under_way.second) tied.raised.order refl refl (raised_room state.under_way free) (is_found _ port found) attended)
+      (attended-raised state.under_way.last_job (confirmation_of job (held_for port.number key signing) (prompt_for key.comment key.blob key.purposes signing.message) state.under_way.second) tied.raised.order refl refl (raised_room state.under_way free) (is_found _ port found) attended)
 
 -- ---- events
 

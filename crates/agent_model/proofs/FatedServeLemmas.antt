@@ -141,5 +141,5 @@ module _ (event : Happening) (body : List ℕ) (take : Port → Port) (mild : Is
   fated-served (raised key signing free) =
       let job : ℕ = state.under_way.last_job + 1 in
       silent state.held (with_confirmation key signing port.number state.under_way) (Awaits (OnConfirmation job)) _ _ refl
-      (raised-raised state.ports tied.raised port.number (confirmation_of job (held_for port.number key signing) (prompt_for key.comment key.blob) state.under_way.second) port (change (Awaits (OnConfirmation job))) refl refl refl (found_within port.number 0 state.last_port state.ports port tied.rising found) found nothing owed door mild.number mild.door (λ p. refl) (λ p none. ap (λ bytes. bytes ++ []) (mild.owed p none)))
+      (raised-raised state.ports tied.raised port.number (confirmation_of job (held_for port.number key signing) (prompt_for key.comment key.blob key.purposes signing.message) state.under_way.second) port (change (Awaits (OnConfirmation job))) refl refl refl (found_within port.number 0 state.last_port state.ports port tied.rising found) found nothing owed door mild.number mild.door (λ p. refl) (λ p none. ap (λ bytes. bytes ++ []) (mild.owed p none)))
       (λ ask is. absurd (cc)) (λ ask. refl)

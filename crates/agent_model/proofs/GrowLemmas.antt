@@ -74,9 +74,9 @@ asks_more {asker = asker} {under_way = under_way} (asked errand free right) =
     more-put None errand asker.port under_way
 asks_more {asker = asker} {under_way = under_way} (raised key signing free) = record {
   helper = λ number. refl;
-  confirmers = λ number. linked-behind number (confirmation_of (under_way.last_job + 1) (held_for asker.port key signing) (prompt_for key.comment key.blob) under_way.second) under_way.confirmations refl;
-  order = jobs-push 0 (confirmation_of (under_way.last_job + 1) (held_for asker.port key signing) (prompt_for key.comment key.blob) under_way.second) under_way.confirmations under_way.last_job refl;
+  confirmers = λ number. linked-behind number (confirmation_of (under_way.last_job + 1) (held_for asker.port key signing) (prompt_for key.comment key.blob key.purposes signing.message) under_way.second) under_way.confirmations refl;
+  order = jobs-push 0 (confirmation_of (under_way.last_job + 1) (held_for asker.port key signing) (prompt_for key.comment key.blob key.purposes signing.message) under_way.second) under_way.confirmations under_way.last_job refl;
   jobs = omega arith;
   asks = omega arith;
-  few = omega (arith, length-append under_way.confirmations (confirmation_of (under_way.last_job + 1) (held_for asker.port key signing) (prompt_for key.comment key.blob) under_way.second ∷ []));
+  few = omega (arith, length-append under_way.confirmations (confirmation_of (under_way.last_job + 1) (held_for asker.port key signing) (prompt_for key.comment key.blob key.purposes signing.message) under_way.second ∷ []));
 }

@@ -128,7 +128,7 @@ module _ (limits : TimeLimits) (second : ℕ) (time : GiveTime limits) where
     second = prompt.second;
     helper = prompt.helper;
     user = find-push_other (lasts limits.confirmation second) under_way.confirmations
-        (confirmation_of (under_way.last_job + 1) (held_for asker.port key signing) (prompt_for key.comment key.blob) under_way.second)
+        (confirmation_of (under_way.last_job + 1) (held_for asker.port key signing) (prompt_for key.comment key.blob key.purposes signing.message) under_way.second)
         (not_at_once limits.confirmation under_way.second second time.confirmation prompt.second) ∙ prompt.user;
   }
 

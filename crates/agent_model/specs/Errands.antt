@@ -177,8 +177,9 @@ abbrev pub with_confirmation : HeldKey → Signing → ℕ → UnderWay → Unde
 with_confirmation key signing asker under_way = record under_way {
   to_start = under_way.to_start ++ job_of (under_way.last_job + 1) kinds.Confirm ∷ [];
   confirmations =
-      raise (under_way.last_job + 1) (held_for asker key signing) (prompt_for key.comment key.blob)
-      under_way.second under_way.confirmations;
+      raise (under_way.last_job + 1) (held_for asker key signing)
+      (prompt_for key.comment key.blob key.purposes signing.message) under_way.second
+      under_way.confirmations;
   last_job = under_way.last_job + 1;
 }
 

@@ -1,6 +1,8 @@
+pub mod AskLemmas
 pub mod CutLemmas
 pub mod EndLemmas
 pub mod GrantLemmas
+pub mod LineLemmas
 pub mod OldestLemmas
 pub mod OwedLemmas
 pub mod PromptLemmas

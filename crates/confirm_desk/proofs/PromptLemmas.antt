@@ -1,26 +1,37 @@
 -- The text that the user is shown, part by part.
-use Rattle.std.proofs.Common.{◌≡◌, ℕ, ◌+◌, ◌*◌, ◌≤◌, List, [], ◌∷◌, ◌++◌, length, take, Result, Ok, Err, ◌∙◌, append_assoc, arith}
+use Rattle.std.proofs.Common.{◌≡◌, ℕ, ◌+◌, ◌*◌, ◌^◌, ◌<◌, ◌≤◌, List, [], ◌∷◌, ◌++◌, length, take, Result, Ok, Err, ◌∙◌, append_assoc, arith}
 use Rattle.std.proofs.lemmas.List.{length-append, length-map, length-take}
-use Rattle.std.specs.Prelude.{codes}
+use Rattle.std.proofs.lemmas.Fmt.{length-decimal-le}
+use Rattle.std.specs.Prelude.{codes, decimal}
 use Rattle.base64.specs.Engines.{standard_no_pad}
 use Rattle.base64.specs.GeneralPurpose.{encode_of}
 use Rattle.base64.specs.Rfc4648.{encode_symbols}
 use Rattle.sha2.specs.Sha256.{sha256}
 use Rattle.sha2.proofs.Facts256.{length-sha256}
 use Rattle.key_blob.specs.Fingerprints.{fingerprint_of, plain_blob}
+use Rattle.key_purposes.specs.declared.purpose.Purpose.{Purpose}
+use Rattle.userauth_blob.specs.UserAuths.{Login}
+use Rattle.userauth_blob.specs.Reading.{auth_of}
+use Rattle.userauth_blob.specs.declared.fault.AuthFault.{AuthFault}
+use Rattle.sshsig_blob.specs.FileSignatures.{Signing}
+use Rattle.sshsig_blob.specs.Reading.{signing_of}
+use Rattle.sshsig_blob.specs.declared.fault.SshsigFault.{SshsigFault}
 use Rattle.key_blob.specs.PublicKeys.{KeyParts, public_key_of}
 use Rattle.key_blob.specs.declared.fault.KeyFault.{KeyFault}
-use Rattle.confirm_desk.specs.Prompt.{fingerprint_by, prompt_for, prompt_of, shown_byte, shown_comment}
+use Rattle.confirm_desk.specs.Prompt.{fingerprint_by, prompt_for, prompt_of, purpose_line, shown_byte, shown_text}
 
 -- a part after another
 pub parts-assoc : (a b c d e : List ℕ) → (((a ++ b) ++ c) ++ d) ++ e ≡ a ++ (b ++ (c ++ (d ++ e)))
 parts-assoc a b c d e = append_assoc ((a ++ b) ++ c) d e ∙ append_assoc (a ++ b) c (d ++ e) ∙ append_assoc a b (c ++ (d ++ e))
 
+pub three-assoc : (a b c d : List ℕ) → ((a ++ b) ++ c) ++ d ≡ a ++ (b ++ (c ++ d))
+three-assoc a b c d = append_assoc (a ++ b) c d ∙ append_assoc a b (c ++ d)
+
 -- how long it may be
 pub prompt_is_short : (comment fingerprint : List ℕ) → length (prompt_of comment fingerprint) ≤ 292 + length fingerprint
 unfolding prompt_of
 prompt_is_short comment fingerprint =
-    let shown : List ℕ = shown_comment comment in
+    let shown : List ℕ = shown_text 256 comment in
     let long : length shown ≤ 256 = omega (arith, length-map (take 256 comment) shown_byte, length-take 256 comment) in
     let ending = codes "." in
     let line = codes "Key fingerprint " ++ (fingerprint ++ ending) in
@@ -55,7 +66,50 @@ short_by : (read : Result KeyParts KeyFault) → length (fingerprint_by read) �
 short_by (Ok key) = fingerprint_is_short key
 short_by (Err fault) = omega arith
 
--- the text for any held key
-pub prompt_for_is_short : (comment blob : List ℕ) → length (prompt_for comment blob) ≤ 363
-prompt_for_is_short comment blob =
+-- the two lines for any held key
+pub key_prompt_is_short : (comment blob : List ℕ) → length (prompt_of comment (fingerprint_by (public_key_of blob))) ≤ 363
+key_prompt_is_short comment blob =
     omega (arith, prompt_is_short comment (fingerprint_by (public_key_of blob)), short_by (public_key_of blob))
+
+-- ---- the third line
+
+shown_is_short : (most : ℕ) (text : List ℕ) → length (shown_text most text) ≤ most
+shown_is_short most text = omega (arith, length-map (take most text) shown_byte, length-take most text)
+
+line_is_short : (auth : Result Login AuthFault) (file : Result Signing SshsigFault) (len : ℕ)
+    → len < 2 ^ 64 → length (purpose_line auth file len) ≤ 94
+line_is_short (Ok login) file len small =
+    let user : List ℕ = shown_text 64 login.user in
+    omega (
+      arith,
+      shown_is_short 64 login.user,
+      length-append user (codes "."),
+      length-append (codes "For a login as ") (user ++ codes "."),
+    )
+line_is_short (Err fault) (Ok file) len small =
+    let name : List ℕ = shown_text 64 file.namespace in
+    omega (
+      arith,
+      shown_is_short 64 file.namespace,
+      length-append name (codes "."),
+      length-append (codes "For a signature in namespace ") (name ++ codes "."),
+    )
+line_is_short (Err fault) (Err none) len small =
+    omega (
+      arith,
+      length-decimal-le 20 len (omega arith) (omega (arith, small)) small,
+      length-append (decimal len) (codes " bytes."),
+      length-append (codes "For other data of ") (decimal len ++ codes " bytes."),
+    )
+
+-- the text for any held key and message
+pub prompt_for_is_short : (comment blob : List ℕ) (purposes : List Purpose) (message : List ℕ)
+    → length message < 2 ^ 64 → length (prompt_for comment blob purposes message) ≤ 512
+prompt_for_is_short comment blob [] message small = omega (arith, key_prompt_is_short comment blob)
+prompt_for_is_short comment blob (purpose ∷ purposes) message small =
+    omega (
+      arith,
+      key_prompt_is_short comment blob,
+      line_is_short (auth_of message blob) (signing_of message) (length message) small,
+      length-append (prompt_of comment (fingerprint_by (public_key_of blob))) (10 ∷ purpose_line (auth_of message blob) (signing_of message) (length message)),
+    )

@@ -3,6 +3,7 @@ pub mod Calls
 pub mod Confirmations
 pub mod Cuts
 pub mod Grants
+pub mod Lines
 pub mod Prompt
 pub mod Samples
 pub mod Sound

@@ -4,7 +4,7 @@
 ghost use Rattle.std.specs.Prelude.{◌≡◌, [], ◌∷◌, ◌++◌, codes, drop, length, replicate, Some, None};
 ghost use Rattle.confirm_desk.specs.Calls.{next_owed, raise_fault, telling, took_at};
 ghost use Rattle.confirm_desk.specs.Confirmations.{NotYet, Yes, No, consent, find_asker, find_job, find_linked, linked, lose, oldest, owed_to, raise, told};
-ghost use Rattle.confirm_desk.specs.Prompt.{prompt_of, shown_comment};
+ghost use Rattle.confirm_desk.specs.Prompt.{prompt_of, shown_text};
 ghost use Rattle.confirm_desk.specs.Samples.{answer, first_back, first_frame, first_with, second_back, second_frame, second_with, third_held, two, two_linked};
 ghost use Rattle.confirm_desk.specs.declared.fault.DeskFault.TheVariants as faults;
 ghost use Rattle.confirm_desk.specs.declared.held.Verdict.TheVariants as verdicts;
@@ -101,10 +101,10 @@ pub fn a_decision_ends_one_confirmation()
 pub fn prompts_are_printable()
     ensures text { prompt_of (codes "one") (codes "SHA256:ab")
         ≡ codes "Allow use of key one?" ++ (10 ∷ codes "Key fingerprint SHA256:ab.") }
-    ensures escape { shown_comment (27 ∷ 91 ∷ 50 ∷ 74 ∷ 10 ∷ 0 ∷ []) ≡ codes "?[2J??" }
-    ensures above { shown_comment (126 ∷ 127 ∷ 195 ∷ 169 ∷ 255 ∷ []) ≡ codes "~????" }
-    ensures space { shown_comment (31 ∷ 32 ∷ 33 ∷ []) ≡ codes "? !" }
-    ensures none { shown_comment [] ≡ [] }
-    ensures whole { length (shown_comment (replicate 256 97)) ≡ 256 }
-    ensures cut { shown_comment (replicate 256 97 ++ codes "b") ≡ replicate 256 97 }
+    ensures escape { shown_text 256 (27 ∷ 91 ∷ 50 ∷ 74 ∷ 10 ∷ 0 ∷ []) ≡ codes "?[2J??" }
+    ensures above { shown_text 256 (126 ∷ 127 ∷ 195 ∷ 169 ∷ 255 ∷ []) ≡ codes "~????" }
+    ensures space { shown_text 256 (31 ∷ 32 ∷ 33 ∷ []) ≡ codes "? !" }
+    ensures none { shown_text 256 [] ≡ [] }
+    ensures whole { length (shown_text 256 (replicate 256 97)) ≡ 256 }
+    ensures cut { shown_text 256 (replicate 256 97 ++ codes "b") ≡ replicate 256 97 }
 {}

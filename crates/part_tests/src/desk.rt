@@ -5,6 +5,7 @@ ghost use Rattle.confirm_desk.specs.Confirmations.{AreRaisedBy};
 ghost use Rattle.confirm_desk.specs.Samples.{two_linked};
 
 use confirm_desk::*;
+use key_purposes::Purpose;
 use plain_lists::Bytes;
 use std::alloc::{AllocError, Global};
 use std::test::Fail;
@@ -156,7 +157,7 @@ fn a_prompt_fools_no_terminal(rt: HostRuntime) -> Result<(), Fail> {
     )?;
     want.extend_from_slice(SHOWN)?;
     want.extend_from_slice(b".")?;
-    let text = prompt_for(rt.alloc(), b"\x1b[1A\x1b[2Kcaf\xc3\xa9.", BLOB)?;
+    let text = prompt_for(rt.alloc(), b"\x1b[1A\x1b[2Kcaf\xc3\xa9.", BLOB, &[], b"m")?;
     assert_eq!(rt; text.as_slice(), want.as_slice());
     let text = prompt(rt.alloc(), b"", b"F")?;
     assert_eq!(rt;
@@ -170,10 +171,30 @@ fn a_prompt_fools_no_terminal(rt: HostRuntime) -> Result<(), Fail> {
     want.extend_from_slice(b"?\nKey fingerprint F.")?;
     assert_eq!(rt; text.as_slice(), want.as_slice());
     // A blob that is no key has no fingerprint.
-    let text = prompt_for(rt.alloc(), b"one", b"")?;
+    let text = prompt_for(rt.alloc(), b"one", b"", &[], b"m")?;
     assert_eq!(rt;
         text.as_slice(),
         b"Allow use of key one?\nKey fingerprint .".as_slice()
     );
+    Ok(())
+}
+
+#[test]
+fn a_key_with_purposes_shows_what_is_signed(rt: HostRuntime) -> Result<(), Fail> {
+    let cases: [(&[u8], &[u8]); 3] = [
+        (b"", b"For other data of 0 bytes."),
+        (&[7; 1234], b"For other data of 1234 bytes."),
+        // OpenSSH's PROTOCOL.sshsig, "Signed Data": the namespace git, no reserved bytes, a digest of SHA-256.
+        (
+            b"SSHSIG\0\0\0\x03git\0\0\0\0\0\0\0\x06sha256\0\0\0\x2001234567890123456789012345678901",
+            b"For a signature in namespace git.",
+        ),
+    ];
+    for (message, line) in cases {
+        let mut want = Vec::from_slice(rt.alloc(), b"Allow use of key one?\nKey fingerprint .\n")?;
+        want.extend_from_slice(line)?;
+        let text = prompt_for(rt.alloc(), b"one", b"", &[Purpose::Other], message)?;
+        assert_eq!(rt; text.as_slice(), want.as_slice());
+    }
     Ok(())
 }

@@ -3,6 +3,7 @@
 ghost use Rattle.std.specs.Prelude.{◌≡◌, ◌+◌, ◌-◌, ◌^◌, ◌<◌, ◌≤◌, [], ◌++◌, ◌∷◌, IfOk, IsSome, OnOk, length, Some, None};
 ghost use Rattle.std.specs.Option.{option_map};
 ghost use Rattle.confirm_desk.specs.Calls.{given_back, held_of, telling as desk_telling, took_at};
+ghost use Rattle.confirm_desk.specs.Prompt.{prompt_for};
 ghost use Rattle.confirm_desk.specs.Confirmations.{find_asker, find_job, find_linked, owed_to, raise};
 ghost use Rattle.agent_model.specs.Consents.{without_confirmation};
 ghost use Rattle.agent_model.specs.Errands.{ask_user, job_of};
@@ -39,7 +40,7 @@ impl UnderWay {
             return Ok(None);
         }
         let held = self.hold(asker, key, message, flags)?;
-        let text = prompt_for(*self.started.allocator(), key.comment(), key.blob())?;
+        let text = self.question(key, message)?;
         self.raise(held, &text)?;
         Ok(Some(self.last_job))
     }
@@ -84,6 +85,17 @@ impl UnderWay {
 }
 
 impl UnderWay {
+    // What the user is asked.
+    fn question(&self, key: &Identity, message: &[u8]) -> Result<Vec<u8>, AllocError>
+        requires { length message.now ≤ longest_body }
+        ensures text { IfOk result (λ text. text.items
+            ≡ prompt_for key.now.comment key.now.blob key.now.purposes message.now) }
+        ensures short { IfOk result (λ text. length text.items ≤ 512) }
+    {
+        let alloc = *self.started.allocator();
+        prompt_for(alloc, key.comment(), key.blob(), key.purposes(), message)
+    }
+
     // What is to be signed, for the client that waits.
     fn hold(
         &self,
@@ -114,7 +126,7 @@ impl UnderWay {
         requires last { self.old.last_job < 2 ^ 64 - 1 }
         requires asker { find_asker held.asker self.old.confirmations ≡ None }
         requires short { length held.message ≤ longest_body }
-        requires text { length text.now ≤ 363 }
+        requires text { length text.now ≤ 512 }
 
         ensures { OnOk result (self.new ≡ record self.old {
           to_start = self.old.to_start ++ (job_of (self.old.last_job + 1) JobKind.Confirm ∷ []);

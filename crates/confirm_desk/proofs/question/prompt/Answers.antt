@@ -13,10 +13,9 @@ returns-clause-text c =
       c.in_ok-extend_from_slice-2.ensures.items,
       c.in_ok-extend_from_slice.ensures.items,
       c.in_ok-push_shown.ensures,
-      c.shown_part.ensures,
       c.in_ok-text.ensures.items,
     )
-    (parts-assoc (codes "Allow use of key ") (Prompt.shown_comment c.args.comment.now) (63 ∷ (10 ∷ codes "Key fingerprint ")) c.args.fingerprint.now (codes "."))
+    (parts-assoc (codes "Allow use of key ") (Prompt.shown_text 256 c.args.comment.now) (63 ∷ (10 ∷ codes "Key fingerprint ")) c.args.fingerprint.now (codes "."))
 
 pub returns-clause-short : goal.returns-clause-short
 returns-clause-short c =

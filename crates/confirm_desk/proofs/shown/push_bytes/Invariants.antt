@@ -1,6 +1,6 @@
 use Rattle.std.proofs.Common.{◌≡◌, ◌++◌, map, take}
 use Rattle.confirm_desk.specs.Prompt.{shown_byte}
-use Rattle.confirm_desk.proofs.question.push_shown.Given as goal
+use Rattle.confirm_desk.proofs.shown.push_bytes.Given as goal
 
 -- so far the first bytes are appended
 abbrev pub invariant-loop-byte : goal.invariant-loop-byte

@@ -2,7 +2,7 @@ use Rattle.std.proofs.Common.{◌+◌, ◌≤◌, length, arith}
 use Rattle.std.proofs.lemmas.Result.{IfOk-weaker}
 use Rattle.key_blob.specs.PublicKeys.{parts_of}
 use Rattle.confirm_desk.proofs.PromptLemmas.{fingerprint_is_short}
-use Rattle.confirm_desk.proofs.question.prompt_for.Goals as goal
+use Rattle.confirm_desk.proofs.question.prompt_of_key.Goals as goal
 
 pub returns-in_ok-shown-in-Ok-clause-short : goal.returns-in_ok-shown-in-Ok-clause-short
 returns-in_ok-shown-in-Ok-clause-short c =

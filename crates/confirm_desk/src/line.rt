@@ -1,0 +1,68 @@
+//! The third line of the question: what a key with purposes is to sign a message for.
+
+ghost use Rattle.std.specs.Prelude.{◌≡◌, ◌++◌, IfOk, Err, codes, decimal, length};
+ghost use Rattle.userauth_blob.specs.Reading.{auth_of};
+ghost use Rattle.userauth_blob.specs.declared.fault.AuthFault.{AuthFault};
+ghost use Rattle.sshsig_blob.specs.Reading.{signing_of};
+ghost use Rattle.confirm_desk.specs.Prompt.{purpose_line, shown_text};
+
+use crate::shown::push_shown;
+use itoa::Buffer;
+use sshsig_blob::read_sshsig;
+use std::alloc::AllocError;
+use userauth_blob::read_userauth;
+
+/// How much is shown of a user and of a namespace (ours).
+const MAX_NAME: usize = 64;
+
+/// Appends what the key of this blob is to sign the message for.
+pub fn push_line(text: &mut Vec<u8>, blob: &[u8], message: &[u8]) -> Result<(), AllocError>
+    ensures { IfOk result (λ _. text.new.items ≡ text.old.items ++ purpose_line (auth_of message.now blob.now)
+        (signing_of message.now) (length message.now)) }
+{
+    match read_userauth(message, blob) {
+        Ok(login) => push_sentence(text, b"For a login as ", login.user),
+        Err(_) => push_data(text, message),
+    }
+}
+
+// Appends the line of what is no login.
+fn push_data(text: &mut Vec<u8>, message: &[u8]) -> Result<(), AllocError>
+    ensures { (fault : AuthFault) → IfOk result (λ _. text.new.items ≡ text.old.items
+        ++ purpose_line (Err fault) (signing_of message.now) (length message.now)) }
+{
+    match read_sshsig(message) {
+        Ok(file) => push_sentence(text, b"For a signature in namespace ", file.namespace),
+        Err(_) => push_size(text, message.len()),
+    }
+}
+
+// Appends these words, and then a name and a full stop.
+fn push_sentence(text: &mut Vec<u8>, words: &[u8], name: &[u8]) -> Result<(), AllocError>
+    ensures { IfOk result (λ _. text.new.items ≡ text.old.items ++ (words.now ++ (shown_text 64 name.now ++ codes "."))) }
+{
+    text.extend_from_slice(words)?;
+    push_shown(text, name, MAX_NAME)?;
+    text.push(b'.')?;
+    Ok(())
+}
+
+// Appends the line of other data of so many bytes.
+fn push_size(text: &mut Vec<u8>, len: usize) -> Result<(), AllocError>
+    ensures { IfOk result (λ _. text.new.items
+        ≡ text.old.items ++ (codes "For other data of " ++ (decimal len ++ codes " bytes."))) }
+{
+    text.extend_from_slice(b"For other data of ")?;
+    push_number(text, len)?;
+    text.extend_from_slice(b" bytes.")?;
+    Ok(())
+}
+
+// Appends a number in decimal.
+fn push_number(text: &mut Vec<u8>, number: usize) -> Result<(), AllocError>
+    ensures { IfOk result (λ _. text.new.items ≡ text.old.items ++ decimal number) }
+{
+    let mut digits = Buffer::new();
+    text.extend_from_slice(digits.format(number).as_bytes())?;
+    Ok(())
+}

@@ -1,0 +1,33 @@
+"""What the user is asked before a key is used (docs/PROTOCOL.md, "Confirmation (ours)")."""
+
+from __future__ import annotations
+
+import base64
+import hashlib
+
+from .formats import login, public_key
+from .purposes import is_login, namespace_of
+from .rules import Purposes
+
+
+def shown(text: bytes, most: int) -> bytes:
+    """At most so many bytes of a text, each that isn't printable ASCII as a question mark."""
+    return bytes(byte if 0x20 <= byte <= 0x7E else ord("?") for byte in text[:most])
+
+
+def line_of(blob: bytes, message: bytes) -> bytes:
+    """What a message is for."""
+    if is_login(message, blob):
+        user = login(message, blob)[1]
+        return b"For a login as " + shown(user, 64) + b"."
+    namespace = namespace_of(message)
+    if namespace is not None:
+        return b"For a signature in namespace " + shown(namespace, 64) + b"."
+    return b"For other data of %d bytes." % len(message)
+
+
+def question(comment: bytes, blob: bytes, purposes: Purposes, line: bytes) -> bytes:
+    """The key's comment and the fingerprint of its plain key, and for one with purposes what the message is for."""
+    digest = base64.b64encode(hashlib.sha256(public_key(blob).plain_blob).digest()).rstrip(b"=")
+    text = b"Allow use of key %s?\nKey fingerprint SHA256:%s." % (shown(comment, 256), digest)
+    return text + b"\n" + line if purposes else text
