@@ -910,10 +910,13 @@ def a_question_ends_by_the_limit_that_is_chosen(folder):
                 assert 1 <= waited < 12, waited
                 until(lambda: not is_alive(dialog), what="the dialog's end")
                 assert peer.ask(LIST)[0] == IDENTITIES
-    # The same of its record, run with the same word; without it the question is open still.
-    for chosen, fails in (["--confirm-limit", "2"], 1), (["-t", "1h", "--confirm-limit", "2s"], 1), ([], 0):
+    # The same of its record, run with the same word. Without it the question is open still, so that the client is owed no
+    # refusal, and the line where it takes one is refused.
+    for chosen, status, fails in (["--confirm-limit", "2"], 0, 1), (["-t", "1h", "--confirm-limit", "2s"], 0, 1), ([], 1, 0):
         with open(folder / "record", "rb") as file:
-            done = run([PROGRAM, "replay", *chosen], stdin=file)
+            ran = subprocess.run([PROGRAM, "replay", *chosen], stdin=file, capture_output=True, text=True)
+        done = ran.stdout
+        assert ran.returncode == status, (chosen, done, ran.stderr)
         assert len(re.findall(r"^to [0-9]+ 0000000105$", done, re.M)) == fails, (chosen, done)
 
 
