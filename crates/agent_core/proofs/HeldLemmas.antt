@@ -164,7 +164,7 @@ undenied (Some cause) permits = absurd (cc)
 pub served-signed : (asker : CoreAsker) (key : HeldKey) (signing : Signing) (held : KeyState) (under_way : UnderWay) → held.lock ≡ None
     → find_identity signing.blob held.table.identities ≡ Some key
     → objection key signing.blob asker.chain.now.bindings signing.message asker.wall ≡ None
-    → sign_work key.confirm asker.port key signing.message signing.flags under_way
+    → sign_work key.confirm asker key signing.message signing.flags under_way
     ≡ (served_by asker (Sign signing) held under_way).work
 served-signed asker key signing held under_way unlocked found permitted =
     let client : Asker = asker_of asker held in
@@ -174,7 +174,7 @@ served-signed asker key signing held under_way unlocked found permitted =
     ∙ sym (ap (λ f. sign_by f client signing under_way) found)
     ∙ sym (ap (λ lock. (serve_by lock (Sign signing) client held under_way).work) unlocked)
   where
-    by_confirm : (confirm : Bool) → sign_work confirm asker.port key signing.message signing.flags under_way ≡ sign_with confirm (asker_of asker held) key (record signing { blob = key.blob }) under_way
+    by_confirm : (confirm : Bool) → sign_work confirm asker key signing.message signing.flags under_way ≡ sign_with confirm (asker_of asker held) key (record signing { blob = key.blob }) under_way
     by_confirm true = refl
     by_confirm false = refl
 
@@ -249,9 +249,9 @@ asked_short keys key blob message found short within =
 -- ---- what a signature uses
 
 -- a confirmation uses no key yet
-pub raise_unused : (fault : Option Cause) (key : HeldKey) (signing : Signing) (asker : ℕ) (under_way : UnderWay) → None ≡ (raise_unless fault key signing asker under_way).used
-raise_unused None key signing asker under_way = refl
-raise_unused (Some cause) key signing asker under_way = refl
+pub raise_unused : (fault : Option Cause) (key : HeldKey) (host : Option (List ℕ)) (signing : Signing) (asker : ℕ) (under_way : UnderWay) → None ≡ (raise_unless fault key host signing asker under_way).used
+raise_unused None key host signing asker under_way = refl
+raise_unused (Some cause) key host signing asker under_way = refl
 
 -- an ask that is put uses its key
 pub put_used : (fault : Option Cause) (key : HeldKey) (signing : Signing) (asker : ℕ) (under_way : UnderWay) (asked : Option ℕ) → TellsOf (put_unless fault (Signs key signing) asker under_way).verdict asked → option_map (λ _. key.number) asked ≡ (put_unless fault (Signs key signing) asker under_way).used

@@ -1,6 +1,7 @@
 -- What the code tells of requests (ours).
 use Rattle.std.specs.Prelude.{◌≡◌, ℕ, ◌+◌, ◌≤◌, Bool, true, false, not, List, Option, None, Some, IfSome, length}
 use Rattle.identity_table.specs.Identities.{HeldKey, TableState}
+use Rattle.dest_rule.specs.Hosts.{login_host}
 use Rattle.agent_msg.specs.Requests.{ClientRequest, ListIdentities, Sign, Add, Remove, RemoveAll, Lock, Unlock, Bind, OtherExtension, Unsupported}
 use Rattle.wire_text.specs.Bounds.{longest_body}
 use Rattle.agent_model.specs.Binds.{agent_request_of, with_host_key}
@@ -54,12 +55,13 @@ abbrev pub binds : List ℕ → List ℕ → List ℕ → Bool → ClientRequest
 binds host_key session signature forwarding =
     Bind record { host_key = host_key; session = session; signature = signature; forwarding = forwarding }
 
--- what comes of a signature with this key for the client of this port, by whether the user is to be asked
-abbrev pub sign_work : Bool → ℕ → HeldKey → List ℕ → ℕ → UnderWay → Work
-sign_work true port key message flags under_way =
-    ask_user key (record { blob = key.blob; message = message; flags = flags }) port under_way
-sign_work false port key message flags under_way =
-    put_ask (Signs key (record { blob = key.blob; message = message; flags = flags })) port under_way
+-- what comes of a signature with this key for this asker, by whether the user is to be asked
+abbrev pub sign_work : Bool → CoreAsker → HeldKey → List ℕ → ℕ → UnderWay → Work
+sign_work true asker key message flags under_way =
+    ask_user key (login_host key.rules key.blob asker.chain.now.bindings message asker.wall)
+    (record { blob = key.blob; message = message; flags = flags }) asker.port under_way
+sign_work false asker key message flags under_way =
+    put_ask (Signs key (record { blob = key.blob; message = message; flags = flags })) asker.port under_way
 
 -- what is told of a verdict: what is waited for, or nothing where it is a refusal
 abbrev pub TellsWait : Verdict → Option CoreWaits → Type 0

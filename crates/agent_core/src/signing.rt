@@ -14,6 +14,7 @@ ghost use Rattle.agent_core.specs.Served.{TellsWait, sign_work, keys_of, served_
 use crate::asker::Asker;
 use crate::granted::permits;
 use crate::waits::Waits;
+use dest_rule::login_host;
 use identity_table::{Identity, Lock, Table};
 use std::alloc::AllocError;
 use under_way::UnderWay;
@@ -100,7 +101,7 @@ fn put_signing(
     }
     match table.find(blob) {
         Some(key) if permits(key, blob, asker.chain, message, asker.wall) => {
-            sign_with(asker.port, under_way, key, message, flags)
+            sign_with(asker, under_way, key, message, flags)
         }
         _ => Ok(REFUSED),
     }
@@ -108,7 +109,7 @@ fn put_signing(
 
 // Puts a signature with this key to the helper, or asks the user first where its uses are to be confirmed.
 fn sign_with(
-    port: u64,
+    asker: &Asker<'_>,
     under_way: &mut UnderWay,
     key: &Identity,
     message: &[u8],
@@ -116,24 +117,25 @@ fn sign_with(
 ) -> Result<Signing, AllocError>
     requires short { 25 + length key.now.private + length key.now.blob + length message.now ≤ longest_to_child }
     requires message { length message.now ≤ longest_body }
-    requires alone { find_asker port under_way.old.confirmations ≡ None }
+    requires alone { find_asker asker.now.port under_way.old.confirmations ≡ None }
 
-    ensures under_way { OnOk result (under_way.new ≡ (sign_work key.now.confirm port key.now message.now flags
+    ensures under_way { OnOk result (under_way.new ≡ (sign_work key.now.confirm asker.now key.now message.now flags
         under_way.old).under_way) }
     ensures told { IfOk result (λ signing. TellsWait
-        (sign_work key.now.confirm port key.now message.now flags under_way.old).verdict signing.waits) }
+        (sign_work key.now.confirm asker.now key.now message.now flags under_way.old).verdict signing.waits) }
     ensures used { IfOk result (λ signing. signing.used
-        ≡ (sign_work key.now.confirm port key.now message.now flags under_way.old).used) }
+        ≡ (sign_work key.now.confirm asker.now key.now message.now flags under_way.old).used) }
     ensures own { IfOk result (λ signing. IfSome signing.used (λ addition. addition ≡ key.now.number)) }
 {
     if key.confirm() {
-        let job = under_way.ask_user(port, key, message, flags)?;
+        let host = login_host(key.rules(), key.blob(), asker.chain, message, asker.wall);
+        let job = under_way.ask_user(asker.port, key, host, message, flags)?;
         Ok(Signing {
             waits: on_confirmation(job),
             used: None,
         })
     } else {
-        let ask = under_way.put_sign(port, key, message, flags)?;
+        let ask = under_way.put_sign(asker.port, key, message, flags)?;
         Ok(Signing {
             waits: on_ask(ask),
             used: used_by(key, ask),

@@ -14,7 +14,7 @@ use Rattle.identity_table.specs.Identities.{HeldKey, find_identity}
 use Rattle.identity_table.proofs.FindLemmas.{if_alive}
 use Rattle.agent_model.specs.Actions.{Work, settles}
 use Rattle.agent_model.specs.Askable.{HasRoom, IsRefusedFor, IsUsable}
-use Rattle.agent_model.specs.Dispatch.{Asker, Served, serve, unread}
+use Rattle.agent_model.specs.Dispatch.{Asker, Served, host_for, serve, unread}
 use Rattle.agent_model.specs.Errands.{Errand, Signs, Verifies, purpose_of, put_unless, raise_unless}
 use Rattle.agent_model.specs.KeyStates.{KeyState}
 use Rattle.agent_model.specs.Objections.{objection, objection_by}
@@ -37,7 +37,7 @@ pub data Acts (N : Type 0) (due : Option Claim) (asker : Asker) (held : KeyState
       → Acts N due asker held under_way (put_unless None errand asker.port under_way)
   raises_it : (key : HeldKey) (signing : Signing)
       → find_identity signing.blob held.table.identities ≡ Some key → (N → due ≡ None)
-      → Acts N due asker held under_way (raise_unless None key signing asker.port under_way)
+      → Acts N due asker held under_way (raise_unless None key (host_for asker key signing) signing asker.port under_way)
 
 -- the claim, where it is met by what the past tells
 abbrev pub met_with : Option Claim → Option ℕ → ℕ → ℕ → Facts → (ℕ → List Binding) → List (ℕ × ℕ)

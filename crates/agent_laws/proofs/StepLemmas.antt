@@ -14,7 +14,7 @@ use Rattle.confirm_desk.specs.Prompt.{prompt_for}
 use Rattle.agent_model.specs.Asking.{JobsRise}
 use Rattle.agent_model.specs.Binds.{agent_request_of}
 use Rattle.agent_model.specs.Errands.{purpose_of}
-use Rattle.agent_model.specs.Dispatch.{Asker, Served, serve}
+use Rattle.agent_model.specs.Dispatch.{Asker, Served, host_for, serve}
 use Rattle.agent_model.specs.Events.{Happening}
 use Rattle.agent_model.specs.KeyStates.{KeyState}
 use Rattle.agent_model.specs.Runs.{Stamped}
@@ -167,7 +167,7 @@ module _ (life : Option ℕ) (moment : Moment) (asker : Asker) (held after : Key
       all_raised-more past _ after under_way.confirmations (λ job. refl) (all_raised-kept past held after under_way.confirmations kept all)
   raised-acts (raises_it key signing found none) order numbers kept all =
       all_raised-kept _ held after _ kept
-      (all_raised-push moment past held asker.port key signing (prompt_for key.comment key.blob key.purposes signing.message) under_way.last_job under_way.second under_way.confirmations order numbers found all)
+      (all_raised-push moment past held asker.port key signing (prompt_for key.comment key.blob key.purposes (host_for asker key signing) signing.message) under_way.last_job under_way.second under_way.confirmations order numbers found all)
 
 module _ {N : Type 0} (life : Option ℕ) (past : List Stamped) (body_len : ℕ) (port : Port) (state : State) (found : find_port port.number state.ports ≡ Some port) (order : JobsRise 0 state.under_way.confirmations state.under_way.last_job) (opened : Opened N life past state) where
   abbrev body : List ℕ

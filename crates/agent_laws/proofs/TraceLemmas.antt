@@ -14,7 +14,7 @@ use Rattle.agent_model.specs.Actions.{Action, Granted, Outcome, Over, Raised, Ra
 use Rattle.agent_model.specs.Answers.{answers_in, lose_if, with_answers}
 use Rattle.agent_model.specs.Asking.{JobsRise}
 use Rattle.agent_model.specs.Consents.{without_confirmation}
-use Rattle.agent_model.specs.Dispatch.{Asker, Served}
+use Rattle.agent_model.specs.Dispatch.{Asker, Served, host_for}
 use Rattle.agent_model.specs.Errands.{held_for}
 use Rattle.agent_model.specs.Events.{Happening, Tick, Timed}
 use Rattle.agent_model.specs.Fates.{actions_of}
@@ -257,7 +257,7 @@ module _ (job : ℕ) where
       traces-plain job under_way _ _ (tt, (tt, tt)) (jobs-for under_way.link.state under_way.last_job) refl
   traces-served {asker = asker} {under_way = under_way} requesting rise (raised key signing free) =
       traces-raised job under_way _ requesting (record { job = under_way.last_job + 1; port = asker.port; addition = key.number; signing = signing })
-      (confirmation_of (under_way.last_job + 1) (held_for asker.port key signing) (prompt_for key.comment key.blob key.purposes signing.message) under_way.second) rise refl refl refl refl refl
+      (confirmation_of (under_way.last_job + 1) (held_for asker.port key signing) (prompt_for key.comment key.blob key.purposes (host_for asker key signing) signing.message) under_way.second) rise refl refl refl refl refl
 
   module _ (confirmation : Confirmation) (under_way : UnderWay) (rise : JobsRise 0 under_way.confirmations under_way.last_job) (there : find_job confirmation.job under_way.confirmations ≡ Some confirmation) where
     traces-over : Traces job under_way (Over confirmation.job ∷ []) (without_confirmation confirmation.job under_way)

@@ -18,7 +18,7 @@ use Rattle.agent_model.specs.Answers.{answers_in, close_helper, lose, lose_if, w
 use Rattle.agent_model.specs.Asking.{AreAttended, IsAttended}
 use Rattle.agent_model.specs.Children.{changed, closed, unheard}
 use Rattle.agent_model.specs.Consents.{close_confirmer, grant_concluded, over_if, without_confirmation}
-use Rattle.agent_model.specs.Dispatch.{Served}
+use Rattle.agent_model.specs.Dispatch.{Served, host_for}
 use Rattle.agent_model.specs.Errands.{begun_by, held_for, raise_fault, raise_fault_by}
 use Rattle.agent_model.specs.Events.{Happening, Joined, Heard, Ended, Took, Started, StartFailed, Tick, Timed}
 use Rattle.agent_model.specs.Limits.{most_confirmations}
@@ -191,7 +191,7 @@ module _ (body : List ℕ) (take : Port → Port) (keeps : (p : Port) → (take 
   served-attended (raised key signing free) =
       let job : ℕ = state.under_way.last_job + 1 in
       attended-opens state.ports _ (opens-served (Awaits (OnConfirmation job)))
-      (attended-raised state.under_way.last_job (confirmation_of job (held_for port.number key signing) (prompt_for key.comment key.blob key.purposes signing.message) state.under_way.second) tied.raised.order refl refl (raised_room state.under_way free) (is_found _ port found) attended)
+      (attended-raised state.under_way.last_job (confirmation_of job (held_for port.number key signing) (prompt_for key.comment key.blob key.purposes (host_for (asker_at state.moment port) key signing) signing.message) state.under_way.second) tied.raised.order refl refl (raised_room state.under_way free) (is_found _ port found) attended)
 
 -- ---- events
 

@@ -13,7 +13,7 @@ use Rattle.confirm_desk.specs.Confirmations.{confirmation_of}
 use Rattle.confirm_desk.specs.Prompt.{prompt_for}
 use Rattle.agent_model.specs.Actions.{Action, Asked, Outcome, Requested}
 use Rattle.agent_model.specs.Children.{changed}
-use Rattle.agent_model.specs.Dispatch.{Served}
+use Rattle.agent_model.specs.Dispatch.{Served, host_for}
 use Rattle.agent_model.specs.Errands.{Errand, addition_of, begun_by, held_for, blob_of, kind_of, message_of, purpose_of, with_ask, with_confirmation}
 use Rattle.agent_model.specs.Events.{Happening, Ended}
 use Rattle.agent_model.specs.Fates.{IsTold, Unanswered, fate_of, fate_verdict}
@@ -140,6 +140,6 @@ module _ (event : Happening) (body : List ℕ) (take : Port → Port) (mild : Is
   fated-served (asked errand free right) = puts (after_use (addition_of errand) state.held) errand
   fated-served (raised key signing free) =
       let job : ℕ = state.under_way.last_job + 1 in
-      silent state.held (with_confirmation key signing port.number state.under_way) (Awaits (OnConfirmation job)) _ _ refl
-      (raised-raised state.ports tied.raised port.number (confirmation_of job (held_for port.number key signing) (prompt_for key.comment key.blob key.purposes signing.message) state.under_way.second) port (change (Awaits (OnConfirmation job))) refl refl refl (found_within port.number 0 state.last_port state.ports port tied.rising found) found nothing owed door mild.number mild.door (λ p. refl) (λ p none. ap (λ bytes. bytes ++ []) (mild.owed p none)))
+      silent state.held (with_confirmation key (host_for (asker_at state.moment port) key signing) signing port.number state.under_way) (Awaits (OnConfirmation job)) _ _ refl
+      (raised-raised state.ports tied.raised port.number (confirmation_of job (held_for port.number key signing) (prompt_for key.comment key.blob key.purposes (host_for (asker_at state.moment port) key signing) signing.message) state.under_way.second) port (change (Awaits (OnConfirmation job))) refl refl refl (found_within port.number 0 state.last_port state.ports port tied.rising found) found nothing owed door mild.number mild.door (λ p. refl) (λ p none. ap (λ bytes. bytes ++ []) (mild.owed p none)))
       (λ ask is. absurd (cc)) (λ ask. refl)

@@ -8,7 +8,7 @@ use Rattle.helper_link.specs.HelperLink.{ask_of}
 use Rattle.helper_link.specs.declared.state.LinkState.{LinkState}
 use Rattle.helper_link.specs.declared.state.LinkState.TheVariants as states
 use Rattle.agent_model.specs.Asking.{JobsRise}
-use Rattle.agent_model.specs.Dispatch.{Asker, Served}
+use Rattle.agent_model.specs.Dispatch.{Asker, Served, host_for}
 use Rattle.agent_model.specs.Errands.{Errand, begun_by, held_for, blob_of, kind_of, last_job_for, put_unless}
 use Rattle.agent_model.specs.KeyStates.{KeyState}
 use Rattle.agent_model.specs.State.{UnderWay, is_linked_to}
@@ -74,9 +74,9 @@ asks_more {asker = asker} {under_way = under_way} (asked errand free right) =
     more-put None errand asker.port under_way
 asks_more {asker = asker} {under_way = under_way} (raised key signing free) = record {
   helper = λ number. refl;
-  confirmers = λ number. linked-behind number (confirmation_of (under_way.last_job + 1) (held_for asker.port key signing) (prompt_for key.comment key.blob key.purposes signing.message) under_way.second) under_way.confirmations refl;
-  order = jobs-push 0 (confirmation_of (under_way.last_job + 1) (held_for asker.port key signing) (prompt_for key.comment key.blob key.purposes signing.message) under_way.second) under_way.confirmations under_way.last_job refl;
+  confirmers = λ number. linked-behind number (confirmation_of (under_way.last_job + 1) (held_for asker.port key signing) (prompt_for key.comment key.blob key.purposes (host_for asker key signing) signing.message) under_way.second) under_way.confirmations refl;
+  order = jobs-push 0 (confirmation_of (under_way.last_job + 1) (held_for asker.port key signing) (prompt_for key.comment key.blob key.purposes (host_for asker key signing) signing.message) under_way.second) under_way.confirmations under_way.last_job refl;
   jobs = omega arith;
   asks = omega arith;
-  few = omega (arith, length-append under_way.confirmations (confirmation_of (under_way.last_job + 1) (held_for asker.port key signing) (prompt_for key.comment key.blob key.purposes signing.message) under_way.second ∷ []));
+  few = omega (arith, length-append under_way.confirmations (confirmation_of (under_way.last_job + 1) (held_for asker.port key signing) (prompt_for key.comment key.blob key.purposes (host_for asker key signing) signing.message) under_way.second ∷ []));
 }

@@ -22,7 +22,7 @@ use Rattle.helper_link.proofs.AnswerLemmas.{settling_leads}
 use Rattle.agent_model.specs.Actions.{Outcome, Work}
 use Rattle.agent_model.specs.Answers.{answers_in, lose_if, with_answers}
 use Rattle.agent_model.specs.Consents.{signing_of, without_confirmation}
-use Rattle.agent_model.specs.Dispatch.{Asker, Served}
+use Rattle.agent_model.specs.Dispatch.{Asker, Served, host_for}
 use Rattle.agent_model.specs.Errands.{Errand, Signs, held_for, blob_of, kind_of, with_ask}
 use Rattle.agent_model.specs.Events.{Happening}
 use Rattle.agent_model.specs.KeyStates.{KeyState}
@@ -128,7 +128,7 @@ module _ (limits : TimeLimits) (second : ℕ) (time : GiveTime limits) where
     second = prompt.second;
     helper = prompt.helper;
     user = find-push_other (lasts limits.confirmation second) under_way.confirmations
-        (confirmation_of (under_way.last_job + 1) (held_for asker.port key signing) (prompt_for key.comment key.blob key.purposes signing.message) under_way.second)
+        (confirmation_of (under_way.last_job + 1) (held_for asker.port key signing) (prompt_for key.comment key.blob key.purposes (host_for asker key signing) signing.message) under_way.second)
         (not_at_once limits.confirmation under_way.second second time.confirmation prompt.second) ∙ prompt.user;
   }
 

@@ -4,7 +4,7 @@ use Rattle.std.specs.Str.{bytes_eq}
 use Rattle.identity_table.specs.Identities.{HeldKey, find_identity, identities_with, is_full, remove_identity}
 use Rattle.agent_msg.specs.declared.fault.MsgFault.{MsgFault}
 use Rattle.agent_msg.specs.Requests.{Addition, BindRequest, ClientRequest, Signing, ListIdentities, Sign, Add, Remove, RemoveAll, Lock, Unlock, Bind, OtherExtension, Unsupported}
-use Rattle.agent_model.specs.Dispatch.{with_addition, with_identities, Asker, Served, add_by, add_fault, add_seen, add_unless, answers, bind_by, keeps, lock_by, refuses, remove_by, remove_seen, seen_by, sees, serve, serve_by, serve_locked, serve_unlocked, sign_by, sign_unless, sign_with, unlock_by, unread, uses}
+use Rattle.agent_model.specs.Dispatch.{with_addition, with_identities, Asker, Served, add_by, add_fault, add_seen, add_unless, answers, bind_by, host_for, keeps, lock_by, refuses, remove_by, remove_seen, seen_by, sees, serve, serve_by, serve_locked, serve_unlocked, sign_by, sign_unless, sign_with, unlock_by, unread, uses}
 use Rattle.agent_model.specs.Errands.{Errand, Signs, Verifies, ask_fault, put_unless, raise_fault, raise_unless}
 use Rattle.agent_msg.specs.Reading.{request_of}
 use Rattle.key_blob.specs.PublicKeys.{KeyParts, public_key_of}
@@ -34,7 +34,7 @@ pub data IsServed (asker : Asker) (held : KeyState) (under_way : UnderWay) : Ser
   asked : (errand : Errand) → ask_fault under_way ≡ None → MayPut asker errand
       → IsServed asker held under_way (uses held (put_unless None errand asker.port under_way))
   raised : (key : HeldKey) (signing : Signing) → raise_fault under_way ≡ None
-      → IsServed asker held under_way (uses held (raise_unless None key signing asker.port under_way))
+      → IsServed asker held under_way (uses held (raise_unless None key (host_for asker key signing) signing asker.port under_way))
 
 -- the ends of a request, one for each effect
 pub data Serves (read : Result ClientRequest MsgFault) (asker : Asker) (held : KeyState) (under_way : UnderWay) : Served → Type 0 where
@@ -57,7 +57,7 @@ pub data Serves (read : Result ClientRequest MsgFault) (asker : Asker) (held : K
       → Serves read asker held under_way (uses held (put_unless None (Signs key signing) asker.port under_way))
   confirms : (signing : Signing) (key : HeldKey) → read ≡ Ok (Sign signing)
       → find_identity signing.blob held.table.identities ≡ Some key → raise_fault under_way ≡ None
-      → Serves read asker held under_way (uses held (raise_unless None key signing asker.port under_way))
+      → Serves read asker held under_way (uses held (raise_unless None key (host_for asker key signing) signing asker.port under_way))
   verifies : (bind : BindRequest) (is_new : Bool) → read ≡ Ok (Bind bind)
       → judge bind.host_key bind.session asker.chain ≡ judged is_new → ask_fault under_way ≡ None
       → Serves read asker held under_way (keeps held (put_unless None (Verifies bind is_new) asker.port under_way))
@@ -109,7 +109,7 @@ module _ (read : Result ClientRequest MsgFault) (asker : Asker) (held : KeyState
       serves-put None fault asks = signs signing key is found asks fault
 
       serves-raise : (fault : Option Cause) → raise_fault under_way ≡ fault →
-          Is (uses held (raise_unless fault key signing asker.port under_way))
+          Is (uses held (raise_unless fault key (host_for asker key signing) signing asker.port under_way))
       serves-raise (Some cause) fault = denies cause
       serves-raise None fault = confirms signing key is found fault
 

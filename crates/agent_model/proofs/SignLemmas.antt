@@ -8,7 +8,7 @@ use Rattle.agent_model.specs.Askable.{HasConfirmationRoom, HasRoom, IsJudgedAs, 
 use Rattle.dest_rule.specs.Rules.{denial_under}
 use Rattle.key_purposes.specs.Messages.{let_sign}
 use Rattle.dest_rule.specs.declared.denial.Denial.{Denial}
-use Rattle.agent_model.specs.Dispatch.{Asker, serve, serve_by, sign_by, sign_unless, sign_with}
+use Rattle.agent_model.specs.Dispatch.{Asker, host_for, serve, serve_by, sign_by, sign_unless, sign_with}
 use Rattle.agent_model.specs.Errands.{Signs, ask_fault, put_unless, raise_fault, raise_fault_by, raise_unless}
 use Rattle.agent_model.specs.KeyStates.{KeyState}
 use Rattle.agent_model.specs.Limits.{last_number, most_confirmations}
@@ -22,7 +22,7 @@ pub data Comes (signing : Signing) (asker : Asker) (held : KeyState) (under_way 
   refused : (cause : Cause) → IsRefusedFor cause signing asker held under_way
       → Comes signing asker held under_way (settles (Refuses cause) under_way)
   raises : (usable : IsUsable signing true asker held) → HasConfirmationRoom under_way
-      → Comes signing asker held under_way (raise_unless None usable.permitted.key signing asker.port under_way)
+      → Comes signing asker held under_way (raise_unless None usable.permitted.key (host_for asker usable.permitted.key signing) signing asker.port under_way)
   put : (usable : IsUsable signing false asker held) → HasRoom under_way
       → Comes signing asker held under_way (put_unless None (Signs usable.permitted.key signing) asker.port under_way)
 
@@ -30,14 +30,14 @@ module _ (signing : Signing) (asker : Asker) (held : KeyState) (under_way : Unde
   module _ (usable : IsUsable signing true asker held) where
     comes-raised : (spent : Bool) → (under_way.last_job == last_number) ≡ spent
         → length under_way.confirmations < 16
-        → Comes signing asker held under_way (raise_unless (if spent then Some JobsSpent else None) usable.permitted.key signing asker.port under_way)
+        → Comes signing asker held under_way (raise_unless (if spent then Some JobsSpent else None) usable.permitted.key (host_for asker usable.permitted.key signing) signing asker.port under_way)
     comes-raised true is few = refused JobsSpent (inr (usable, few, grind (arith, nat_tests)))
     comes-raised false is few =
         raises usable record { few = few; jobs = λ spent. grind (arith, nat_tests) }
 
     comes-raise : (full : Bool)
         → not (nat_lt (length under_way.confirmations) most_confirmations) ≡ full
-        → Comes signing asker held under_way (raise_unless (raise_fault_by full under_way.last_job) usable.permitted.key signing asker.port under_way)
+        → Comes signing asker held under_way (raise_unless (raise_fault_by full under_way.last_job) usable.permitted.key (host_for asker usable.permitted.key signing) signing asker.port under_way)
     comes-raise true is = refused TooManyConfirmations (usable, grind (arith, nat_tests))
     comes-raise false is =
         comes-raised (under_way.last_job == last_number) refl (grind (arith, nat_tests))
@@ -149,11 +149,11 @@ module _ (signing : Signing) (asker : Asker) (held : KeyState) (under_way : Unde
   -- the user is asked, unless something stands against it
   usable-raise : (fault : Option Cause) (usable : IsUsable signing true asker held)
       → raise_fault under_way ≡ fault
-      → (serve (Ok (Sign signing)) asker held under_way).work ≡ raise_unless fault usable.permitted.key signing asker.port under_way
+      → (serve (Ok (Sign signing)) asker held under_way).work ≡ raise_unless fault usable.permitted.key (host_for asker usable.permitted.key signing) signing asker.port under_way
   usable-raise fault usable is =
       judged-work None usable.permitted
       ∙ ap (λ confirm. sign_with confirm asker usable.permitted.key signing under_way) usable.confirm
-      ∙ ap (λ f. raise_unless f usable.permitted.key signing asker.port under_way) is
+      ∙ ap (λ f. raise_unless f usable.permitted.key (host_for asker usable.permitted.key signing) signing asker.port under_way) is
 
   raise_fault_of : (most : Bool)
       → not (nat_lt (length under_way.confirmations) most_confirmations) ≡ most
@@ -162,7 +162,7 @@ module _ (signing : Signing) (asker : Asker) (held : KeyState) (under_way : Unde
 
   -- what the user may be asked for is asked for
   pub raise-usable : (usable : IsUsable signing true asker held) → HasConfirmationRoom under_way
-      → (serve (Ok (Sign signing)) asker held under_way).work ≡ raise_unless None usable.permitted.key signing asker.port under_way
+      → (serve (Ok (Sign signing)) asker held under_way).work ≡ raise_unless None usable.permitted.key (host_for asker usable.permitted.key signing) signing asker.port under_way
   raise-usable usable room =
       let apart : under_way.last_job ≢ 2 ^ 64 - 1 = room.jobs in
       let unspent : (under_way.last_job == last_number) ≡ false = grind (arith, nat_tests) in

@@ -14,6 +14,7 @@ use Rattle.agent_model.specs.Actions.{Work, settles}
 use Rattle.agent_model.specs.Errands.{Signs, Verifies, ask_user, put_ask}
 use Rattle.agent_model.specs.Limits.{last_number}
 use Rattle.dest_rule.specs.Chains.{judge}
+use Rattle.dest_rule.specs.Hosts.{login_host}
 use Rattle.dest_rule.specs.declared.fault.Next.{Next as Judgement}
 use Rattle.dest_rule.specs.declared.fault.Next.TheVariants.{New, Refuse, Same}
 use Rattle.dest_rule.specs.Rules.{visible}
@@ -64,9 +65,14 @@ seen_by asker held = map shown (filter (sees asker) held.table.identities)
 
 -- ---- requests to sign
 
+-- the host that the asker logs in to, by the identity's destination constraints
+abbrev pub host_for : Asker → HeldKey → Signing → Option (List ℕ)
+host_for asker key signing = login_host key.rules key.blob asker.chain signing.message asker.wall
+
 -- a signature that is permitted is put to the helper, or the user is asked first
 abbrev pub sign_with : Bool → Asker → HeldKey → Signing → UnderWay → Work
-sign_with true asker key signing under_way = ask_user key signing asker.port under_way
+sign_with true asker key signing under_way =
+    ask_user key (host_for asker key signing) signing asker.port under_way
 sign_with false asker key signing under_way = put_ask (Signs key signing) asker.port under_way
 
 -- a request to sign with a key that is held, by what its purposes and its destination constraints say

@@ -172,22 +172,22 @@ held_for asker key signing =
           = signing.flags;
     }
 
--- what is under way once the user is to be asked
-abbrev pub with_confirmation : HeldKey → Signing → ℕ → UnderWay → UnderWay
-with_confirmation key signing asker under_way = record under_way {
+-- what is under way once the user is to be asked, of a login to this host where that is known
+abbrev pub with_confirmation : HeldKey → (host : Option (List ℕ)) → Signing → ℕ → UnderWay → UnderWay
+with_confirmation key host signing asker under_way = record under_way {
   to_start = under_way.to_start ++ job_of (under_way.last_job + 1) kinds.Confirm ∷ [];
   confirmations =
       raise (under_way.last_job + 1) (held_for asker key signing)
-      (prompt_for key.comment key.blob key.purposes signing.message) under_way.second
+      (prompt_for key.comment key.blob key.purposes host signing.message) under_way.second
       under_way.confirmations;
   last_job = under_way.last_job + 1;
 }
 
 -- the user is asked, unless there is a cause not to
-abbrev pub raise_unless : Option Cause → HeldKey → Signing → ℕ → UnderWay → Work
-raise_unless (Some cause) key signing asker under_way = settles (Refuses cause) under_way
-raise_unless None key signing asker under_way = record {
-  under_way = with_confirmation key signing asker under_way;
+abbrev pub raise_unless : Option Cause → HeldKey → (host : Option (List ℕ)) → Signing → ℕ → UnderWay → Work
+raise_unless (Some cause) key host signing asker under_way = settles (Refuses cause) under_way
+raise_unless None key host signing asker under_way = record {
+  under_way = with_confirmation key host signing asker under_way;
   verdict = Awaits (OnConfirmation (under_way.last_job + 1));
   actions = Raised (record {
     job = under_way.last_job + 1;
@@ -201,6 +201,6 @@ raise_unless None key signing asker under_way = record {
 
 -- the user is asked for a client, by a child process of its own, and the client waits for the
 -- consent
-abbrev pub ask_user : HeldKey → Signing → ℕ → UnderWay → Work
-ask_user key signing asker under_way =
-    raise_unless (raise_fault under_way) key signing asker under_way
+abbrev pub ask_user : HeldKey → (host : Option (List ℕ)) → Signing → ℕ → UnderWay → Work
+ask_user key host signing asker under_way =
+    raise_unless (raise_fault under_way) key host signing asker under_way

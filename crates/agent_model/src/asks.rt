@@ -8,7 +8,7 @@ ghost use Rattle.helper_link.specs.declared.state.LinkState.TheVariants as state
 ghost use Rattle.world_ports.specs.declared.Door.TheVariants.{Children};
 ghost use Rattle.agent_msg.specs.Requests.{Sign, Signing};
 ghost use Rattle.agent_model.specs.Askable.{HasConfirmationRoom, HasRoom, IsRefusedFor, IsUsable};
-ghost use Rattle.agent_model.specs.Dispatch.{Asker, serve};
+ghost use Rattle.agent_model.specs.Dispatch.{Asker, host_for, serve};
 ghost use Rattle.agent_model.specs.Errands.{Signs, put_unless, raise_unless};
 ghost use Rattle.agent_model.specs.Events.{Ended, Happening, Heard, Timed, Took};
 ghost use Rattle.agent_model.specs.Fates.{Fails, IsTold, NoneEnds, Unanswered, actions_of, fate_of, fate_verdict, fault_fate, or_later, settled_fate, times_answered, times_asked};
@@ -88,7 +88,8 @@ pub fn a_signature_is_asked_for_exactly_where_it_may_be()
     ensures question { (signing : Signing) (asker : Asker) (held : KeyState) (under_way : UnderWay)
         (usable : IsUsable signing true asker held) → HasConfirmationRoom under_way
         → (serve (Ok (Sign signing)) asker held under_way).work
-        ≡ raise_unless None usable.permitted.key signing asker.port under_way }
+        ≡ raise_unless None usable.permitted.key (host_for asker usable.permitted.key signing) signing
+        asker.port under_way }
     ensures refused { (cause : Cause) (signing : Signing) (asker : Asker) (held : KeyState)
         (under_way : UnderWay) → ((serve (Ok (Sign signing)) asker held under_way).work.verdict
         ≡ Refuses cause) ↔ IsRefusedFor cause signing asker held under_way }

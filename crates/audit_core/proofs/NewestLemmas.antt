@@ -14,7 +14,7 @@ use Rattle.helper_link.specs.declared.fault.LinkFault.{LinkFault}
 use Rattle.agent_model.specs.Actions.{Action, Asked, Lost, Outcome, Over, Stepped, Work, stepped}
 use Rattle.agent_model.specs.Answers.{answers_in, helper_tells, lose, lose_if, with_answers}
 use Rattle.agent_model.specs.Consents.{over, signing_of}
-use Rattle.agent_model.specs.Dispatch.{Asker, Served}
+use Rattle.agent_model.specs.Dispatch.{Asker, Served, host_for}
 use Rattle.agent_model.specs.Errands.{Errand, Signs, Verifies, asking_of, blob_of, kind_of, raise_unless, with_ask}
 use Rattle.agent_model.specs.Events.{Happening}
 use Rattle.agent_model.specs.KeyStates.{KeyState}
@@ -109,7 +109,7 @@ module _ (line : ℕ) where
   served {under_way = under_way} (answered reply kept same) = puts-none under_way.link.last [] under_way.link refl refl
   served {under_way = under_way} (refused cause) = puts-none under_way.link.last [] under_way.link refl refl
   served {asker = asker} {under_way = under_way} (asked errand free may) = puts-asked errand asker.port under_way
-  served {asker = asker} {under_way = under_way} (raised key signing free) = puts-none under_way.link.last (raise_unless None key signing asker.port under_way).actions under_way.link refl refl
+  served {asker = asker} {under_way = under_way} (raised key signing free) = puts-none under_way.link.last (raise_unless None key (host_for asker key signing) signing asker.port under_way).actions under_way.link refl refl
 
   granted : {chain : List Binding} {one : Confirmation} {wall : ℕ} {held : KeyState} {under_way : UnderWay} {work : Work}
       → IsGranted chain one wall held under_way work

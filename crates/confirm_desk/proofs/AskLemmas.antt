@@ -45,6 +45,7 @@ asks-linked port one asks = record {
   comment = asks.comment;
   blob = asks.blob;
   purposes = asks.purposes;
+  host = asks.host;
   taken = asks.taken;
   owed = asks.owed;
 }
@@ -54,6 +55,7 @@ asks-took count one asks = record {
   comment = asks.comment;
   blob = asks.blob;
   purposes = asks.purposes;
+  host = asks.host;
   taken = asks.taken + count;
   owed = ap (drop count) asks.owed ∙ drop-drop count asks.taken _;
 }
@@ -63,17 +65,18 @@ asks-heard piece one asks = record {
   comment = asks.comment;
   blob = asks.blob;
   purposes = asks.purposes;
+  host = asks.host;
   taken = asks.taken;
   owed = asks.owed;
 }
 
 -- ---- calls
 
-pub asks-raised : (job : ℕ) (held : Held) (comment blob : List ℕ) (purposes : List Purpose) (now : ℕ)
+pub asks-raised : (job : ℕ) (held : Held) (comment blob : List ℕ) (purposes : List Purpose) (host : Option (List ℕ)) (now : ℕ)
     (all : List Confirmation) → AskAboutThem all
-    → AskAboutThem (raise job held (prompt_for comment blob purposes held.message) now all)
-asks-raised job held comment blob purposes now all asks =
-    each-push AsksAboutIt all _ (record { comment = comment; blob = blob; purposes = purposes; taken = 0; owed = refl }) asks
+    → AskAboutThem (raise job held (prompt_for comment blob purposes host held.message) now all)
+asks-raised job held comment blob purposes host now all asks =
+    each-push AsksAboutIt all _ (record { comment = comment; blob = blob; purposes = purposes; host = host; taken = 0; owed = refl }) asks
 
 pub asks-link : (job port : ℕ) (all : List Confirmation) → AskAboutThem all → AskAboutThem (linked job port all)
 asks-link job port all asks =

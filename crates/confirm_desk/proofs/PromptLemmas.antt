@@ -1,5 +1,5 @@
 -- The text that the user is shown, part by part.
-use Rattle.std.proofs.Common.{◌≡◌, ℕ, ◌+◌, ◌*◌, ◌^◌, ◌<◌, ◌≤◌, List, [], ◌∷◌, ◌++◌, length, take, Result, Ok, Err, ◌∙◌, append_assoc, arith}
+use Rattle.std.proofs.Common.{◌≡◌, ℕ, ◌+◌, ◌*◌, ◌^◌, ◌<◌, ◌≤◌, List, [], ◌∷◌, ◌++◌, length, take, Option, Some, None, Result, Ok, Err, ◌∙◌, append_assoc, arith}
 use Rattle.std.proofs.lemmas.List.{length-append, length-map, length-take}
 use Rattle.std.proofs.lemmas.Fmt.{length-decimal-le}
 use Rattle.std.specs.Prelude.{codes, decimal}
@@ -18,7 +18,7 @@ use Rattle.sshsig_blob.specs.Reading.{signing_of}
 use Rattle.sshsig_blob.specs.declared.fault.SshsigFault.{SshsigFault}
 use Rattle.key_blob.specs.PublicKeys.{KeyParts, public_key_of}
 use Rattle.key_blob.specs.declared.fault.KeyFault.{KeyFault}
-use Rattle.confirm_desk.specs.Prompt.{fingerprint_by, prompt_for, prompt_of, purpose_line, shown_byte, shown_text}
+use Rattle.confirm_desk.specs.Prompt.{fingerprint_by, prompt_for, prompt_of, purpose_line, shown_byte, shown_text, to_host}
 
 -- a part after another
 pub parts-assoc : (a b c d e : List ℕ) → (((a ++ b) ++ c) ++ d) ++ e ≡ a ++ (b ++ (c ++ (d ++ e)))
@@ -76,17 +76,24 @@ key_prompt_is_short comment blob =
 shown_is_short : (most : ℕ) (text : List ℕ) → length (shown_text most text) ≤ most
 shown_is_short most text = omega (arith, length-map (take most text) shown_byte, length-take most text)
 
-line_is_short : (auth : Result Login AuthFault) (file : Result Signing SshsigFault) (len : ℕ)
-    → len < 2 ^ 64 → length (purpose_line auth file len) ≤ 94
-line_is_short (Ok login) file len small =
+to_host_is_short : (host : Option (List ℕ)) → length (to_host host) ≤ 68
+to_host_is_short None = omega arith
+to_host_is_short (Some host) = omega (arith, shown_is_short 64 host, length-append (codes " to ") (shown_text 64 host))
+
+line_is_short : (host : Option (List ℕ)) (auth : Result Login AuthFault) (file : Result Signing SshsigFault) (len : ℕ)
+    → len < 2 ^ 64 → length (purpose_line host auth file len) ≤ 148
+line_is_short host (Ok login) file len small =
     let user : List ℕ = shown_text 64 login.user in
+    let ending : List ℕ = to_host host ++ codes "." in
     omega (
       arith,
       shown_is_short 64 login.user,
-      length-append user (codes "."),
-      length-append (codes "For a login as ") (user ++ codes "."),
+      to_host_is_short host,
+      length-append (to_host host) (codes "."),
+      length-append user ending,
+      length-append (codes "For a login as ") (user ++ ending),
     )
-line_is_short (Err fault) (Ok file) len small =
+line_is_short host (Err fault) (Ok file) len small =
     let name : List ℕ = shown_text 64 file.namespace in
     omega (
       arith,
@@ -94,7 +101,7 @@ line_is_short (Err fault) (Ok file) len small =
       length-append name (codes "."),
       length-append (codes "For a signature in namespace ") (name ++ codes "."),
     )
-line_is_short (Err fault) (Err none) len small =
+line_is_short host (Err fault) (Err none) len small =
     omega (
       arith,
       length-decimal-le 20 len (omega arith) (omega (arith, small)) small,
@@ -103,13 +110,13 @@ line_is_short (Err fault) (Err none) len small =
     )
 
 -- the text for any held key and message
-pub prompt_for_is_short : (comment blob : List ℕ) (purposes : List Purpose) (message : List ℕ)
-    → length message < 2 ^ 64 → length (prompt_for comment blob purposes message) ≤ 512
-prompt_for_is_short comment blob [] message small = omega (arith, key_prompt_is_short comment blob)
-prompt_for_is_short comment blob (purpose ∷ purposes) message small =
+pub prompt_for_is_short : (comment blob : List ℕ) (purposes : List Purpose) (host : Option (List ℕ)) (message : List ℕ)
+    → length message < 2 ^ 64 → length (prompt_for comment blob purposes host message) ≤ 512
+prompt_for_is_short comment blob [] host message small = omega (arith, key_prompt_is_short comment blob)
+prompt_for_is_short comment blob (purpose ∷ purposes) host message small =
     omega (
       arith,
       key_prompt_is_short comment blob,
-      line_is_short (auth_of message blob) (signing_of message) (length message) small,
-      length-append (prompt_of comment (fingerprint_by (public_key_of blob))) (10 ∷ purpose_line (auth_of message blob) (signing_of message) (length message)),
+      line_is_short host (auth_of message blob) (signing_of message) (length message) small,
+      length-append (prompt_of comment (fingerprint_by (public_key_of blob))) (10 ∷ purpose_line host (auth_of message blob) (signing_of message) (length message)),
     )

@@ -1,6 +1,7 @@
 -- What the question's third line tells of a message (ours): beside `purpose_line`, which writes it.
-use Rattle.std.specs.Prelude.{◌≡◌, ℕ, List, [], length, drop, None, Result, Ok, Err}
+use Rattle.std.specs.Prelude.{◌≡◌, ℕ, ◌==◌, false, List, [], ◌++◌, length, drop, codes, Option, Some, None, Result, Ok, Err}
 use Rattle.std.specs.List.{AllByRecursion}
+use Rattle.std.specs.Option.{option_map}
 use Rattle.wire_text.specs.Wire.{string}
 use Rattle.child_msg.specs.ChildFrames.{to_child_body}
 use Rattle.child_msg.specs.Messages.{Confirm}
@@ -15,38 +16,61 @@ use Rattle.sshsig_blob.specs.declared.fault.SshsigFault.TheVariants.{Preamble}
 use Rattle.confirm_desk.specs.Confirmations.{Confirmation}
 use Rattle.confirm_desk.specs.Prompt.{prompt_for, purpose_line, shown_text}
 
--- the line for a message that the key of this blob is to sign
-abbrev pub line_of : (message blob : List ℕ) → List ℕ
-line_of message blob = purpose_line (auth_of message blob) (signing_of message) (length message)
+-- the line for a message that the key of this blob is to sign, to log in to this host where that is known
+abbrev pub line_of : (host : Option (List ℕ)) → (message blob : List ℕ) → List ℕ
+line_of host message blob = purpose_line host (auth_of message blob) (signing_of message) (length message)
 
 -- the line for a login of this user
-abbrev pub login_as : List ℕ → List ℕ
-login_as user = purpose_line (Ok record { session = []; user = user; host_key = None }) (Err Preamble) 0
+abbrev pub login_as : (host : Option (List ℕ)) → List ℕ → List ℕ
+login_as host user = purpose_line host (Ok record { session = []; user = user; host_key = None }) (Err Preamble) 0
 
--- the user of a login and the namespace of a file, as they are shown, or how many bytes other data has
+-- the user of a login, and its host where that is known, and the namespace of a file, as they are shown, or how many
+-- bytes other data has
 pub data Told : Type 0 where
-  LoginAs : (user : List ℕ) → Told
+  LoginAs : (user : List ℕ) → (host : Option (List ℕ)) → Told
   FileIn : (namespace : List ℕ) → Told
   DataOf : (len : ℕ) → Told
 
 -- what is told of what a message reads as
-abbrev pub told_by : Result Login AuthFault → Result Signing SshsigFault → ℕ → Told
-told_by (Ok login) file len = LoginAs (shown_text 64 login.user)
-told_by (Err fault) (Ok file) len = FileIn (shown_text 64 file.namespace)
-told_by (Err fault) (Err none) len = DataOf len
+abbrev pub told_by : (host : Option (List ℕ)) → Result Login AuthFault → Result Signing SshsigFault → ℕ → Told
+told_by host (Ok login) file len = LoginAs (shown_text 64 login.user) (option_map (shown_text 64) host)
+told_by host (Err fault) (Ok file) len = FileIn (shown_text 64 file.namespace)
+told_by host (Err fault) (Err none) len = DataOf len
 
 -- what is told of a message that the key of this blob is to sign
-abbrev pub told_of : (message blob : List ℕ) → Told
-told_of message blob = told_by (auth_of message blob) (signing_of message) (length message)
+abbrev pub told_of : (host : Option (List ℕ)) → (message blob : List ℕ) → Told
+told_of host message blob = told_by host (auth_of message blob) (signing_of message) (length message)
+
+-- a login's user and host as they stand behind one another
+abbrev pub user_and_host : List ℕ → Option (List ℕ) → List ℕ
+user_and_host user None = user
+user_and_host user (Some host) = user ++ (codes " to " ++ host)
+
+-- both are logins whose user and host are shown as one text, files in one namespace, or other data of one length
+abbrev pub ReadAlike : Told → Told → Type 0
+ReadAlike (LoginAs user host) (LoginAs other other_host) = user_and_host user host ≡ user_and_host other other_host
+ReadAlike (FileIn namespace) (FileIn other) = namespace ≡ other
+ReadAlike (DataOf len) (DataOf other) = len ≡ other
+ReadAlike (LoginAs user host) (FileIn namespace) = ⊥
+ReadAlike (LoginAs user host) (DataOf len) = ⊥
+ReadAlike (FileIn namespace) (LoginAs user host) = ⊥
+ReadAlike (FileIn namespace) (DataOf len) = ⊥
+ReadAlike (DataOf len) (LoginAs user host) = ⊥
+ReadAlike (DataOf len) (FileIn namespace) = ⊥
+
+-- no byte of the name is a space
+abbrev pub HasNoSpace : List ℕ → Type 0
+HasNoSpace name = AllByRecursion (λ byte. (byte == 32) ≡ false) name
 
 -- what its child process is owed is what is left of a question about the very message that is held for the consent
 pub record AsksAboutIt (one : Confirmation) : Type 0 where
   pub comment : List ℕ
   pub blob : List ℕ
   pub purposes : List Purpose
+  pub host : Option (List ℕ)
   pub taken : ℕ
   pub owed : one.owed
-      ≡ drop taken (string (to_child_body (Confirm one.job (prompt_for comment blob purposes one.message))))
+      ≡ drop taken (string (to_child_body (Confirm one.job (prompt_for comment blob purposes host one.message))))
 
 -- so it is of each confirmation
 abbrev pub AskAboutThem : List Confirmation → Type 0

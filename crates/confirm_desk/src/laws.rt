@@ -1,12 +1,12 @@
 //! What stands of a desk over many calls.
 
-ghost use Rattle.std.specs.Prelude.{◌≡◌, ◌≢◌, ◌^◌, ◌<◌, ◌≤◌, ℕ, All, IsSomeAnd, List, [], None, Some, length};
+ghost use Rattle.std.specs.Prelude.{◌≡◌, ◌≢◌, ◌^◌, ◌<◌, ◌≤◌, ℕ, All, IsSomeAnd, List, [], Option, None, Some, length};
 ghost use Rattle.wire_text.specs.Wire.{IsBytes};
 ghost use Rattle.confirm_desk.specs.Calls.{telling, took_at};
 ghost use Rattle.confirm_desk.specs.Confirmations.{AreRaisedBy, Confirmation, Held, Yes, consent, find_asker, find_job, find_linked, linked, lose, most_confirmations, oldest, raise, told, took};
 ghost use Rattle.confirm_desk.specs.Cuts.{joined, told_in_turn};
 ghost use Rattle.confirm_desk.specs.Grants.{StartsWithGrant};
-ghost use Rattle.confirm_desk.specs.Lines.{AskAboutThem, line_of, told_of};
+ghost use Rattle.confirm_desk.specs.Lines.{AskAboutThem, HasNoSpace, ReadAlike, line_of, told_of};
 ghost use Rattle.confirm_desk.specs.Prompt.{prompt_for};
 ghost use Rattle.key_purposes.specs.declared.purpose.Purpose.{Purpose};
 ghost use Rattle.confirm_desk.specs.Sound.{IsSound, RiseTo};
@@ -97,24 +97,37 @@ pub fn none_was_raised_after_the_last_second()
 
 /// Two messages with one third line are of one kind: logins of users, files in namespaces that are shown alike, or
 /// other data of one length.
+///
+/// Of logins to one host, or to none that is known, the users are shown alike, and of logins to hosts whose names have
+/// no space the hosts too. A user with ` to ` in its name may read as one and a host.
 pub fn a_third_line_tells_what_is_signed()
-    ensures { (message blob other other_blob : List ℕ) → length message < 2 ^ 64 → length other < 2 ^ 64
-        → line_of message blob ≡ line_of other other_blob → told_of message blob ≡ told_of other other_blob }
+    ensures same_host { (host : Option (List ℕ)) (message blob other other_blob : List ℕ)
+        → length message < 2 ^ 64 → length other < 2 ^ 64
+        → line_of host message blob ≡ line_of host other other_blob
+        → told_of host message blob ≡ told_of host other other_blob }
+    ensures hosts { (host other_host message blob other other_blob : List ℕ)
+        → length message < 2 ^ 64 → length other < 2 ^ 64 → HasNoSpace host → HasNoSpace other_host
+        → line_of (Some host) message blob ≡ line_of (Some other_host) other other_blob
+        → told_of (Some host) message blob ≡ told_of (Some other_host) other other_blob }
+    ensures alike { (host other_host : Option (List ℕ)) (message blob other other_blob : List ℕ)
+        → length message < 2 ^ 64 → length other < 2 ^ 64
+        → line_of host message blob ≡ line_of other_host other other_blob
+        → ReadAlike (told_of host message blob) (told_of other_host other other_blob) }
 {}
 
 /// A question has 512 bytes at most.
 pub fn questions_are_short()
-    ensures { (comment blob : List ℕ) (purposes : List Purpose) (message : List ℕ) → length message < 2 ^ 64
-        → length (prompt_for comment blob purposes message) ≤ 512 }
+    ensures { (comment blob : List ℕ) (purposes : List Purpose) (host : Option (List ℕ)) (message : List ℕ)
+        → length message < 2 ^ 64 → length (prompt_for comment blob purposes host message) ≤ 512 }
 {}
 
 /// What a child process is asked is about the very message that is held for the consent: so it is of each question that
 /// is raised for that message, whatever is called then.
 pub fn questions_are_about_what_is_held()
     ensures first { AskAboutThem [] }
-    ensures raised { (job : ℕ) (held : Held) (comment blob : List ℕ) (purposes : List Purpose) (now : ℕ)
-        (desk : List Confirmation) → AskAboutThem desk
-        → AskAboutThem (raise job held (prompt_for comment blob purposes held.message) now desk) }
+    ensures raised { (job : ℕ) (held : Held) (comment blob : List ℕ) (purposes : List Purpose)
+        (host : Option (List ℕ)) (now : ℕ) (desk : List Confirmation) → AskAboutThem desk
+        → AskAboutThem (raise job held (prompt_for comment blob purposes host held.message) now desk) }
     ensures linked { (job port : ℕ) (desk : List Confirmation) → AskAboutThem desk → AskAboutThem (linked job port desk) }
     ensures took { (port count : ℕ) (desk : List Confirmation) → AskAboutThem desk → AskAboutThem (took_at port count desk) }
     ensures told { (port : ℕ) (piece : List ℕ) (desk : List Confirmation) → AskAboutThem desk

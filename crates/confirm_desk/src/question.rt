@@ -1,6 +1,7 @@
 //! What the user is asked before a key is used.
 
 ghost use Rattle.std.specs.Prelude.{◌≡◌, ◌+◌, ◌≤◌, IfOk, length};
+ghost use Rattle.std.specs.Option.{option_map};
 ghost use Rattle.key_blob.specs.PublicKeys.{public_key_of};
 ghost use Rattle.confirm_desk.specs.Prompt.{fingerprint_by, prompt_for, prompt_of};
 
@@ -28,8 +29,8 @@ pub fn prompt(alloc: Global, comment: &[u8], fingerprint: &[u8]) -> Result<Vec<u
     Ok(text)
 }
 
-/// The text for a held key with this comment, blob and purposes, which is to sign `message`. A blob that is no key has no
-/// fingerprint.
+/// The text for a held key with this comment, blob and purposes, which is to sign `message`, to log in to `host` where
+/// that is known. A blob that is no key has no fingerprint.
 ///
 /// A key with purposes has a third line, which tells what the message is for.
 pub fn prompt_for(
@@ -37,14 +38,16 @@ pub fn prompt_for(
     comment: &[u8],
     blob: &[u8],
     purposes: &[Purpose],
+    host: Option<&[u8]>,
     message: &[u8],
 ) -> Result<Vec<u8>, AllocError>
-    ensures text { IfOk result (λ text. text.items ≡ prompt_for comment.now blob.now purposes.now message.now) }
+    ensures text { IfOk result (λ text. text.items ≡ prompt_for comment.now blob.now purposes.now
+        (option_map (λ name. name.now) host.entry) message.now) }
 {
     let mut text = prompt_of_key(alloc, comment, blob)?;
     if !purposes.is_empty() {
         text.push(b'\n')?;
-        push_line(&mut text, blob, message)?;
+        push_line(&mut text, blob, host, message)?;
     }
     Ok(text)
 }

@@ -12,7 +12,7 @@ use Rattle.key_blob.specs.PublicKeys.{public_key_of}
 use Rattle.dest_rule.specs.Chains.{Binding, New, Same, Refuse, ChainFull, OtherKey, SessionLength, newest, newest_after, find_session, has_room, is_open, is_session, judge_known, judge_open, judge, bound, IsChain, most_bindings, most_names, names_len}
 
 -- the newest binding stands at the end
-newest_at : (first : Binding) (later : List Binding)
+pub newest_at : (first : Binding) (later : List Binding)
     → slice_get (first ∷ later) (length later) ≡ Some (newest_after first later)
 newest_at first [] = refl
 newest_at first (next ∷ later) = newest_at next later

@@ -113,7 +113,7 @@ signed_session true rest none = refl
 signed_session false rest none = absurd cc
 
 -- what isn't denied of a message that reads as a login
-signed_login : (read : Result Login AuthFault) (rules : List Constraint) (wall : ℕ) (first : Binding)
+pub signed_login : (read : Result Login AuthFault) (rules : List Constraint) (wall : ℕ) (first : Binding)
     (later : List Binding) (auth : Login) → read ≡ Ok auth
     → denial_of_login read rules wall first later ≡ None
     → (bad_place (by_rules rules (Some auth.user) wall) first later ≡ None)

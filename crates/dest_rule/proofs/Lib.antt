@@ -5,3 +5,4 @@ pub mod AnswerLemmas
 pub mod OrderLemmas
 pub mod LeastLemmas
 pub mod LawLemmas
+pub mod HostLemmas

@@ -45,6 +45,10 @@ known byte = record {
 abbrev pub known_for : List ℕ → ℕ → Hop
 known_for pattern byte = record (known byte) { user = pattern }
 
+-- a host of this name, known by its key
+abbrev pub named : List ℕ → ℕ → Hop
+named host byte = record (known byte) { host = host }
+
 -- a host whose certificates are of the authority 9
 abbrev pub certified : Hop
 certified = record {

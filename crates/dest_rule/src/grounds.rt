@@ -33,7 +33,7 @@ fn admits(pattern: &[u8], user: Option<&[u8]>) -> bool
 
 impl Grounds<'_> {
     /// Whether this constraint permits to go from the previous host, or the agent's own, to this.
-    fn permits_pair(
+    pub fn permits_pair(
         &self,
         previous: Option<&HostKey<'_>>,
         host: &HostKey<'_>,

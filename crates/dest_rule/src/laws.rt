@@ -1,12 +1,14 @@
 //! Laws of chains and constraints, beside the calls.
 
-ghost use Rattle.std.specs.Prelude.{◌≡◌, ◌≢◌, ◌↔◌, ◌<◌, ◌≤◌, ℕ, Bool, true, List, [], ◌∷◌, length, Contains, Option, Some, None, Ok, IsOk};
+ghost use Rattle.std.specs.Prelude.{◌≡◌, ◌≢◌, ◌↔◌, ◌<◌, ◌≤◌, ℕ, Bool, true, List, [], ◌∷◌, length, Contains, Option, Some, None, Ok, Err, IsOk, IsSomeAnd};
 ghost use Rattle.std.specs.List.{slice_get};
 ghost use Rattle.key_blob.specs.PublicKeys.{public_key_of};
 ghost use Rattle.userauth_blob.specs.UserAuths.{Login};
 ghost use Rattle.userauth_blob.specs.Reading.{auth_of};
 ghost use Rattle.constraint_rec.specs.declared.constraint.Constraint.{Constraint};
 ghost use Rattle.dest_rule.specs.Chains.{Binding, Judgement, New, Same, newest, newest_after, is_open, is_session, find_session, judge, bound, IsChain};
+ghost use Rattle.userauth_blob.specs.declared.fault.AuthFault.{AuthFault};
+ghost use Rattle.dest_rule.specs.Hosts.{IsPermittedTo, login_host};
 ghost use Rattle.dest_rule.specs.Rules.{Grounds, is_pair, on_the_way, bad_place, permits_way, visible, denial};
 ghost use Rattle.dest_rule.specs.Places.{key_before, IsPlaceIn};
 
@@ -98,4 +100,18 @@ pub fn what_may_be_signed_is_visible()
     ensures { (rules : List Constraint) (blob : List ℕ) (chain : List Binding) (message : List ℕ)
         (wall : ℕ) (attempted : Bool) → denial rules blob chain message wall ≡ None
         → visible rules chain attempted wall ≡ true }
+{}
+
+/// A login that may be signed has a host, the name in a constraint that permits the way to the newest host; without
+/// constraints, and for what is no login, there is none.
+pub fn the_host_of_a_login_is_that_of_a_constraint_that_permits_it()
+    ensures there { (rules : List Constraint) (blob : List ℕ) (first : Binding) (later : List Binding)
+        (message : List ℕ) (wall : ℕ) (auth : Login)
+        → denial rules blob (first ∷ later) message wall ≡ None → auth_of message blob ≡ Ok auth
+        → IsSomeAnd (login_host rules blob (first ∷ later) message wall)
+        (IsPermittedTo (record { rules = rules; user = Some auth.user; wall = wall }) first later) }
+    ensures free { (blob : List ℕ) (chain : List Binding) (message : List ℕ) (wall : ℕ)
+        → login_host [] blob chain message wall ≡ None }
+    ensures no_login { (rules : List Constraint) (blob : List ℕ) (chain : List Binding) (message : List ℕ) (wall : ℕ)
+        (fault : AuthFault) → auth_of message blob ≡ Err fault → login_host rules blob chain message wall ≡ None }
 {}

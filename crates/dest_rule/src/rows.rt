@@ -3,7 +3,8 @@
 ghost use Rattle.std.specs.Prelude.{◌≡◌, true, false, [], ◌∷◌, codes, replicate, Some, None};
 ghost use Rattle.dest_rule.specs.Chains.{New, Same, Refuse, AuthBound, OtherKey, ChainFull, SessionLength, judge};
 ghost use Rattle.dest_rule.specs.Rules.{bad_place, visible, OtherSession, NoHostKey, OtherHostKey, BadHop, LongUser, denial};
-ghost use Rattle.dest_rule.specs.Samples.{key, certificate_for, origin, known, known_for, certified, to_go, passing, ending, for_root, login_as, login_of};
+ghost use Rattle.dest_rule.specs.Hosts.{login_host};
+ghost use Rattle.dest_rule.specs.Samples.{key, certificate_for, origin, known, known_for, named, certified, to_go, passing, ending, for_root, login_as, login_of};
 
 /// The hops on the way count, and not only the newest; so do users, and the end that is left.
 pub fn each_hop_counts()
@@ -103,4 +104,22 @@ pub fn a_key_is_visible_where_it_leads_on()
         ≡ false }
     ensures leads_on { visible (to_go origin (known 2) ∷ to_go (known 2) (known 3) ∷ [])
         (passing (key 2) (5 ∷ []) ∷ []) true 0 ≡ true }
+{}
+
+/// A login's host has the name that the first constraint gives it that permits the login: not one of another key, of
+/// another user or behind another host.
+pub fn a_login_s_host_is_told_by_the_first_constraint()
+    ensures first { login_host (to_go origin (named (codes "gate") 2) ∷ to_go origin (named (codes "door") 2) ∷ [])
+        (key 1) (ending (key 2) (5 ∷ []) ∷ []) (login_of (5 ∷ []) None) 0 ≡ Some (codes "gate") }
+    ensures other_key { login_host (to_go origin (named (codes "gate") 3) ∷ to_go origin (named (codes "door") 2) ∷ [])
+        (key 1) (ending (key 2) (5 ∷ []) ∷ []) (login_of (5 ∷ []) None) 0 ≡ Some (codes "door") }
+    ensures other_user { login_host (to_go origin (known_for (codes "per*") 2) ∷ to_go origin (named (codes "door") 2) ∷ [])
+        (key 1) (ending (key 2) (5 ∷ []) ∷ []) (login_of (5 ∷ []) None) 0 ≡ Some (codes "door") }
+    ensures behind { login_host (to_go origin (named (codes "gate") 3) ∷ to_go (known 2) (named (codes "door") 3) ∷ [])
+        (key 1) (passing (key 2) (5 ∷ []) ∷ ending (key 3) (6 ∷ []) ∷ [])
+        (login_of (6 ∷ []) (Some (key 3))) 0 ≡ Some (codes "door") }
+    ensures free { login_host [] (key 1) (ending (key 2) (5 ∷ []) ∷ []) (login_of (5 ∷ []) None) 0 ≡ None }
+    ensures unbound { login_host (to_go origin (known 2) ∷ []) (key 1) [] (login_of (5 ∷ []) None) 0 ≡ None }
+    ensures other_data { login_host (to_go origin (known 2) ∷ []) (key 1) (ending (key 2) (5 ∷ []) ∷ []) (codes "abc") 0
+        ≡ None }
 {}

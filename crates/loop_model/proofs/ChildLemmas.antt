@@ -259,7 +259,7 @@ module _ (number high : ℕ) where
   served_staffed port moment state (refused cause) staffed = staffed
   served_staffed port moment state (asked errand free may) staffed = staffed-put errand _ _ staffed
   served_staffed port moment state (raised key signing free) staffed =
-      staffed-raised key signing _ _ staffed
+      staffed-raised key _ signing _ _ staffed
 
   pub served_owes : (port : Port) (moment : Moment) (state : State) {served : Served}
       → IsServed (asker_at moment port) state.held state.under_way served → Owes number state.under_way

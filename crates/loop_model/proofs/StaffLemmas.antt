@@ -160,10 +160,10 @@ staffed-put errand asker u staffed = record {
   coming = coming-begun u.link.state (u.last_job + 1) u.started staffed.coming;
 }
 
-pub staffed-raised : (key : HeldKey) (signing : Signing) (asker : ℕ) (u : UnderWay) → IsStaffed u
-    → IsStaffed (with_confirmation key signing asker u)
-staffed-raised key signing asker u staffed =
-    let new = confirmation_of (u.last_job + 1) (held_for asker key signing) (prompt_for key.comment key.blob key.purposes signing.message) u.second in
+pub staffed-raised : (key : HeldKey) (host : Option (List ℕ)) (signing : Signing) (asker : ℕ) (u : UnderWay) → IsStaffed u
+    → IsStaffed (with_confirmation key host signing asker u)
+staffed-raised key host signing asker u staffed =
+    let new = confirmation_of (u.last_job + 1) (held_for asker key signing) (prompt_for key.comment key.blob key.purposes host signing.message) u.second in
     record {
       jobs = kept-confirm u.last_job u.confirmations u.to_start (jobs_of u.started) new staffed.jobs refl refl;
       coming = staffed.coming;

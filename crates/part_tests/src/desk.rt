@@ -157,7 +157,7 @@ fn a_prompt_fools_no_terminal(rt: HostRuntime) -> Result<(), Fail> {
     )?;
     want.extend_from_slice(SHOWN)?;
     want.extend_from_slice(b".")?;
-    let text = prompt_for(rt.alloc(), b"\x1b[1A\x1b[2Kcaf\xc3\xa9.", BLOB, &[], b"m")?;
+    let text = prompt_for(rt.alloc(), b"\x1b[1A\x1b[2Kcaf\xc3\xa9.", BLOB, &[], None, b"m")?;
     assert_eq!(rt; text.as_slice(), want.as_slice());
     let text = prompt(rt.alloc(), b"", b"F")?;
     assert_eq!(rt;
@@ -171,7 +171,7 @@ fn a_prompt_fools_no_terminal(rt: HostRuntime) -> Result<(), Fail> {
     want.extend_from_slice(b"?\nKey fingerprint F.")?;
     assert_eq!(rt; text.as_slice(), want.as_slice());
     // A blob that is no key has no fingerprint.
-    let text = prompt_for(rt.alloc(), b"one", b"", &[], b"m")?;
+    let text = prompt_for(rt.alloc(), b"one", b"", &[], None, b"m")?;
     assert_eq!(rt;
         text.as_slice(),
         b"Allow use of key one?\nKey fingerprint .".as_slice()
@@ -193,7 +193,7 @@ fn a_key_with_purposes_shows_what_is_signed(rt: HostRuntime) -> Result<(), Fail>
     for (message, line) in cases {
         let mut want = Vec::from_slice(rt.alloc(), b"Allow use of key one?\nKey fingerprint .\n")?;
         want.extend_from_slice(line)?;
-        let text = prompt_for(rt.alloc(), b"one", b"", &[Purpose::Other], message)?;
+        let text = prompt_for(rt.alloc(), b"one", b"", &[Purpose::Other], None, message)?;
         assert_eq!(rt; text.as_slice(), want.as_slice());
     }
     Ok(())

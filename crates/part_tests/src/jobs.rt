@@ -121,7 +121,7 @@ fn ask_for(under_way: &mut UnderWay, table: &Table) -> Option<u64> {
     if under_way.find_asker(7).is_some() {
         return None;
     }
-    match under_way.ask_user(7, key, &[1, 2], 0) {
+    match under_way.ask_user(7, key, None, &[1, 2], 0) {
         Ok(job) => job,
         Err(AllocError) => None,
     }

@@ -19,28 +19,29 @@ use std::alloc::AllocError;
 use world_ports::{Job, JobKind};
 
 impl UnderWay {
-    /// Asks the user for a signature of `message` by a held key, for the client of port `asker`, and gives the number
-    /// of the job that starts the child process: `None` where it is refused.
+    /// Asks the user for a signature of `message` by a held key, for the client of port `asker`, which logs in to `host`
+    /// where that is known, and gives the number of the job that starts the child process: `None` where it is refused.
     pub fn ask_user(
         &mut self,
         asker: u64,
         key: &Identity,
+        host: Option<&[u8]>,
         message: &[u8],
         flags: u32,
     ) -> Result<Option<u64>, AllocError>
         requires asker { find_asker asker self.old.confirmations ≡ None }
         requires short { length message.now ≤ longest_body }
 
-        ensures work { OnOk result (self.new ≡ (ask_user key.now
+        ensures work { OnOk result (self.new ≡ (ask_user key.now (option_map (λ name. name.now) host.entry)
             record { blob = key.now.blob; message = message.now; flags = flags } asker self.old).under_way) }
-        ensures told { IfOk result (TellsOfUser (ask_user key.now
+        ensures told { IfOk result (TellsOfUser (ask_user key.now (option_map (λ name. name.now) host.entry)
             record { blob = key.now.blob; message = message.now; flags = flags } asker self.old).verdict) }
     {
         if self.desk.as_slice().len() >= MAX_CONFIRMATIONS || self.last_job == u64::MAX {
             return Ok(None);
         }
         let held = self.hold(asker, key, message, flags)?;
-        let text = self.question(key, message)?;
+        let text = self.question(key, host, message)?;
         self.raise(held, &text)?;
         Ok(Some(self.last_job))
     }
@@ -86,14 +87,27 @@ impl UnderWay {
 
 impl UnderWay {
     // What the user is asked.
-    fn question(&self, key: &Identity, message: &[u8]) -> Result<Vec<u8>, AllocError>
+    fn question(
+        &self,
+        key: &Identity,
+        host: Option<&[u8]>,
+        message: &[u8],
+    ) -> Result<Vec<u8>, AllocError>
         requires { length message.now ≤ longest_body }
         ensures text { IfOk result (λ text. text.items
-            ≡ prompt_for key.now.comment key.now.blob key.now.purposes message.now) }
+            ≡ prompt_for key.now.comment key.now.blob key.now.purposes
+            (option_map (λ name. name.now) host.entry) message.now) }
         ensures short { IfOk result (λ text. length text.items ≤ 512) }
     {
         let alloc = *self.started.allocator();
-        prompt_for(alloc, key.comment(), key.blob(), key.purposes(), message)
+        prompt_for(
+            alloc,
+            key.comment(),
+            key.blob(),
+            key.purposes(),
+            host,
+            message,
+        )
     }
 
     // What is to be signed, for the client that waits.
