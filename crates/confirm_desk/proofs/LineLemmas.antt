@@ -110,12 +110,12 @@ line-tells host one other file other_file len other_len short other_short same =
 
 -- ---- hosts without a space
 
-one_if : Bool → ℕ
+abbrev one_if : Bool → ℕ
 one_if true = 1
 one_if false = 0
 
 -- how many bytes are spaces
-spaces : List ℕ → ℕ
+abbrev spaces : List ℕ → ℕ
 spaces [] = 0
 spaces (byte ∷ bytes) = one_if (byte == 32) + spaces bytes
 

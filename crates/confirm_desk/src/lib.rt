@@ -27,7 +27,8 @@ pub use laws::{
     the_oldest_confirmation_is_the_longest_open,
 };
 pub use line_rows::{
-    a_key_with_purposes_has_a_third_line, a_login_is_shown_with_its_host, each_message_has_its_line, names_are_printable,
+    a_key_with_purposes_has_a_third_line, a_login_is_shown_with_its_host,
+    each_message_has_its_line, names_are_printable,
 };
 pub use pending::Pending;
 pub use question::{prompt, prompt_for};

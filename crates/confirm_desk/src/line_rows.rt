@@ -23,6 +23,21 @@ pub fn names_are_printable()
     ensures cut { login_as None (replicate 64 97 ++ codes "b") ≡ login_as None (replicate 64 97) }
 {}
 
+/// A login to a host that is known is shown with it, in printable ASCII and no more than 64 bytes of it; nothing else is.
+pub fn a_login_is_shown_with_its_host()
+    ensures login { line_of (Some (codes "gate.example.org")) login (blob 17)
+        ≡ codes "For a login as u to gate.example.org." }
+    ensures root { login_as (Some (codes "gate.example.org")) (codes "root")
+        ≡ codes "For a login as root to gate.example.org." }
+    ensures escape { login_as (Some (27 ∷ 91 ∷ 50 ∷ 74 ∷ 10 ∷ [])) (codes "root")
+        ≡ codes "For a login as root to ?[2J?." }
+    ensures cut { login_as (Some (replicate 64 97 ++ codes "b")) (codes "root")
+        ≡ login_as (Some (replicate 64 97)) (codes "root") }
+    ensures commit { line_of (Some (codes "gate")) commit (blob 17) ≡ codes "For a signature in namespace git." }
+    // A user may be named as another and a host.
+    ensures either { login_as (Some (codes "gate")) (codes "root") ≡ login_as None (codes "root to gate") }
+{}
+
 /// A key without purposes has two lines, and one with purposes a third.
 pub fn a_key_with_purposes_has_a_third_line()
     ensures without { prompt_for (codes "one") (codes "x") [] None (codes "abc")

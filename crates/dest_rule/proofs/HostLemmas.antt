@@ -1,8 +1,8 @@
 -- The host of a login: of the newest binding, and of a constraint that permits the way to it.
-use Rattle.std.proofs.Common.{◌≡◌, ℕ, zero, suc, ◌-◌, Bool, true, false, ◌==◌, ◌<◌, List, [], ◌∷◌, ◌++◌, length, Option, Some, None, Result, Ok, Err, refl, sym, ap, ◌∙◌, subst, arith, cond, length-append}
+use Rattle.std.proofs.Common.{◌≡◌, ℕ, suc, ◌-◌, Bool, true, false, ◌==◌, List, [], ◌∷◌, ◌++◌, length, Option, Some, None, Result, Ok, Err, Bor, refl, sym, ap, ◌∙◌, subst, arith, cond, length-append}
 use Rattle.std.specs.Prelude.{◌||◌, is_ok, Contains, IsSomeAnd}
 use Rattle.std.specs.List.{list_any, slice_get}
-use Rattle.std.specs.Option.{option_map}
+use Rattle.std.specs.Option.{option_copied, option_map}
 use Rattle.std.proofs.lemmas.Bool.{and_left, and_right, and_parts, eq-eqb}
 use Rattle.key_blob.specs.PublicKeys.{public_key_of}
 use Rattle.constraint_rec.specs.declared.constraint.Constraint.{Constraint}
@@ -71,6 +71,17 @@ newest_host-last grounds newest (first ∷ others) =
     ∙ ap (λ found. first_to grounds (option_map (λ (b : Binding). b.host_key) found) newest.host_key grounds.rules)
     (get_before first newest others ∙ sym (ap (slice_get (first ∷ others)) before))
 
+-- without a binding there is none
+pub newest_host-none : (grounds : Grounds) (chain : List Binding) → length chain ≡ 0 → newest_host grounds chain ≡ None
+newest_host-none grounds [] none = refl
+newest_host-none grounds (first ∷ later) none = absurd (omega (arith, none))
+
+-- a binding that is lent has the host key that it has
+pub lent_host_key : (lent : Option (Bor Binding)) (found : Option Binding) → option_copied lent ≡ found
+    → option_map (λ (b : Bor Binding). b.now.host_key) lent ≡ option_map (λ (b : Binding). b.host_key) found
+lent_host_key None found is = ap (option_map (λ (b : Binding). b.host_key)) is
+lent_host_key (Some binding) found is = ap (option_map (λ (b : Binding). b.host_key)) is
+
 -- ---- messages
 
 pub no_login-host : (rules : List Constraint) (blob : List ℕ) (chain : List Binding) (message : List ℕ) (wall : ℕ)
@@ -120,15 +131,17 @@ first_leads : (grounds : Grounds) (previous : Option (List ℕ)) (host_key : Lis
     → list_any (permits_pair grounds previous host_key) rules ≡ true
     → IsSomeAnd (first_to grounds previous host_key rules) (leads_there grounds previous host_key rules)
 first_leads grounds previous host_key [] some = absurd cc
-first_leads grounds previous host_key (rule ∷ rules) some = by_first (permits_pair grounds previous host_key rule) refl some
+first_leads grounds previous host_key (rule ∷ rules) some =
+    by_first (permits_pair grounds previous host_key rule) refl some
+    (λ behind. leads_more grounds previous host_key rule rules (first_to grounds previous host_key rules) (first_leads grounds previous host_key rules behind))
   where
     by_first : (permits : Bool) → permits_pair grounds previous host_key rule ≡ permits
         → (permits || list_any (permits_pair grounds previous host_key) rules) ≡ true
+        → (list_any (permits_pair grounds previous host_key) rules ≡ true
+        → IsSomeAnd (first_to grounds previous host_key rules) (leads_there grounds previous host_key (rule ∷ rules)))
         → IsSomeAnd (cond permits (Some rule.to.host) (first_to grounds previous host_key rules)) (leads_there grounds previous host_key (rule ∷ rules))
-    by_first true is some = (rule, (0, omega arith, refl), is, refl)
-    by_first false is some =
-        leads_more grounds previous host_key rule rules (first_to grounds previous host_key rules)
-        (first_leads grounds previous host_key rules some)
+    by_first true is some later = (rule, (0, omega arith, refl), is, refl)
+    by_first false is some later = later some
 
 -- where every place is good, some constraint permits the way to the newest host
 pair_of_newest : (grounds : Grounds) (first : Binding) (later : List Binding) → bad_place grounds first later ≡ None
@@ -139,9 +152,9 @@ pair_of_newest grounds first later none =
     let left = key_before None chain (length later) in
     let all = subst (IsPlaceIn grounds chain) none (bad_place_is grounds first later) in
     let there = subst (λ b. is_good_there b (suc (length later) == length chain) grounds left ≡ true) (newest_at first later)
-        (all (length later) (omega arith)) in
+    (all (length later) (omega arith)) in
     let newest = subst (λ b. is_good b grounds left (newest_after first later) ≡ true)
-        (eq-eqb (suc (length later)) (length chain) refl) there in
+    (eq-eqb (suc (length later)) (length chain) refl) there in
     (and_parts _ _ newest).1
 
 -- a name by which one leads there is that of a constraint that permits it

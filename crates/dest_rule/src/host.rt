@@ -30,13 +30,17 @@ pub fn login_host<'a>(
     let Ok(auth) = read_userauth(message, blob) else {
         return None;
     };
-    let (newest, earlier) = chain.bindings().split_last()?;
-    let grounds = Grounds {
-        rules,
-        user: Some(auth.user),
-        wall,
-    };
-    host_behind(&grounds, earlier.last(), newest)
+    match chain.bindings().split_last() {
+        None => None,
+        Some((newest, earlier)) => {
+            let grounds = Grounds {
+                rules,
+                user: Some(auth.user),
+                wall,
+            };
+            host_behind(&grounds, earlier.last(), newest)
+        }
+    }
 }
 
 /// The name of the host of this binding, behind the previous one, where there is one.
@@ -48,13 +52,15 @@ fn host_behind<'a>(
     ensures { option_map (λ name. name.now) result ≡ first_to (grounds_of grounds.now)
         (option_map (λ one. one.now.host_key) previous.entry) newest.now.host_key grounds.now.rules.now }
 {
-    let host = read_host_key(newest.host_key.as_slice())?;
+    let Some(host) = read_host_key(newest.host_key.as_slice()) else {
+        return None;
+    };
     match previous {
         None => first_to(grounds, None, &host),
-        Some(binding) => {
-            let left = read_host_key(binding.host_key.as_slice())?;
-            first_to(grounds, Some(&left), &host)
-        }
+        Some(binding) => match read_host_key(binding.host_key.as_slice()) {
+            None => None,
+            Some(left) => first_to(grounds, Some(&left), &host),
+        },
     }
 }
 

@@ -30,6 +30,7 @@ pub use laws::{
 };
 pub use rows::{
     a_certificate_counts_for_its_host_in_time, a_key_is_visible_where_it_leads_on,
-    a_login_is_to_the_newest_host, a_login_s_host_is_told_by_the_first_constraint, bindings_are_judged_in_order, each_hop_counts,
+    a_login_is_to_the_newest_host, a_login_s_host_is_told_by_the_first_constraint,
+    bindings_are_judged_in_order, each_hop_counts,
 };
 pub use rules::{may_sign, visible};

@@ -157,7 +157,14 @@ fn a_prompt_fools_no_terminal(rt: HostRuntime) -> Result<(), Fail> {
     )?;
     want.extend_from_slice(SHOWN)?;
     want.extend_from_slice(b".")?;
-    let text = prompt_for(rt.alloc(), b"\x1b[1A\x1b[2Kcaf\xc3\xa9.", BLOB, &[], None, b"m")?;
+    let text = prompt_for(
+        rt.alloc(),
+        b"\x1b[1A\x1b[2Kcaf\xc3\xa9.",
+        BLOB,
+        &[],
+        None,
+        b"m",
+    )?;
     assert_eq!(rt; text.as_slice(), want.as_slice());
     let text = prompt(rt.alloc(), b"", b"F")?;
     assert_eq!(rt;
@@ -195,6 +202,36 @@ fn a_key_with_purposes_shows_what_is_signed(rt: HostRuntime) -> Result<(), Fail>
         want.extend_from_slice(line)?;
         let text = prompt_for(rt.alloc(), b"one", b"", &[Purpose::Other], None, message)?;
         assert_eq!(rt; text.as_slice(), want.as_slice());
+    }
+    Ok(())
+}
+
+#[test]
+fn a_login_is_shown_with_its_host(rt: HostRuntime) -> Result<(), Fail> {
+    let mut message = Vec::from_slice(
+        rt.alloc(),
+        b"\0\0\0\x04abcd\x32\0\0\0\x04root\0\0\0\x0essh-connection\0\0\0\x09publickey\x01\
+        \0\0\0\x0bssh-ed25519\0\0\0\x33",
+    )?;
+    message.extend_from_slice(BLOB)?;
+    let hosts: [(Option<&[u8]>, &[u8]); 3] = [
+        (None, b"\nFor a login as root."),
+        (
+            Some(b"gate.example.org"),
+            b"\nFor a login as root to gate.example.org.",
+        ),
+        (Some(b"a\nb"), b"\nFor a login as root to a?b."),
+    ];
+    for (host, line) in hosts {
+        let text = prompt_for(
+            rt.alloc(),
+            b"one",
+            BLOB,
+            &[Purpose::Login],
+            host,
+            message.as_slice(),
+        )?;
+        assert!(rt; text.as_slice().ends_with(line));
     }
     Ok(())
 }
