@@ -1,6 +1,6 @@
 //! Requests to sign, and what they use.
 
-ghost use Rattle.std.specs.Prelude.{◌≡◌, ◌+◌, ℕ, List, None, Option, IsSome, IfSome, OnOk, IfOk, ◌≤◌, length};
+ghost use Rattle.std.specs.Prelude.{◌≡◌, ◌+◌, ℕ, List, None, Option, true, IsSome, IfSome, OnOk, IfOk, ◌≤◌, length};
 ghost use Rattle.std.specs.Option.{option_map};
 ghost use Rattle.wire_text.specs.Bounds.{longest_body, longest_to_child};
 ghost use Rattle.agent_msg.specs.Requests.{Sign};
@@ -128,8 +128,7 @@ fn sign_with(
     ensures own { IfOk result (λ signing. IfSome signing.used (λ addition. addition ≡ key.now.number)) }
 {
     if key.confirm() {
-        let host = login_host(key.rules(), key.blob(), asker.chain, message, asker.wall);
-        let job = under_way.ask_user(asker.port, key, host, message, flags)?;
+        let job = ask_user(asker, under_way, key, message, flags)?;
         Ok(Signing {
             waits: on_confirmation(job),
             used: None,
@@ -141,6 +140,25 @@ fn sign_with(
             used: used_by(key, ask),
         })
     }
+}
+
+// Asks the user for a signature with this key: for a login to the host that its destination constraints tell.
+fn ask_user(
+    asker: &Asker<'_>,
+    under_way: &mut UnderWay,
+    key: &Identity,
+    message: &[u8],
+    flags: u32,
+) -> Result<Option<u64>, AllocError>
+    requires message { length message.now ≤ longest_body }
+    requires alone { find_asker asker.now.port under_way.old.confirmations ≡ None }
+
+    ensures under_way { OnOk result (under_way.new ≡ (sign_work true asker.now key.now message.now flags
+        under_way.old).under_way) }
+    ensures told { IfOk result (TellsOfUser (sign_work true asker.now key.now message.now flags under_way.old).verdict) }
+{
+    let host = login_host(key.rules(), key.blob(), asker.chain, message, asker.wall);
+    under_way.ask_user(asker.port, key, host, message, flags)
 }
 
 // The addition of a key, where it is used for an ask.
