@@ -1,7 +1,8 @@
 #!/usr/bin/env python3
-"""`agent_prog serve --record` under OpenSSH's clients: its record, replayed, gives each client the bytes that it got, and has
-no private key and no passphrase in it; a full disk disturbs nobody, or with `--record-or-stop` ends the agent;
-`mortarleek-agent --record` makes a new file of mode 0600; `mortarleek-status` tells of a record that stopped."""
+"""`agent_prog serve --record` under OpenSSH's clients: its record, replayed, gives each client the bytes that it got,
+and has no private key and no passphrase in it; a full disk, or more tried passphrases than have room, is said when it
+comes, and disturbs nobody, or with `--record-or-stop` ends the agent; `mortarleek-agent --record` makes a new file of
+mode 0600; `mortarleek-status` tells of a record that stopped."""
 
 import base64
 import contextlib
@@ -229,22 +230,52 @@ def what_is_not_served_is_told_by_its_number(folder):
     assert replayed(record)[1][: len(refusals)] == refusals
 
 
+# The longest passphrase of a message; so many of them have room, and one more of so many bytes.
+LONGEST, FULL, LEFT = 262139, 15, 261195
+NO_ROOM = b"mortarleek: no room for more passphrases that were tried: nothing more is recorded\n"
+
+
+def tries(peer, *places):
+    """One guess after another, each of the longest."""
+    for place in places:
+        assert peer.ask(UNLOCK, string(bytes([place]) * LONGEST))[0] == FAILURE
+
+
 @check
 def more_passphrases_than_are_kept_end_the_record(folder):
+    words = dict(helper=rig.BUILT / "standin_helper", stderr=subprocess.PIPE)
     with open(folder / "record", "wb") as file:
-        agent = our_agent(PROGRAM, folder, "--record", "--until-idle", helper=rig.BUILT / "standin_helper", stdout=file)
+        agent = our_agent(PROGRAM, folder, "--record", "--until-idle", stdout=file, **words)
+    said = agent.process.stderr
     with agent.peer() as peer:
-        for place in range(15):
-            assert peer.ask(UNLOCK, string(bytes([place]) * 262139))[0] == FAILURE
-        assert peer.ask(UNLOCK, string(bytes([3]) * 262139))[0] == FAILURE
+        tries(peer, *range(FULL), 3)
         until(lambda: b"hear 1 0000000617000000013" in (folder / "record").read_bytes(), what="the record")
-        assert peer.ask(UNLOCK, string(bytes(261196)))[0] == FAILURE
+        assert not select.select([said], [], [], 0)[0], said.readline()
+        assert peer.ask(UNLOCK, string(bytes(LEFT + 1)))[0] == FAILURE
+        # That is said when it comes, and once.
+        assert said.readline() == NO_ROOM
+        tries(peer, FULL + 1)
         assert peer.ask(LIST)[0] == IDENTITIES
     assert agent.process.wait(20) == 7
+    assert said.read() == b"mortarleek: the output could not be written\n"
     record = (folder / "record").read_bytes()
     told = [line for line in record.splitlines() if line.startswith(b"hear ")]
-    assert len(told) == 16 and told[15] == told[3], told
-    assert len(replayed(record)[1]) == 5 * 16
+    assert len(told) == FULL + 1 and told[FULL] == told[3], told
+    assert len(replayed(record)[1]) == 5 * (FULL + 1)
+
+
+@check
+def with_record_or_stop_they_end_the_agent(folder):
+    words = dict(helper=rig.BUILT / "standin_helper", stderr=subprocess.PIPE)
+    with open(folder / "record", "wb") as file:
+        agent = our_agent(PROGRAM, folder, "--record", "--record-or-stop", stdout=file, **words)
+    with agent.peer() as peer:
+        tries(peer, *range(FULL))
+        peer.send(bytes([UNLOCK]) + string(bytes([FULL]) * LONGEST))
+        assert peer.has_ended()
+    assert agent.process.wait(20) == 8
+    said = agent.process.stderr.read()
+    assert said == NO_ROOM + b"mortarleek: the record ended, and the agent with it\n", said
 
 
 @check
@@ -283,10 +314,10 @@ def the_front_end_makes_a_new_file(folder):
     assert not pathlib.Path(folder / "other").exists()
 
 
-@check
-def status_tells_of_a_record_that_stopped(folder):
+def status_tells_once(folder, stop):
+    """What `mortarleek-status` tells of an agent whose record ends with this call."""
     place, record = folder / "place", folder / "new"
-    place.mkdir()
+    place.mkdir(parents=True)
     rig.lay_scripts(place)
     for name in ("agent_prog", "standin_helper", "add_tool"):
         shutil.copy(rig.built(name), place)
@@ -294,19 +325,32 @@ def status_tells_of_a_record_that_stopped(folder):
     command = [*LIMITED, place / "mortarleek-agent", "--stand-in", "--record", record, "-T", "-s"]
     told = dict(re.findall(r"(\w+)=([^;]+);", run(command, env=environment, cwd=folder)))
     environment |= told
-    guard = int(told["SSH_AGENT_PID"])
     try:
         line = "not recorded: what happens now"
         said = run([place / "mortarleek-status"], env=environment)
         assert f"record: {record}\n" in said and line not in said, said
-        for child in pathlib.Path(f"/proc/{guard}/task/{guard}/children").read_text().split():
-            fill_up(int(child), record)
+        stop(told, record)
         # The first try may write a front of a line.
         run([place / "add_tool", "-l"], 1, env=environment)
         said = run([place / "mortarleek-status"], env=environment)
         assert f"record: {record}\n{line}" in said, said
     finally:
         run([place / "mortarleek-agent", "-k"], env=environment)
+
+
+@check
+def status_tells_of_a_record_that_stopped(folder):
+    def fill(told, record):
+        guard = int(told["SSH_AGENT_PID"])
+        for child in pathlib.Path(f"/proc/{guard}/task/{guard}/children").read_text().split():
+            fill_up(int(child), record)
+
+    def guess(told, _record):
+        with rig.Peer(rig.connected(told["SSH_AUTH_SOCK"])) as peer:
+            tries(peer, *range(FULL + 1))
+
+    status_tells_once(folder / "full", fill)
+    status_tells_once(folder / "guessed", guess)
 
 
 @check

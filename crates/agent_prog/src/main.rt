@@ -7,12 +7,10 @@
 mod cores;
 mod descriptors;
 mod outside;
-mod telling;
 
 use crate::cores::may_dump;
 use crate::descriptors::close_inherited;
 use crate::outside::world_of;
-use crate::telling::Telling;
 use agent_top::{Status, agent_main};
 use serve_words::{ServeFault, ServeWords, read_serve};
 use std::alloc::{AllocGlobal, Global};
@@ -47,47 +45,48 @@ fn words_of<R: Env + AllocGlobal>(rt: &R) -> Result<Vec<String>, Status> {
 }
 
 // Serves over the real outside, and takes away the file of the socket that it bound.
-fn serve<R, W: Wait, I: Source, O: Sink>(
+fn serve<R, W: Wait, I: Source, O: Sink, E: Sink>(
     rt: &R,
     wait: &W,
     words: &[String],
     served: ServeWords,
     input: &mut I,
     output: &mut O,
+    errors: &mut E,
 ) -> Result<Status, Status>
 where
-    R: Files<File = File> + Net + Processes + RandomSource + Clock + Env + AllocGlobal + Eprint,
+    R: Files<File = File> + Net + Processes + RandomSource + Clock + Env + AllocGlobal,
 {
     let alloc = rt.alloc();
     let mut world = world_of(rt, alloc, served).map_err(|error| status_of(
         &error,
         Status::PollFault,
     ))?;
-    let mut record = Telling::new(rt, output);
-    let status = agent_main(wait, alloc, words, &mut world, input, &mut record);
-    drop(record);
+    let status = agent_main(wait, alloc, words, &mut world, input, output, errors);
     world.remove_file();
     Ok(status)
 }
 
 // Runs any other command, or refuses the words: without a socket, a descriptor or a program.
-fn run_alone<W: Wait, I: Source, O: Sink>(
+fn run_alone<W: Wait, I: Source, O: Sink, E: Sink>(
     wait: &W,
     alloc: Global,
     words: &[String],
     input: &mut I,
     output: &mut O,
+    errors: &mut E,
 ) -> Status {
     let mut world = ScriptWorld::new(alloc, Vec::new(alloc), Vec::new(alloc));
-    agent_main(wait, alloc, words, &mut world, input, output)
+    agent_main(wait, alloc, words, &mut world, input, output, errors)
 }
 
 // The runtime is handed in twice: only `main`'s own may wait.
-fn run<W: Wait, I: Source, O: Sink>(
+fn run<W: Wait, I: Source, O: Sink, E: Sink>(
     rt: &HostRuntime,
     wait: &W,
     input: &mut I,
     output: &mut O,
+    errors: &mut E,
 ) -> Result<Status, Status> {
     let alloc = rt.alloc();
     let words = words_of(rt)?;
@@ -99,17 +98,18 @@ fn run<W: Wait, I: Source, O: Sink>(
                     "mortarleek: a core file could hold private keys: set its limit to 0 (ulimit -c 0)"
                 );
             }
-            serve(rt, wait, &words, served, input, output)
+            serve(rt, wait, &words, served, input, output, errors)
         }
         Err(ServeFault::Memory) => Err(Status::Memory),
-        Err(ServeFault::Usage) => Ok(run_alone(wait, alloc, &words, input, output)),
+        Err(ServeFault::Usage) => Ok(run_alone(wait, alloc, &words, input, output, errors)),
     }
 }
 
 fn main(rt: HostRuntime) -> ExitCode {
     let mut input = Reading::new(rt.stdin());
     let mut output = Writing::new(rt.stdout());
-    let status = match run(&rt, &rt, &mut input, &mut output) {
+    let mut errors = Writing::new(rt.stderr());
+    let status = match run(&rt, &rt, &mut input, &mut output, &mut errors) {
         Ok(status) => status,
         Err(status) => status,
     };

@@ -1,7 +1,7 @@
 //! The command `serve` with a record of its calls.
 
 ghost use Rattle.std.specs.Prelude.{◌≡◌, ◌⊎◌, ◌≤◌, false, true};
-ghost use Rattle.agent_top.specs.RecordProgram.{HaveNoRoom, HoldsOfAdded, Records};
+ghost use Rattle.agent_top.specs.RecordProgram.{Breaks, HoldsOfAdded, IsUnbroken, Records};
 ghost use Rattle.agent_top.specs.ServeProgram.{ServesExactly, status_of_recorded};
 ghost use Rattle.loop_model.specs.Orderly.{IsOrderly};
 ghost use Rattle.world_ports.specs.Causes.{Rose};
@@ -28,14 +28,15 @@ fn status_of_recorded(ended: bool, broken: bool, end: ServeEnd) -> Status
     }
 }
 
-// Serves clients over the world, and writes a record of its calls to the output; by `or_stop` no call is made behind a
-// record that ended.
-pub fn serve_recorded<R: Wait, A: Core, W: World, O: Sink>(
+// Serves clients over the world, and writes a record of its calls to the output; where that breaks, a line of the errors
+// says why. By `or_stop` no call is made behind a record that ended.
+pub fn serve_recorded<R: Wait, A: Core, W: World, O: Sink, E: Sink>(
     rt: &R,
     alloc: Global,
     agent: &mut A,
     world: &mut W,
     output: &mut O,
+    errors: &mut E,
     path: &str,
     until_idle: bool,
     or_stop: bool,
@@ -48,21 +49,24 @@ pub fn serve_recorded<R: Wait, A: Core, W: World, O: Sink>(
         (record { path = path.now; until_idle = until_idle; state = A.state agent.old }) result
         (W.journal world.old) (W.journal world.new) }
     ensures records { HoldsOfAdded (W.journal world.old) (W.journal world.new)
-        (Records or_stop result (O.seen output.old) (O.seen output.new)) }
+        (Records or_stop result (O.seen output.old) (O.seen output.new) (E.seen errors.old) (E.seen errors.new)) }
     ensures bind { result ≡ Status.BindFault → Rose (W.faults world.old) (W.faults world.new) }
     ensures poll { result ≡ Status.PollFault → Rose (W.faults world.old) (W.faults world.new) }
-    ensures write { result ≡ Status.WriteFault
-        → Rose (O.seen output.old).write_faults (O.seen output.new).write_faults
-        ⊎ HoldsOfAdded (W.journal world.old) (W.journal world.new) HaveNoRoom }
+    ensures write { result ≡ Status.WriteFault → Breaks (W.journal world.old) (W.journal world.new)
+        (O.seen output.old) (O.seen output.new) (E.seen errors.old) (E.seen errors.new) }
+    ensures says { IsUnbroken (O.seen output.old) (O.seen output.new) (E.seen errors.old) (E.seen errors.new)
+        ⊎ Breaks (W.journal world.old) (W.journal world.new) (O.seen output.old) (O.seen output.new)
+        (E.seen errors.old) (E.seen errors.new) }
     ensures done { result ≡ Status.Done
-        → (O.seen output.new).write_faults ≡ (O.seen output.old).write_faults }
+        → IsUnbroken (O.seen output.old) (O.seen output.new) (E.seen errors.old) (E.seen errors.new) }
     ensures goes_on { result ≡ Status.RecordFault → or_stop ≡ false
-        → (O.seen output.new).write_faults ≡ (O.seen output.old).write_faults }
+        → IsUnbroken (O.seen output.old) (O.seen output.new) (E.seen errors.old) (E.seen errors.new) }
     ensures led { W.leads world.old world.new }
     ensures only { OnlyWrites (O.seen output.old) (O.seen output.new) }
+    ensures errors_only { OnlyWrites (E.seen errors.old) (E.seen errors.new) }
 {
     let mut tape = Tape::new(alloc);
-    let mut recorder = Recorder::new(world, output, &mut tape, or_stop);
+    let mut recorder = Recorder::new(world, output, errors, &mut tape, or_stop);
     let end = serve(rt, alloc, agent, &mut recorder, path, until_idle);
     status_of_recorded(recorder.ended(), recorder.broken(), end)
 }

@@ -28,10 +28,11 @@ fn a_lock_is_recorded_by_its_number(rt: HostRuntime) -> Result<(), Fail> {
     let alloc = rt.alloc();
     let mut world = ScriptWorld::new(alloc, turns(alloc)?, Vec::new(alloc));
     let mut out = VecSink::new(alloc, 4096, Vec::new(alloc))?;
+    let mut errors = VecSink::new(alloc, 4096, Vec::new(alloc))?;
     let mut ready = Vec::new(alloc);
     let mut room = [0; 64];
     let mut tape = Tape::new(alloc);
-    let mut recorder = Recorder::new(&mut world, &mut out, &mut tape, true);
+    let mut recorder = Recorder::new(&mut world, &mut out, &mut errors, &mut tape, true);
     assert!(rt; recorder.bind(Door::Clients, "s").is_ok());
     assert!(rt; recorder.bind(Door::Children, "s.children").is_ok());
     assert!(rt; recorder.now().is_ok());
@@ -45,5 +46,6 @@ fn a_lock_is_recorded_by_its_number(rt: HostRuntime) -> Result<(), Fail> {
     assert!(rt; !recorder.broken() && !recorder.ended());
     drop(recorder);
     assert_eq!(rt; out.written(), RECORD);
+    assert!(rt; errors.written().is_empty());
     Ok(())
 }

@@ -9,7 +9,7 @@ use Rattle.world_ports.specs.declared.answers.WorldFault.{WorldFault}
 use Rattle.world_ports.specs.declared.entry.Entry.{Entry}
 use Rattle.world_ports.specs.declared.entry.Entry.TheVariants as entry
 use Rattle.record_world.specs.Recording.{Recording, after, bind_text, is_full, record_from, recording_after, text_of}
-use Rattle.record_world.specs.Leads.{BreaksFor, EndsCalls, IsOrder, IsWritten, Leads, Puts, Stays, Taped, Writes, WritesOf, is_stopped, taped}
+use Rattle.record_world.specs.Leads.{EndsCalls, IsOrder, IsWritten, Leads, Puts, Says, SaysIf, Stays, Taped, Writes, WritesOf, is_stopped, no_room_line, taped}
 use Rattle.record_world.specs.Orders.{cause-none, grows-none, only-none, stays-same, writes-none, writes-twice, ends-none}
 
 pub is_order : IsOrder
@@ -59,15 +59,15 @@ stays-or : (short more : Bool) → Stays short (short || more)
 stays-or true more = refl
 stays-or false more = tt
 
-pub writes-stopped : (entries : List Entry) (sink : StreamView) (broken short more : Bool) (kept left : Recording) → broken || (short || more) ≡ true
-    → Writes entries (taped sink broken short kept) (taped sink broken (short || more) left)
-writes-stopped entries sink broken short more kept left is = record {
+pub writes-stopped : (entries : List Entry) (sink errors : StreamView) (broken short more : Bool) (kept left : Recording) → broken || (short || more) ≡ true
+    → Writes entries (taped sink errors broken short kept) (taped sink errors broken (short || more) left)
+writes-stopped entries sink errors broken short more kept left is = record {
   text = [];
   written = Appends-nil sink.written;
   only = only-none sink;
   broken = stays-same broken;
   short = stays-or short more;
-  cause = cause-none broken short sink.write_faults (is_full (recording_after kept entries));
+  cause = cause-none broken short sink.write_faults (is_full (recording_after kept entries)) errors;
   lines = stopped-lines (broken || short) (broken || (short || more)) kept left entries is;
 }
 
@@ -80,10 +80,10 @@ not_true true is = absurd cc
 not_true false is = refl
 
 -- it was stopped before, or this call wanted memory
-pub passed_by : (is_short : Bool) (one : Entry) (sink : StreamView) (broken short : Bool) (kept : Recording) → not (broken || (short || is_short)) ≡ false
-    → WritesOf is_short one (taped sink broken short kept) (taped sink broken (short || is_short) kept)
-passed_by true one sink broken short kept stopped = λ entries. writes-stopped entries sink broken short true kept kept (not_false _ stopped)
-passed_by false one sink broken short kept stopped = writes-stopped (one ∷ []) sink broken short false kept kept (not_false _ stopped)
+pub passed_by : (is_short : Bool) (one : Entry) (sink errors : StreamView) (broken short : Bool) (kept : Recording) → not (broken || (short || is_short)) ≡ false
+    → WritesOf is_short one (taped sink errors broken short kept) (taped sink errors broken (short || is_short) kept)
+passed_by true one sink errors broken short kept stopped = λ entries. writes-stopped entries sink errors broken short true kept kept (not_false _ stopped)
+passed_by false one sink errors broken short kept stopped = writes-stopped (one ∷ []) sink errors broken short false kept kept (not_false _ stopped)
 
 -- ---- its lines are written
 
@@ -92,79 +92,79 @@ of_one : (one : Entry) (kept : Recording) (text : List ℕ) → text ≡ text_of
 of_one one kept text is = is ∙ sym (append-nil (text_of one kept))
 
 -- a call without lines
-pub silent : (is_short : Bool) (one : Entry) (sink : StreamView) (broken short : Bool) (kept : Recording) → not (broken || (short || is_short)) ≡ true → text_of one kept ≡ []
+pub silent : (is_short : Bool) (one : Entry) (sink errors : StreamView) (broken short : Bool) (kept : Recording) → not (broken || (short || is_short)) ≡ true → text_of one kept ≡ []
     → (is_full kept ≡ false → is_full (after one kept) ≡ false)
-    → WritesOf is_short one (taped sink broken short kept) (taped sink broken (short || is_short) (after one kept))
-silent is_short one sink true short kept goes none fits = absurd cc
-silent is_short one sink false true kept goes none fits = absurd cc
-silent true one sink false false kept goes none fits = absurd cc
-silent false one sink false false kept goes none fits = record {
+    → WritesOf is_short one (taped sink errors broken short kept) (taped sink errors broken (short || is_short) (after one kept))
+silent is_short one sink errors true short kept goes none fits = absurd cc
+silent is_short one sink errors false true kept goes none fits = absurd cc
+silent true one sink errors false false kept goes none fits = absurd cc
+silent false one sink errors false false kept goes none fits = record {
   text = [];
   written = Appends-nil sink.written;
   only = only-none sink;
   broken = tt;
   short = tt;
-  cause = refl;
+  cause = (refl, refl);
   lines = record { lines = of_one one kept [] (sym none); left = refl; fits = fits };
 }
 
 -- its text is put
-put_one : (failed : Bool) (one : Entry) (sink later : StreamView) (kept : Recording) (text : List ℕ) → Puts text sink later failed → text ≡ text_of one kept
+put_one : (failed : Bool) (one : Entry) (sink later errors said : StreamView) (kept : Recording) (text : List ℕ) → Puts text sink later failed → SaysIf failed errors said → text ≡ text_of one kept
     → (is_full kept ≡ false → is_full (after one kept) ≡ false)
-    → Writes (one ∷ []) (taped sink false false kept) (taped later failed false (after one kept))
-put_one false one sink later kept text puts is fits = record {
+    → Writes (one ∷ []) (taped sink errors false false kept) (taped later said failed false (after one kept))
+put_one false one sink later errors said kept text puts says is fits = record {
   text = text;
   written = puts.written;
   only = puts.only;
   broken = tt;
   short = tt;
-  cause = puts.cause;
+  cause = (puts.cause, says);
   lines = record { lines = of_one one kept text is; left = refl; fits = fits };
 }
-put_one true one sink later kept text puts is fits = record {
+put_one true one sink later errors said kept text puts says is fits = record {
   text = puts.written.1.front;
   written = puts.written.1.written;
   only = puts.only;
   broken = tt;
   short = tt;
-  cause = inl puts.cause;
+  cause = inl (record { rose = puts.cause; says = says });
   lines = record { more = puts.written.0; is = puts.written.1.whole ∙ of_one one kept text is };
 }
 
-pub written_by : (is_short : Bool) (one : Entry) (sink later : StreamView) (broken short failed : Bool) (kept : Recording) (text : List ℕ) → not (broken || (short || is_short)) ≡ true
-    → Puts text sink later failed → text ≡ text_of one kept → (is_full kept ≡ false → is_full (after one kept) ≡ false)
-    → WritesOf is_short one (taped sink broken short kept) (taped later failed (short || is_short) (after one kept))
-written_by is_short one sink later true short failed kept text goes puts is fits = absurd cc
-written_by is_short one sink later false true failed kept text goes puts is fits = absurd cc
-written_by true one sink later false false failed kept text goes puts is fits = absurd cc
-written_by false one sink later false false failed kept text goes puts is fits = put_one failed one sink later kept text puts is fits
+pub written_by : (is_short : Bool) (one : Entry) (sink later errors said : StreamView) (broken short failed : Bool) (kept : Recording) (text : List ℕ) → not (broken || (short || is_short)) ≡ true
+    → Puts text sink later failed → SaysIf failed errors said → text ≡ text_of one kept → (is_full kept ≡ false → is_full (after one kept) ≡ false)
+    → WritesOf is_short one (taped sink errors broken short kept) (taped later said failed (short || is_short) (after one kept))
+written_by is_short one sink later errors said true short failed kept text goes puts says is fits = absurd cc
+written_by is_short one sink later errors said false true failed kept text goes puts says is fits = absurd cc
+written_by true one sink later errors said false false failed kept text goes puts says is fits = absurd cc
+written_by false one sink later errors said false false failed kept text goes puts says is fits = put_one failed one sink later errors said kept text puts says is fits
 
 -- a read that brought more passphrases than there is room for
-pub overflows : (one : Entry) (sink : StreamView) (broken short : Bool) (kept left : Recording)
-    → not (broken || (short || false)) ≡ true → is_full (after one kept) ≡ true
-    → Writes (one ∷ []) (taped sink broken short kept) (taped sink true (short || false) left)
-overflows one sink true short kept left goes full = absurd cc
-overflows one sink false true kept left goes full = absurd cc
-overflows one sink false false kept left goes full = record {
+pub overflows : (one : Entry) (sink errors said : StreamView) (broken short : Bool) (kept left : Recording)
+    → not (broken || (short || false)) ≡ true → is_full (after one kept) ≡ true → Says no_room_line errors said
+    → Writes (one ∷ []) (taped sink errors broken short kept) (taped sink said true (short || false) left)
+overflows one sink errors said true short kept left goes full says = absurd cc
+overflows one sink errors said false true kept left goes full says = absurd cc
+overflows one sink errors said false false kept left goes full says = record {
   text = [];
   written = Appends-nil sink.written;
   only = only-none sink;
   broken = tt;
   short = tt;
-  cause = inr full;
+  cause = inr (record { over = full; kept = refl; says = says });
   lines = record { more = record_from kept (one ∷ []); is = refl };
 }
 
 -- ---- no call on the inner world, since memory was wanted for it
 
-pub leads-lacking : (or_stop lacks : Bool) (journal : Option (List Entry)) (sink : StreamView) (broken short : Bool) (kept : Recording) → lacks ≡ true
-    → Leads or_stop journal journal (taped sink broken short kept) (taped sink broken (short || lacks) kept)
+pub leads-lacking : (or_stop lacks : Bool) (journal : Option (List Entry)) (sink errors : StreamView) (broken short : Bool) (kept : Recording) → lacks ≡ true
+    → Leads or_stop journal journal (taped sink errors broken short kept) (taped sink errors broken (short || lacks) kept)
 unfolding writes-stopped
-leads-lacking or_stop false journal sink broken short kept is = absurd cc
-leads-lacking or_stop true journal sink broken short kept is = record {
+leads-lacking or_stop false journal sink errors broken short kept is = absurd cc
+leads-lacking or_stop true journal sink errors broken short kept is = record {
   entries = [];
   grows = grows-none journal;
-  writes = writes-stopped [] sink broken short true kept kept (stopped broken short);
+  writes = writes-stopped [] sink errors broken short true kept kept (stopped broken short);
   ends = λ is. ends-none (broken || short) kept [];
 }
   where
@@ -172,6 +172,13 @@ leads-lacking or_stop true journal sink broken short kept is = record {
     stopped true b = refl
     stopped false true = refl
     stopped false false = refl
+
+-- ---- what is said
+
+-- a line of its own was put
+pub said_once : (line : List ℕ) (errors said : StreamView) (failed : Bool) → Puts (line ++ []) errors said failed → Says line errors said
+said_once line errors said failed puts =
+    record { failed = failed; puts = subst (λ (text : List ℕ). Puts text errors said failed) (append-nil line) puts }
 
 -- ---- two texts, one after the other
 
@@ -209,20 +216,20 @@ on_err (Err fault) fact holds = holds
 
 -- ---- the first bind
 
-pub bind_wrote : (is_short : Bool) (door : Door) (path : List ℕ) (answer : Result (Unit {0}) WorldFault) (sink later : StreamView) (broken short failed said first shortened : Bool) (kept left : Recording)
-    → shortened ≡ (short || is_short) → said ≡ not (broken || (short || is_short)) → said ≡ true → first ≡ not kept.is_bound → first ≡ true
-    → left ≡ after (entry.Bind door path answer) kept → Puts (codes "schedule 2\n" ++ []) sink later failed
-    → WritesOf is_short (entry.Bind door path answer) (taped sink broken short kept) (taped later failed shortened left)
-bind_wrote is_short door path answer sink later broken short failed said first shortened kept left is_shortened says goes is_first is_one is_left puts =
-    subst (λ (b : Bool). WritesOf is_short (entry.Bind door path answer) (taped sink broken short kept) (taped later failed b left)) (sym is_shortened)
-    (subst (λ (r : Recording). WritesOf is_short (entry.Bind door path answer) (taped sink broken short kept) (taped later failed (short || is_short) r)) (sym is_left)
-    (written_by is_short (entry.Bind door path answer) sink later broken short failed kept (codes "schedule 2\n" ++ []) (sym says ∙ goes) puts
+pub bind_wrote : (is_short : Bool) (door : Door) (path : List ℕ) (answer : Result (Unit {0}) WorldFault) (sink later errors said : StreamView) (broken short failed goes_on first shortened : Bool) (kept left : Recording)
+    → shortened ≡ (short || is_short) → goes_on ≡ not (broken || (short || is_short)) → goes_on ≡ true → first ≡ not kept.is_bound → first ≡ true
+    → left ≡ after (entry.Bind door path answer) kept → Puts (codes "schedule 2\n" ++ []) sink later failed → SaysIf failed errors said
+    → WritesOf is_short (entry.Bind door path answer) (taped sink errors broken short kept) (taped later said failed shortened left)
+bind_wrote is_short door path answer sink later errors said broken short failed goes_on first shortened kept left is_shortened is_on goes is_first is_one is_left puts says =
+    subst (λ (b : Bool). WritesOf is_short (entry.Bind door path answer) (taped sink errors broken short kept) (taped later said failed b left)) (sym is_shortened)
+    (subst (λ (r : Recording). WritesOf is_short (entry.Bind door path answer) (taped sink errors broken short kept) (taped later said failed (short || is_short) r)) (sym is_left)
+    (written_by is_short (entry.Bind door path answer) sink later errors said broken short failed kept (codes "schedule 2\n" ++ []) (sym is_on ∙ goes) puts says
     (sym (ap bind_text (not_true kept.is_bound (sym is_first ∙ is_one)))) (λ fine. fine)))
 
 -- ---- no memory was wanted before
 
-pub not_lacking : (lacks is_short : Bool) (one : Entry) (sink : StreamView) (broken short : Bool) (kept : Recording) (later : Taped) → lacks ≡ false
-    → WritesOf is_short one (taped sink broken (short || lacks) kept) later → WritesOf is_short one (taped sink broken short kept) later
-not_lacking true is_short one sink broken short kept later is wrote = absurd cc
-not_lacking false is_short one sink broken true kept later is wrote = wrote
-not_lacking false is_short one sink broken false kept later is wrote = wrote
+pub not_lacking : (lacks is_short : Bool) (one : Entry) (sink errors : StreamView) (broken short : Bool) (kept : Recording) (later : Taped) → lacks ≡ false
+    → WritesOf is_short one (taped sink errors broken (short || lacks) kept) later → WritesOf is_short one (taped sink errors broken short kept) later
+not_lacking true is_short one sink errors broken short kept later is wrote = absurd cc
+not_lacking false is_short one sink errors broken true kept later is wrote = wrote
+not_lacking false is_short one sink errors broken false kept later is wrote = wrote

@@ -1,5 +1,5 @@
 -- An earlier and a later state of one recorder (ours).
-use Rattle.std.specs.Prelude.{◌≡◌, ◌≤◌, ◌++◌, ◌||◌, ◌⊎◌, Bool, true, false, ℕ, List, [], ◌∷◌, length, Option}
+use Rattle.std.specs.Prelude.{◌≡◌, ◌≤◌, ◌++◌, ◌||◌, ◌⊎◌, Bool, true, false, ℕ, List, [], ◌∷◌, codes, length, Option}
 use Rattle.std.specs.Io.KnownBytes.{Appends}
 use Rattle.world_ports.specs.Causes.{Rose}
 use Rattle.world_ports.specs.Journal.{Grows}
@@ -7,18 +7,19 @@ use Rattle.world_ports.specs.Streams.{OnlyWrites, StreamView, WritesPart}
 use Rattle.world_ports.specs.declared.entry.Entry.{Entry}
 use Rattle.record_world.specs.Recording.{Recording, is_full, record_from, recording_after}
 
--- the side of a recorder that writes: what its sink tells, whether the record broke, whether memory ran out, and what is
--- kept between two entries
+-- the side of a recorder that writes: what its sink tells, and the sink where it says why the record broke; whether it
+-- broke, whether memory ran out, and what is kept between two entries
 pub record Taped : Type 0 where
   pub sink : StreamView
+  pub errors : StreamView
   pub is_broken : Bool
   pub is_short : Bool
   pub recording : Recording
 
 -- the writing side with these parts
-abbrev pub taped : StreamView → Bool → Bool → Recording → Taped
-taped sink is_broken is_short recording =
-    record { sink = sink; is_broken = is_broken; is_short = is_short; recording = recording }
+abbrev pub taped : StreamView → StreamView → Bool → Bool → Recording → Taped
+taped sink errors is_broken is_short recording =
+    record { sink = sink; errors = errors; is_broken = is_broken; is_short = is_short; recording = recording }
 
 -- it writes nothing more
 abbrev pub is_stopped : Taped → Bool
@@ -46,30 +47,6 @@ abbrev pub Stays : Bool → Bool → Type 0
 Stays true now = now ≡ true
 Stays false now = Unit {0}
 
--- one that was stopped doesn't break any more; another broke exactly where the sink counted a failed write, or where the
--- passphrases of these entries take more room than they may
-abbrev pub BreaksFor : Bool → Bool → Bool → ℕ → ℕ → Bool → Type 0
-BreaksFor true was now before after full = (now ≡ was) × (after ≡ before)
-BreaksFor false was true before after full = Rose before after ⊎ (full ≡ true)
-BreaksFor false was false before after full = after ≡ before
-
--- since then it wrote the lines of these entries: all, or where it is stopped since a front of them, and nothing where it
--- was stopped before
-pub record Writes (entries : List Entry) (before after : Taped) : Type 0 where
-  pub text : List ℕ
-  pub written : Appends before.sink.written after.sink.written text
-  pub only : OnlyWrites before.sink after.sink
-  pub broken : Stays before.is_broken after.is_broken
-  pub short : Stays before.is_short after.is_short
-  pub cause : BreaksFor (is_stopped before) before.is_broken after.is_broken before.sink.write_faults after.sink.write_faults
-      (is_full (recording_after before.recording entries))
-  pub lines : IsWritten (is_stopped before) (is_stopped after) before.recording after.recording entries text
-
--- the same for one entry: where its call wanted memory, nothing, as of any entries
-abbrev pub WritesOf : Bool → Entry → Taped → Taped → Type 0
-WritesOf true one before after = (entries : List Entry) → Writes entries before after
-WritesOf false one before after = Writes (one ∷ []) before after
-
 -- what was written of a text: all, or a front of it where the sink failed
 abbrev pub PutsText : Bool → List ℕ → StreamView → StreamView → Type 0
 PutsText false text before after = Appends before.written after.written text
@@ -85,6 +62,60 @@ pub record Puts (text : List ℕ) (before after : StreamView) (failed : Bool) : 
   pub only : OnlyWrites before after
   pub cause : FailsFor failed before.write_faults after.write_faults
   pub written : PutsText failed text before after
+
+-- the line that says that a write of the record failed
+abbrev pub unwritten_line : List ℕ
+unwritten_line = codes "mortarleek: the record can't be written: nothing more is recorded\n"
+
+-- the line that says that passphrases have no room
+abbrev pub no_room_line : List ℕ
+no_room_line = codes "mortarleek: no room for more passphrases that were tried: nothing more is recorded\n"
+
+-- a line was said: put once, and nothing else
+pub record Says (line : List ℕ) (before after : StreamView) : Type 0 where
+  pub failed : Bool
+  pub puts : Puts line before after failed
+
+-- the sink counted a failed write, and that was said
+pub record FailsToWrite (before after : ℕ) (errors later : StreamView) : Type 0 where
+  pub rose : Rose before after
+  pub says : Says unwritten_line errors later
+
+-- the passphrases take more room than they may while no write failed, and that was said
+pub record LacksRoom (full : Bool) (before after : ℕ) (errors later : StreamView) : Type 0 where
+  pub over : full ≡ true
+  pub kept : after ≡ before
+  pub says : Says no_room_line errors later
+
+-- one that was stopped doesn't break any more; another broke exactly where the sink counted a failed write, or where
+-- the passphrases of these entries take more room than they may. Which of both it was is said then, and else nothing
+abbrev pub BreaksFor : Bool → Bool → Bool → ℕ → ℕ → Bool → StreamView → StreamView → Type 0
+BreaksFor true was now before after full errors later = (now ≡ was) × (after ≡ before) × (later ≡ errors)
+BreaksFor false was true before after full errors later =
+    FailsToWrite before after errors later ⊎ LacksRoom full before after errors later
+BreaksFor false was false before after full errors later = (after ≡ before) × (later ≡ errors)
+
+-- that a write of the record failed was said where it did, and nothing where it didn't
+abbrev pub SaysIf : Bool → StreamView → StreamView → Type 0
+SaysIf true errors later = Says unwritten_line errors later
+SaysIf false errors later = later ≡ errors
+
+-- since then it wrote the lines of these entries: all, or where it is stopped since a front of them, and nothing where it
+-- was stopped before
+pub record Writes (entries : List Entry) (before after : Taped) : Type 0 where
+  pub text : List ℕ
+  pub written : Appends before.sink.written after.sink.written text
+  pub only : OnlyWrites before.sink after.sink
+  pub broken : Stays before.is_broken after.is_broken
+  pub short : Stays before.is_short after.is_short
+  pub cause : BreaksFor (is_stopped before) before.is_broken after.is_broken before.sink.write_faults after.sink.write_faults
+      (is_full (recording_after before.recording entries)) before.errors after.errors
+  pub lines : IsWritten (is_stopped before) (is_stopped after) before.recording after.recording entries text
+
+-- the same for one entry: where its call wanted memory, nothing, as of any entries
+abbrev pub WritesOf : Bool → Entry → Taped → Taped → Type 0
+WritesOf true one before after = (entries : List Entry) → Writes entries before after
+WritesOf false one before after = Writes (one ∷ []) before after
 
 -- the calls end with what is written: none came where it was stopped before, and the lines of these entries, or of all
 -- but the last, stand in front of the text

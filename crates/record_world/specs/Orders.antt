@@ -22,7 +22,7 @@ use Rattle.redact_core.specs.Places.{kept_len}
 use Rattle.redact_core.specs.Redaction.{Redacted, redacted_all}
 use Rattle.redact_core.proofs.GrowLemmas.{all_more, over_more}
 use Rattle.record_world.specs.Recording.{Port, Recording, after, at_accept, at_read, at_start, at_write, client_taken, find_port, heard, is_full, record_from, recording_after, rest_taken, taken_by, text_of}
-use Rattle.record_world.specs.Leads.{BreaksFor, EndsCalls, IsFront, IsWritten, Leads, Stays, Taped, Writes, is_stopped}
+use Rattle.record_world.specs.Leads.{BreaksFor, EndsCalls, FailsToWrite, IsFront, IsWritten, LacksRoom, Leads, Says, Stays, Taped, Writes, is_stopped, no_room_line, unwritten_line}
 
 -- inhabited by false alone
 abbrev Only : Bool → Type 0
@@ -188,34 +188,51 @@ full-append start a b full = ap is_full (after-append start a b) ∙ full-more (
 
 -- ---- breaking
 
-pub cause-none : (broken short : Bool) (n : ℕ) (full : Bool) → BreaksFor (broken || short) broken broken n n full
-cause-none true short n full = (refl, refl)
-cause-none false true n full = (refl, refl)
-cause-none false false n full = refl
+pub cause-none : (broken short : Bool) (n : ℕ) (full : Bool) (errors : StreamView)
+    → BreaksFor (broken || short) broken broken n n full errors errors
+cause-none true short n full errors = (refl, refl, refl)
+cause-none false true n full errors = (refl, refl, refl)
+cause-none false false n full errors = (refl, refl)
 
-broke-later : (b c : ℕ) (a : ℕ) (first full : Bool) → c ≡ b → (first ≡ true → full ≡ true) → Rose a b ⊎ (first ≡ true)
-    → Rose a c ⊎ (full ≡ true)
-broke-later b c a first full same later (inl rose) = inl (subst (λ (n : ℕ). Rose a n) (sym same) rose)
-broke-later b c a first full same later (inr is) = inr (later is)
+broke-later : (a b c : ℕ) (d e f : StreamView) (first full : Bool) → c ≡ b → f ≡ e → (first ≡ true → full ≡ true)
+    → FailsToWrite a b d e ⊎ LacksRoom first a b d e → FailsToWrite a c d f ⊎ LacksRoom full a c d f
+broke-later a b c d e f first full same silent later (inl fails) = inl (record {
+  rose = subst (λ (n : ℕ). Rose a n) (sym same) fails.rose;
+  says = subst (λ (s : StreamView). Says unwritten_line d s) (sym silent) fails.says;
+})
+broke-later a b c d e f first full same silent later (inr lacks) = inr (record {
+  over = later lacks.over;
+  kept = same ∙ lacks.kept;
+  says = subst (λ (s : StreamView). Says no_room_line d s) (sym silent) lacks.says;
+})
 
-broke-then : (a b c : ℕ) (second full : Bool) → b ≡ a → full ≡ second → Rose b c ⊎ (second ≡ true)
-    → Rose a c ⊎ (full ≡ true)
-broke-then a b c second full same is (inl rose) = inl (subst (λ (n : ℕ). Rose n c) same rose)
-broke-then a b c second full same is (inr over) = inr (is ∙ over)
+broke-then : (a b c : ℕ) (d e f : StreamView) (second full : Bool) → b ≡ a → e ≡ d → full ≡ second
+    → FailsToWrite b c e f ⊎ LacksRoom second b c e f → FailsToWrite a c d f ⊎ LacksRoom full a c d f
+broke-then a b c d e f second full same silent is (inl fails) = inl (record {
+  rose = subst (λ (n : ℕ). Rose n c) same fails.rose;
+  says = subst (λ (s : StreamView). Says unwritten_line s f) silent fails.says;
+})
+broke-then a b c d e f second full same silent is (inr lacks) = inr (record {
+  over = is ∙ lacks.over;
+  kept = lacks.kept ∙ same;
+  says = subst (λ (s : StreamView). Says no_room_line s f) silent lacks.says;
+})
 
-cause-twice : (s t x y z : Bool) (a b c : ℕ) (first second full : Bool) → Stays s t → (y ≡ true → t ≡ true)
+cause-twice : (s t x y z : Bool) (a b c : ℕ) (d e f : StreamView) (first second full : Bool) → Stays s t → (y ≡ true → t ≡ true)
     → (first ≡ true → full ≡ true) → (s ≡ false → t ≡ false → full ≡ second)
-    → BreaksFor s x y a b first → BreaksFor t y z b c second → BreaksFor s x z a c full
-cause-twice true true x y z a b c first second full stays broken later same early late = (late.0 ∙ early.0, late.1 ∙ early.1)
-cause-twice true false x y z a b c first second full stays broken later same early late = absurd (no stays)
-cause-twice false true x true z a b c first second full stays broken later same early late =
-    subst (λ (now : Bool). BreaksFor false x now a c full) (sym late.0) (broke-later b c a first full late.1 later early)
-cause-twice false true x false z a b c first second full stays broken later same early late =
-    subst (λ (now : Bool). BreaksFor false x now a c full) (sym late.0) (late.1 ∙ early)
-cause-twice false false x true z a b c first second full stays broken later same early late = absurd (no (broken refl))
-cause-twice false false x false true a b c first second full stays broken later same early late =
-    broke-then a b c second full early (same refl refl) late
-cause-twice false false x false false a b c first second full stays broken later same early late = late ∙ early
+    → BreaksFor s x y a b first d e → BreaksFor t y z b c second e f → BreaksFor s x z a c full d f
+cause-twice true true x y z a b c d e f first second full stays broken later same early late =
+    (late.0 ∙ early.0, late.1 ∙ early.1, late.2 ∙ early.2)
+cause-twice true false x y z a b c d e f first second full stays broken later same early late = absurd (no stays)
+cause-twice false true x true z a b c d e f first second full stays broken later same early late =
+    subst (λ (now : Bool). BreaksFor false x now a c full d f) (sym late.0) (broke-later a b c d e f first full late.1 late.2 later early)
+cause-twice false true x false z a b c d e f first second full stays broken later same early late =
+    subst (λ (now : Bool). BreaksFor false x now a c full d f) (sym late.0) (late.1 ∙ early.0, late.2 ∙ early.1)
+cause-twice false false x true z a b c d e f first second full stays broken later same early late = absurd (no (broken refl))
+cause-twice false false x false true a b c d e f first second full stays broken later same early late =
+    broke-then a b c d e f second full early.0 early.1 (same refl refl) late
+cause-twice false false x false false a b c d e f first second full stays broken later same early late =
+    (late.0 ∙ early.0, late.1 ∙ early.1)
 
 -- one that is broken is stopped
 broken-stops : (broken short : Bool) → broken ≡ true → broken || short ≡ true
@@ -253,7 +270,7 @@ writes-none x = record {
   only = only-none x.sink;
   broken = stays-same x.is_broken;
   short = stays-same x.is_short;
-  cause = cause-none x.is_broken x.is_short x.sink.write_faults (is_full x.recording);
+  cause = cause-none x.is_broken x.is_short x.sink.write_faults (is_full x.recording) x.errors;
   lines = written-none (is_stopped x) x.recording;
 }
 
@@ -266,7 +283,7 @@ writes-twice x y z a b first later = record {
   broken = stays-twice x.is_broken y.is_broken z.is_broken first.broken later.broken;
   short = stays-twice x.is_short y.is_short z.is_short first.short later.short;
   cause = cause-twice (is_stopped x) (is_stopped y) x.is_broken y.is_broken z.is_broken x.sink.write_faults y.sink.write_faults
-      z.sink.write_faults (is_full (recording_after x.recording a)) (is_full (recording_after y.recording b))
+      z.sink.write_faults x.errors y.errors z.errors (is_full (recording_after x.recording a)) (is_full (recording_after y.recording b))
       (is_full (recording_after x.recording (a ++ b)))
       (stays-or x.is_broken x.is_short y.is_broken y.is_short first.broken first.short)
       (broken-stops y.is_broken y.is_short) (full-append x.recording a b)

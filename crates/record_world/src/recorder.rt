@@ -17,39 +17,45 @@ use world_ports::{
 /// A world that makes each call on the world it borrows, hands its answer on, and writes the lines of
 /// a schedule of format 2 to the sink it borrows.
 ///
-/// Where the sink failed, or passphrases came that take too much room, it writes nothing more, and the calls go on, or
-/// with `or_stop` each answers that memory ran out, and none is made. Where memory of its own runs out, a call answers
-/// so; from there on it writes nothing more either. It asks for memory of its own in `accept` and `read` alone.
+/// Where the sink failed, or passphrases came that take too much room, it says which in one line to the second sink
+/// that it borrows, and writes nothing more, and the calls go on, or with `or_stop` each answers that memory ran out,
+/// and none is made. Where memory of its own runs out, a call answers so; from there on it writes nothing more either.
+/// It asks for memory of its own in `accept` and `read` alone.
 #[derive(Drop)]
-pub struct Recorder<'w, W: World, O: Sink> {
+pub struct Recorder<'w, W: World, O: Sink, E: Sink> {
     inner: &'w mut W,
     out: &'w mut O,
+    errors: &'w mut E,
     tape: &'w mut Tape,
     or_stop: bool,
 }
 
-impl<'w, W: World, O: Sink> Recorder<'w, W, O> {
+impl<'w, W: World, O: Sink, E: Sink> Recorder<'w, W, O, E> {
     /// A recorder of the calls from here on, with a new tape; by `or_stop` they end with what is written. Takes no
     /// memory.
     pub fn new(
         inner: &'w mut W,
         out: &'w mut O,
+        errors: &'w mut E,
         tape: &'w mut Tape,
         or_stop: bool,
-    ) -> Recorder<'w, W, O>
+    ) -> Recorder<'w, W, O, E>
         requires ports { W.last_port inner.old ≡ 0 }
-        requires empty { taped (O.seen out.old) tape.old.is_broken tape.old.is_short tape.old.notes
-            ≡ taped (O.seen out.old) false false first_recording }
+        requires empty { taped (O.seen out.old) (E.seen errors.old) tape.old.is_broken tape.old.is_short tape.old.notes
+            ≡ taped (O.seen out.old) (E.seen errors.old) false false first_recording }
         ensures world { result.inner.ghost_name ≡ inner.entry.ghost_name }
         ensures world_value { result.inner.now ≡ inner.old }
         ensures sink { result.out.ghost_name ≡ out.entry.ghost_name }
-        ensures first { taped (O.seen result.out.now) result.tape.now.is_broken result.tape.now.is_short
-            result.tape.now.notes ≡ taped (O.seen out.old) false false first_recording }
+        ensures errors { result.errors.ghost_name ≡ errors.entry.ghost_name }
+        ensures first { taped (O.seen result.out.now) (E.seen result.errors.now) result.tape.now.is_broken
+            result.tape.now.is_short result.tape.now.notes
+            ≡ taped (O.seen out.old) (E.seen errors.old) false false first_recording }
         ensures or_stop { result.or_stop ≡ or_stop }
     {
         Recorder {
             inner,
             out,
+            errors,
             tape,
             or_stop,
         }
@@ -75,7 +81,7 @@ impl<'w, W: World, O: Sink> Recorder<'w, W, O> {
     }
 }
 
-impl<'w, W: World, O: Sink> World for Recorder<'w, W, O> {
+impl<'w, W: World, O: Sink, E: Sink> World for Recorder<'w, W, O, E> {
     ghost journal = { λ r. W.journal r.inner.now };
 
     ghost faults = { λ r. W.faults r.inner.now };
@@ -85,30 +91,34 @@ impl<'w, W: World, O: Sink> World for Recorder<'w, W, O> {
     ghost greatest = { λ r. W.greatest r.inner.now };
 
     ghost leads = { λ x y. (y.inner.ghost_name ≡ x.inner.ghost_name) × (y.out.ghost_name ≡ x.out.ghost_name)
+        × (y.errors.ghost_name ≡ x.errors.ghost_name)
         × W.leads x.inner.now y.inner.now
         × Leads x.or_stop (W.journal x.inner.now) (W.journal y.inner.now)
-        (taped (O.seen x.out.now) x.tape.now.is_broken x.tape.now.is_short x.tape.now.notes)
-        (taped (O.seen y.out.now) y.tape.now.is_broken y.tape.now.is_short y.tape.now.notes)
+        (taped (O.seen x.out.now) (E.seen x.errors.now) x.tape.now.is_broken x.tape.now.is_short x.tape.now.notes)
+        (taped (O.seen y.out.now) (E.seen y.errors.now) y.tape.now.is_broken y.tape.now.is_short y.tape.now.notes)
         × (y.or_stop ≡ x.or_stop) };
 
     ghost stays = { λ x. (
       refl,
       refl,
+      refl,
       W.stays x.inner.now,
       leads-same x.or_stop (W.journal x.inner.now)
-          (taped (O.seen x.out.now) x.tape.now.is_broken x.tape.now.is_short x.tape.now.notes),
+          (taped (O.seen x.out.now) (E.seen x.errors.now) x.tape.now.is_broken x.tape.now.is_short x.tape.now.notes),
       refl,
     ) };
 
     ghost goes_on = { λ x y z p q. (
       q.0 ∙ p.0,
       q.1 ∙ p.1,
-      W.goes_on x.inner.now y.inner.now z.inner.now p.2 q.2,
+      q.2 ∙ p.2,
+      W.goes_on x.inner.now y.inner.now z.inner.now p.3 q.3,
       leads-twice x.or_stop y.or_stop (W.journal x.inner.now) (W.journal y.inner.now) (W.journal z.inner.now)
-          (taped (O.seen x.out.now) x.tape.now.is_broken x.tape.now.is_short x.tape.now.notes)
-          (taped (O.seen y.out.now) y.tape.now.is_broken y.tape.now.is_short y.tape.now.notes)
-          (taped (O.seen z.out.now) z.tape.now.is_broken z.tape.now.is_short z.tape.now.notes) p.4 p.3 q.3,
-      q.4 ∙ p.4,
+          (taped (O.seen x.out.now) (E.seen x.errors.now) x.tape.now.is_broken x.tape.now.is_short x.tape.now.notes)
+          (taped (O.seen y.out.now) (E.seen y.errors.now) y.tape.now.is_broken y.tape.now.is_short y.tape.now.notes)
+          (taped (O.seen z.out.now) (E.seen z.errors.now) z.tape.now.is_broken z.tape.now.is_short z.tape.now.notes)
+          p.5 p.4 q.4,
+      q.5 ∙ p.5,
     ) };
 
     fn bind(&mut self, door: Door, path: &str) -> Result<(), WorldFault> {
@@ -116,7 +126,7 @@ impl<'w, W: World, O: Sink> World for Recorder<'w, W, O> {
             return Err(WorldFault::Memory);
         }
         let answer = self.inner.bind(door, path);
-        self.tape.bind(self.out, &answer);
+        self.tape.bind(self.out, self.errors, &answer);
         answer
     }
 
@@ -149,7 +159,8 @@ impl<'w, W: World, O: Sink> World for Recorder<'w, W, O> {
             return Err(WorldFault::Memory);
         }
         let answer = self.inner.read(port, room);
-        self.tape.read(port, got(&answer, room), &answer);
+        self.tape
+            .read(self.errors, port, got(&answer, room), &answer);
         answer
     }
 
@@ -185,7 +196,7 @@ impl<'w, W: World, O: Sink> World for Recorder<'w, W, O> {
             return Err(AllocError);
         }
         let answer = self.inner.now();
-        self.tape.now(self.out, &answer);
+        self.tape.now(self.out, self.errors, &answer);
         answer
     }
 }

@@ -1,4 +1,5 @@
-//! What a recorder writes for each call on its world, until its sink fails or memory runs out.
+//! What a recorder writes for each call on its world, until its sink fails, passphrases have no room or memory
+//! runs out.
 
 ghost use Rattle.std.specs.Prelude.{◌≡◌, ◌++◌, ◌||◌, ◌&&◌, ℕ, List, Option, OnErr, OnOk, false, true, is_err, not, []};
 ghost use Rattle.std.specs.Io.KnownBytes.{Appends};
@@ -8,7 +9,7 @@ ghost use Rattle.world_ports.specs.declared.Door.{Door};
 ghost use Rattle.world_ports.specs.declared.answers.Ready.{Ready};
 ghost use Rattle.world_ports.specs.declared.entry.Entry.TheVariants as entry;
 ghost use Rattle.world_ports.specs.Journal.{is_short};
-ghost use Rattle.record_world.specs.Leads.{Puts, WritesOf, taped};
+ghost use Rattle.record_world.specs.Leads.{Puts, Says, SaysIf, WritesOf, taped};
 ghost use Rattle.schedule_text.specs.declared.step.Step.TheVariants as steps;
 ghost use Rattle.schedule_text.specs.Steps.{step_line};
 ghost use Rattle.record_world.specs.Recording.{first_recording, only, with_due};
@@ -24,6 +25,13 @@ use world_ports::{
 
 /// The first line of a record.
 const FORMAT: &[u8] = b"schedule 2\n";
+
+/// What is said where a write of the record failed.
+const UNWRITTEN: &[u8] = b"mortarleek: the record can't be written: nothing more is recorded\n";
+
+/// What is said where the passphrases that came have no room.
+const NO_ROOM: &[u8] =
+    b"mortarleek: no room for more passphrases that were tried: nothing more is recorded\n";
 
 /// What a recorder keeps between two calls: whether the record broke, whether memory ran out, and notes. After either it
 /// writes nothing more.
@@ -62,6 +70,26 @@ fn put<O: Sink>(out: &mut O, first: &[u8], second: &[u8]) -> bool
     ensures { Puts (first.now ++ second.now) (O.seen out.old) (O.seen out.new) result }
 {
     write_both(out, first, second).is_err()
+}
+
+// Says why nothing more is recorded. That it can't be said is no fault of the record.
+#[tactic(auto, using(crate::proofs::LeadsLemmas::said_once))]
+fn say<E: Sink>(errors: &mut E, line: &[u8])
+    ensures { Says line.now (E.seen errors.old) (E.seen errors.new) }
+{
+    put(errors, line, &[]);
+}
+
+// Writes one text and then another; tells whether the sink failed, and then says so.
+fn put_or_say<O: Sink, E: Sink>(out: &mut O, errors: &mut E, first: &[u8], second: &[u8]) -> bool
+    ensures puts { Puts (first.now ++ second.now) (O.seen out.old) (O.seen out.new) result }
+    ensures says { SaysIf result (E.seen errors.old) (E.seen errors.new) }
+{
+    let failed = put(out, first, second);
+    if failed {
+        say(errors, UNWRITTEN);
+    }
+    failed
 }
 
 impl Tape {
@@ -126,22 +154,27 @@ impl Tape {
 
     /// A bind was answered so.
     #[tactic(auto, using(crate::proofs::LeadsLemmas::written_by))]
-    pub(crate) fn bind<O: Sink>(&mut self, out: &mut O, answer: &Result<(), WorldFault>)
+    pub(crate) fn bind<O: Sink, E: Sink>(
+        &mut self,
+        out: &mut O,
+        errors: &mut E,
+        answer: &Result<(), WorldFault>,
+    )
         ensures wrote { (door : Door) (path : List ℕ) → WritesOf (is_short answer.now) (entry.Bind door path answer.now)
-            (taped (O.seen out.old) self.old.is_broken self.old.is_short self.old.notes)
-            (taped (O.seen out.new) self.new.is_broken self.new.is_short self.new.notes) }
+            (taped (O.seen out.old) (E.seen errors.old) self.old.is_broken self.old.is_short self.old.notes)
+            (taped (O.seen out.new) (E.seen errors.new) self.new.is_broken self.new.is_short self.new.notes) }
         ensures short { self.new.is_short ≡ (self.old.is_short || is_short answer.now) }
     {
         if self.records(is_short(answer)) && self.notes.bind() {
-            self.is_broken = put(out, FORMAT, &[]);
+            self.is_broken = put_or_say(out, errors, FORMAT, &[]);
         }
     }
 
     /// A poll was answered so.
     pub(crate) fn poll(&mut self, answer: &Result<Polled, WorldFault>)
-        ensures wrote { (sink : StreamView) (wait : Option ℕ) (items : List Ready) → WritesOf (is_short answer.now) (entry.Poll wait items answer.now)
-            (taped sink self.old.is_broken self.old.is_short self.old.notes)
-            (taped sink self.new.is_broken self.new.is_short self.new.notes) }
+        ensures wrote { (sink errors : StreamView) (wait : Option ℕ) (items : List Ready) → WritesOf (is_short answer.now) (entry.Poll wait items answer.now)
+            (taped sink errors self.old.is_broken self.old.is_short self.old.notes)
+            (taped sink errors self.new.is_broken self.new.is_short self.new.notes) }
         ensures short { self.new.is_short ≡ (self.old.is_short || is_short answer.now) }
     {
         if self.records(is_short(answer)) {
@@ -151,9 +184,9 @@ impl Tape {
 
     /// An accept at this door was answered so.
     pub(crate) fn accept(&mut self, door: Door, answer: &Result<Accepted, WorldFault>)
-        ensures wrote { (sink : StreamView) → WritesOf (is_short answer.now) (entry.Accept door answer.now)
-            (taped sink self.old.is_broken self.old.is_short self.old.notes)
-            (taped sink self.new.is_broken self.new.is_short self.new.notes) }
+        ensures wrote { (sink errors : StreamView) → WritesOf (is_short answer.now) (entry.Accept door answer.now)
+            (taped sink errors self.old.is_broken self.old.is_short self.old.notes)
+            (taped sink errors self.new.is_broken self.new.is_short self.new.notes) }
         ensures short { self.new.is_short ≡ true
             → ((self.old.is_short || is_short answer.now) || self.new.owes) ≡ true }
     {
@@ -170,10 +203,16 @@ impl Tape {
     }
 
     /// A read of a port brought these bytes, or was answered so.
-    pub(crate) fn read(&mut self, port: u64, bytes: &[u8], answer: &Result<Got, WorldFault>)
+    pub(crate) fn read<E: Sink>(
+        &mut self,
+        errors: &mut E,
+        port: u64,
+        bytes: &[u8],
+        answer: &Result<Got, WorldFault>,
+    )
         ensures wrote { (sink : StreamView) (room : ℕ) → WritesOf (is_short answer.now) (entry.Read port room bytes.now answer.now)
-            (taped sink self.old.is_broken self.old.is_short self.old.notes)
-            (taped sink self.new.is_broken self.new.is_short self.new.notes) }
+            (taped sink (E.seen errors.old) self.old.is_broken self.old.is_short self.old.notes)
+            (taped sink (E.seen errors.new) self.new.is_broken self.new.is_short self.new.notes) }
         ensures short { self.new.is_short ≡ true
             → ((self.old.is_short || is_short answer.now) || self.new.owes) ≡ true }
     {
@@ -181,7 +220,10 @@ impl Tape {
             match *answer {
                 Ok(Got::Bytes(_)) => match self.notes.hear(port, bytes) {
                     Ok(()) => {}
-                    Err(RedactFault::Full) => self.is_broken = true,
+                    Err(RedactFault::Full) => {
+                        self.is_broken = true;
+                        say(errors, NO_ROOM);
+                    }
                     Err(RedactFault::Memory) => self.run_out(),
                 },
                 Ok(Got::End) | Err(_) => self.notes.end(port),
@@ -192,9 +234,9 @@ impl Tape {
 
     /// A write to a port was answered so.
     pub(crate) fn write(&mut self, port: u64, answer: &Result<Wrote, WorldFault>)
-        ensures wrote { (sink : StreamView) (offered : List ℕ) → WritesOf (is_short answer.now) (entry.Write port offered answer.now)
-            (taped sink self.old.is_broken self.old.is_short self.old.notes)
-            (taped sink self.new.is_broken self.new.is_short self.new.notes) }
+        ensures wrote { (sink errors : StreamView) (offered : List ℕ) → WritesOf (is_short answer.now) (entry.Write port offered answer.now)
+            (taped sink errors self.old.is_broken self.old.is_short self.old.notes)
+            (taped sink errors self.new.is_broken self.new.is_short self.new.notes) }
         ensures short { self.new.is_short ≡ (self.old.is_short || is_short answer.now) }
     {
         if self.records(is_short(answer)) {
@@ -208,9 +250,9 @@ impl Tape {
 
     /// A close of a port was answered so.
     pub(crate) fn close(&mut self, port: u64, answer: &Result<(), AllocError>)
-        ensures wrote { (sink : StreamView) → WritesOf (is_err answer.now) (entry.Close port answer.now)
-            (taped sink self.old.is_broken self.old.is_short self.old.notes)
-            (taped sink self.new.is_broken self.new.is_short self.new.notes) }
+        ensures wrote { (sink errors : StreamView) → WritesOf (is_err answer.now) (entry.Close port answer.now)
+            (taped sink errors self.old.is_broken self.old.is_short self.old.notes)
+            (taped sink errors self.new.is_broken self.new.is_short self.new.notes) }
         ensures short { self.new.is_short ≡ (self.old.is_short || is_err answer.now) }
     {
         if self.records(answer.is_err()) {
@@ -220,9 +262,9 @@ impl Tape {
 
     /// A start of a child process was answered so.
     pub(crate) fn start(&mut self, job: Job, answer: &Result<[u8; 16], WorldFault>)
-        ensures wrote { (sink : StreamView) → WritesOf (is_short answer.now) (entry.Start job answer.now)
-            (taped sink self.old.is_broken self.old.is_short self.old.notes)
-            (taped sink self.new.is_broken self.new.is_short self.new.notes) }
+        ensures wrote { (sink errors : StreamView) → WritesOf (is_short answer.now) (entry.Start job answer.now)
+            (taped sink errors self.old.is_broken self.old.is_short self.old.notes)
+            (taped sink errors self.new.is_broken self.new.is_short self.new.notes) }
         ensures short { self.new.is_short ≡ (self.old.is_short || is_short answer.now) }
     {
         if self.records(is_short(answer)) {
@@ -234,31 +276,37 @@ impl Tape {
     }
 
     /// A reading of the clocks was answered so.
-    pub(crate) fn now<O: Sink>(&mut self, out: &mut O, answer: &Result<Moment, AllocError>)
+    pub(crate) fn now<O: Sink, E: Sink>(
+        &mut self,
+        out: &mut O,
+        errors: &mut E,
+        answer: &Result<Moment, AllocError>,
+    )
         ensures wrote { WritesOf (is_err answer.now) (entry.Now answer.now)
-            (taped (O.seen out.old) self.old.is_broken self.old.is_short self.old.notes)
-            (taped (O.seen out.new) self.new.is_broken self.new.is_short self.new.notes) }
+            (taped (O.seen out.old) (E.seen errors.old) self.old.is_broken self.old.is_short self.old.notes)
+            (taped (O.seen out.new) (E.seen errors.new) self.new.is_broken self.new.is_short self.new.notes) }
         ensures short { self.new.is_short ≡ (self.old.is_short || is_err answer.now) }
     {
         if self.records(answer.is_err())
             && let Ok(moment) = *answer
         {
-            self.tell(out, moment);
+            self.tell(out, errors, moment);
         }
     }
 
     // Writes the line of a moment, and what waited for it.
-    fn tell<O: Sink>(&mut self, out: &mut O, moment: Moment)
+    fn tell<O: Sink, E: Sink>(&mut self, out: &mut O, errors: &mut E, moment: Moment)
         ensures short { self.new.is_short ≡ self.old.is_short }
         ensures notes { self.new.notes ≡ with_due (only [] self.old.notes) }
         ensures puts { Puts (step_line (steps.At moment) ++ self.old.notes.due)
             (O.seen out.old) (O.seen out.new) self.new.is_broken }
+        ensures says { SaysIf self.new.is_broken (E.seen errors.old) (E.seen errors.new) }
     {
         let mut line = Line::new();
         put_at(&mut line, moment);
         let (due, hearing) = self.notes.due();
         put_due(&mut line, due);
-        self.is_broken = put(out, line.as_slice(), hearing);
+        self.is_broken = put_or_say(out, errors, line.as_slice(), hearing);
         self.notes.pass();
     }
 }

@@ -40,7 +40,8 @@ pub fn agent_over<R: Abort + Wait, I: Source, O: Sink>(
 ) -> Status {
     let words = texts(rt, alloc, line);
     let mut world = ScriptWorld::new(alloc, Vec::new(alloc), Vec::new(alloc));
-    agent_main(rt, alloc, &words, &mut world, input, output)
+    let mut errors = VecSink::new(alloc, 1, Vec::new(alloc)).expect(rt, "a sink");
+    agent_main(rt, alloc, &words, &mut world, input, output, &mut errors)
 }
 
 /// A run of a schedule whose source gives at most `cut` bytes a call, and whose sink takes at most `sink_cut`. The calls

@@ -125,9 +125,18 @@ fn recorded<R: Abort + Wait>(
     let words = texts(rt, alloc, "serve -a agent.sock --helper helper --record");
     let mut world = ScriptWorld::new(alloc, turns, Vec::new(alloc));
     let mut input = SliceSource::new(b"", 1, Vec::new(alloc));
+    let mut errors = VecSink::new(alloc, 1, Vec::new(alloc)).expect(rt, "a sink");
     ends(
         rt,
-        agent_main(rt, alloc, &words, &mut world, &mut input, record),
+        agent_main(
+            rt,
+            alloc,
+            &words,
+            &mut world,
+            &mut input,
+            record,
+            &mut errors,
+        ),
         Status::Done,
     );
     world
@@ -138,9 +147,18 @@ fn replay<R: Abort + Wait>(rt: &R, alloc: Global, record: &[u8], deeds: &mut Vec
     let words = texts(rt, alloc, "replay");
     let mut world = ScriptWorld::new(alloc, Vec::new(alloc), Vec::new(alloc));
     let mut input = SliceSource::new(record, ROOM, Vec::new(alloc));
+    let mut errors = VecSink::new(alloc, 1, Vec::new(alloc)).expect(rt, "a sink");
     ends(
         rt,
-        agent_main(rt, alloc, &words, &mut world, &mut input, deeds),
+        agent_main(
+            rt,
+            alloc,
+            &words,
+            &mut world,
+            &mut input,
+            deeds,
+            &mut errors,
+        ),
         Status::Done,
     );
 }

@@ -95,7 +95,16 @@ pub fn serve_failing<R: Abort + Wait>(
     let mut world = ScriptWorld::new(alloc, turns, failing);
     let mut input = SliceSource::new(b"", 1, Vec::new(alloc));
     let mut output = VecSink::new(alloc, 1, Vec::new(alloc)).expect(rt, "a sink");
-    let status = agent_main(rt, alloc, &words, &mut world, &mut input, &mut output);
+    let mut errors = VecSink::new(alloc, 1, Vec::new(alloc)).expect(rt, "a sink");
+    let status = agent_main(
+        rt,
+        alloc,
+        &words,
+        &mut world,
+        &mut input,
+        &mut output,
+        &mut errors,
+    );
     (status, world)
 }
 

@@ -56,4 +56,4 @@ returns-then-served-clause-serves_fairly g c setting is = serves_fairly setting 
 
 pub returns-in-Err-Memory-clause-records : goal.returns-in-Err-Memory-clause-records
 returns-in-Err-Memory-clause-records g c setting is recorded =
-    unwritten _ (g.W.World.journal c.args.world.now) (g.O.Stream.seen c.args.output.now)
+    unwritten _ (g.W.World.journal c.args.world.now) (g.O.Stream.seen c.args.output.now) (g.E.Stream.seen c.args.errors.now)

@@ -5,9 +5,9 @@ use Rattle.record_world.proofs.recorder.RecorderWorld.now.Goals as goal
 
 pub returns-then-refuses-clause-led : goal.returns-then-refuses-clause-led
 returns-then-refuses-clause-led g c =
-    rw c.refuses.ensures.kept (refl, refl, g.met.W.World.stays c.args.self.now.inner.now, leads-same _ _ _, refl)
+    rw c.refuses.ensures.kept (refl, refl, refl, g.met.W.World.stays c.args.self.now.inner.now, leads-same _ _ _, refl)
 
 pub returns-clause-led : goal.returns-clause-led
 returns-clause-led g c =
     let kept = c.refuses.ensures.kept in
-    (refl, refl, c.now-answer.ensures.led, leads-call _ _ _ _ _ _ _ (let_through _ _ _ c.refuses.ensures.value c.if-refuses.false) c.now-answer.ensures.told (rw kept at c.now.ensures.wrote), refl)
+    (refl, refl, refl, c.now-answer.ensures.led, leads-call _ _ _ _ _ _ _ (let_through _ _ _ c.refuses.ensures.value c.if-refuses.false) c.now-answer.ensures.told (rw kept at c.now.ensures.wrote), refl)

@@ -5,9 +5,9 @@ use Rattle.record_world.proofs.recorder.RecorderWorld.start.Goals as goal
 
 pub returns-then-refuses-clause-led : goal.returns-then-refuses-clause-led
 returns-then-refuses-clause-led g c =
-    rw c.refuses.ensures.kept (refl, refl, g.met.W.World.stays c.args.self.now.inner.now, leads-same _ _ _, refl)
+    rw c.refuses.ensures.kept (refl, refl, refl, g.met.W.World.stays c.args.self.now.inner.now, leads-same _ _ _, refl)
 
 pub returns-clause-led : goal.returns-clause-led
 returns-clause-led g c =
     let kept = c.refuses.ensures.kept in
-    (refl, refl, c.start-answer.ensures.led, leads-call _ _ _ _ _ _ _ (let_through _ _ _ c.refuses.ensures.value c.if-refuses.false) c.start-answer.ensures.told (rw kept at (c.start.ensures.wrote (g.O.Stream.seen c.args.self.now.out.now))), refl)
+    (refl, refl, refl, c.start-answer.ensures.led, leads-call _ _ _ _ _ _ _ (let_through _ _ _ c.refuses.ensures.value c.if-refuses.false) c.start-answer.ensures.told (rw kept at (c.start.ensures.wrote (g.O.Stream.seen c.args.self.now.out.now) (g.E.Stream.seen c.args.self.now.errors.now))), refl)
