@@ -87,7 +87,7 @@ port-looked wall peer = by_asked peer.asked
     by_asked (asked.Adding blob comment) = refl
     by_asked asked.Other = refl
 
-port-answered : (wall : ℕ) (bytes : List ℕ) (peer : Peer) → (answered wall bytes peer).port ≡ peer.port
+pub port-answered : (wall : ℕ) (bytes : List ℕ) (peer : Peer) → (answered wall bytes peer).port ≡ peer.port
 unfolding answered
 port-answered wall bytes peer = by_next (next_in (peer.given ++ bytes))
   where

@@ -11,7 +11,7 @@ use Rattle.agent_model.specs.Step.{took_some}
 use Rattle.agent_model.proofs.MakeLemmas.{IsOf, takes}
 use Rattle.log_book.specs.Peers.{Peer}
 use Rattle.log_book.specs.declared.told.Asked.TheVariants as asks
-use Rattle.log_laws.specs.Ends.{Came, End, Left, Request, TellsEnds, TellsWhatCame, ask_in, came_at, came_by, ended_at, ends_at, ends_with, is_busy, last_request, readings_of, waits_at, waits_with}
+use Rattle.log_laws.specs.Ends.{Came, End, Left, Request, TellsEnds, TellsWhatCame, Went, ask_in, came_at, came_by, ended_at, ends_at, ends_with, is_busy, last_request, readings_of, waits_at, waits_with, went_by}
 use Rattle.log_laws.specs.Ends as law
 use Rattle.log_laws.proofs.BookLemmas.{AreAlike, both, claim-alike, claim_of, neither, peer_or}
 use Rattle.log_laws.proofs.ClientLemmas.{Client, idle, taking, waiting}
@@ -28,7 +28,7 @@ pub ends-none : (number : ℕ) (timed : Timed) (port : Port) (last : Option Requ
     → ((later : List Action) → came_at number port later timed.event ≡ None) → ends_with number timed (Some port) last ≡ []
 ends-none number timed port None none = refl
 ends-none number timed port (Some request) none =
-    ap (λ came. if is_client port.door then law.ended_by timed.moment.wall came (readings_of request) else []) (none request.later)
+    ap (λ came. if is_client port.door then law.ended_by timed.moment.wall came (went_by number request.later) (readings_of request) else []) (none request.later)
     ∙ either-way (is_client port.door)
 
 pub ends-child : (number : ℕ) (timed : Timed) (found : Option Port) (last : Option Request)
@@ -36,29 +36,29 @@ pub ends-child : (number : ℕ) (timed : Timed) (found : Option Port) (last : Op
 ends-child number timed None last child = refl
 ends-child number timed (Some port) None child = refl
 ends-child number timed (Some port) (Some request) child =
-    ap (λ door. if is_client door then law.ended_by timed.moment.wall (came_at number port request.later timed.event) (readings_of request) else []) (child port refl)
+    ap (λ door. if is_client door then law.ended_by timed.moment.wall (came_at number port request.later timed.event) (went_by number request.later) (readings_of request) else []) (child port refl)
 
 pub ends-some : (number : ℕ) (timed : Timed) (port : Port) (request : Request) (came : Came) → port.door ≡ Clients
     → came_at number port request.later timed.event ≡ Some came
-    → ends_with number timed (Some port) (Some request) ≡ map (ended_at timed.moment.wall came) (readings_of request)
+    → ends_with number timed (Some port) (Some request) ≡ map (ended_at timed.moment.wall came (went_by number request.later)) (readings_of request)
 ends-some number timed port request came door is =
-    ap (λ d. if is_client d then law.ended_by timed.moment.wall (came_at number port request.later timed.event) (readings_of request) else []) door
-    ∙ ap (λ c. law.ended_by timed.moment.wall c (readings_of request)) is
+    ap (λ d. if is_client d then law.ended_by timed.moment.wall (came_at number port request.later timed.event) (went_by number request.later) (readings_of request) else []) door
+    ∙ ap (λ c. law.ended_by timed.moment.wall c (went_by number request.later) (readings_of request)) is
 
-pub waits-child : (found : Option Port) (last : Option Request) → ((port : Port) → found ≡ Some port → port.door ≡ Children)
-    → waits_with found last ≡ []
-waits-child None last child = refl
-waits-child (Some port) None child = refl
-waits-child (Some port) (Some request) child =
-    ap (λ door. if is_client door && is_busy port.waits port.owed then map law.waiting (readings_of request) else []) (child port refl)
+pub waits-child : (number : ℕ) (found : Option Port) (last : Option Request) → ((port : Port) → found ≡ Some port → port.door ≡ Children)
+    → waits_with number found last ≡ []
+waits-child number None last child = refl
+waits-child number (Some port) None child = refl
+waits-child number (Some port) (Some request) child =
+    ap (λ door. if is_client door && is_busy port.waits port.owed then map (law.waiting (went_by number request.later)) (readings_of request) else []) (child port refl)
 
-pub waits-none : (port : Port) (last : Option Request) → is_busy port.waits port.owed ≡ false → waits_with (Some port) last ≡ []
-waits-none port None idle_port = refl
-waits-none port (Some request) idle_port =
-    ap (λ b. if is_client port.door && b then map law.waiting (readings_of request) else []) idle_port
+pub waits-none : (number : ℕ) (port : Port) (last : Option Request) → is_busy port.waits port.owed ≡ false → waits_with number (Some port) last ≡ []
+waits-none number port None idle_port = refl
+waits-none number port (Some request) idle_port =
+    ap (λ b. if is_client port.door && b then map (law.waiting (went_by number request.later)) (readings_of request) else []) idle_port
     ∙ either (is_client port.door)
   where
-    either : (is : Bool) → (if is && false then map law.waiting (readings_of request) else []) ≡ []
+    either : (is : Bool) → (if is && false then map (law.waiting (went_by number request.later)) (readings_of request) else []) ≡ []
     either true = refl
     either false = refl
 
@@ -82,9 +82,9 @@ busy-is port peer (waiting on unowed sent given asking) some = waiting-is port.w
 busy-is port peer (taking body nothing owes sent asking fits text) some =
     ap (λ w. is_busy w port.owed) nothing ∙ owed-is_busy port.owed owes
 
-pub left-none : (wall : ℕ) (is : Bool) (found : Option Peer) → claim_of found ≡ [] → left_ends wall is found ≡ []
-left-none wall true found none = ap (map (ended_at wall Left)) none
-left-none wall false found none = refl
+pub left-none : (wall : ℕ) (is : Bool) (went : Went) (found : Option Peer) → claim_of found ≡ [] → left_ends wall is went found ≡ []
+left-none wall true went found none = ap (map (ended_at wall Left went)) none
+left-none wall false went found none = refl
 
 -- an event is the end of this port, or isn't
 pub ended-or : (number : ℕ) (event : Happening) → (event ≡ Ended number) ⊎ (event ≢ Ended number)
@@ -111,7 +111,7 @@ came-none number port (Ended at) foreign open_yet later =
 came-none number port (Took at count) foreign open_yet later =
     let other : at ≢ number = λ same. foreign (took_some count, takes count (ap (λ n. Took n count) same)) in
     let fails : (at == number) ≡ false = grind (arith, nat_tests) in
-    ap (λ b. if b && (count == length port.owed) then Some (came_by (ask_in number later)) else None) fails
+    ap (λ b. if b && (count == length port.owed) then Some (came_by (went_by number later).put (ask_in number later)) else None) fails
 came-none number port (Started job ticket) foreign open_yet later = refl
 came-none number port (StartFailed job) foreign open_yet later = refl
 came-none number port Tick foreign open_yet later = refl
@@ -145,6 +145,6 @@ fares-alike number past port (both one other is) fares = λ busy.
       raised = now.raised;
       taking = λ nothing. (
         (now.taking nothing).0,
-        λ body small text. (now.taking nothing).1 body small (ap (λ g. g ++ port.owed) (sym is.given) ∙ text),
+        λ was_put body small text. (now.taking nothing).1 was_put body small (ap (λ g. g ++ port.owed) (sym is.given) ∙ text),
       );
     })

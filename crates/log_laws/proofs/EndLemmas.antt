@@ -1,10 +1,11 @@
 -- What is told of one client's requests that end, as things are seen one after another and when all was seen.
-use Rattle.std.proofs.Common.{◌≡◌, ◌≢◌, ℕ, ◌==◌, ◌||◌, List, [], ◌∷◌, ◌++◌, map, take, refl, ap, arith, sym, subst, ◌∙◌, Bool, true, false, cond, Option, Some, None, inl, inr, if◌then◌else◌}
+use Rattle.std.proofs.Common.{◌≡◌, ◌≢◌, ℕ, ◌==◌, ◌||◌, List, [], ◌∷◌, ◌++◌, map, take, refl, ap, arith, sym, subst, ◌∙◌, Bool, true, false, cond, Option, Some, None, is_some, inl, inr, if◌then◌else◌}
 use Rattle.std.proofs.lemmas.Bool.{cases_eq}
 use Rattle.std.proofs.lemmas.Bool.Decides.{nat_tests}
 use Rattle.std.proofs.lemmas.List.{append-nil}
 use Rattle.std.proofs.lemmas.List.Elements.{filter_map-append}
 use Rattle.std.specs.List.{flat_map}
+use Rattle.std.specs.Option.{option_map}
 use Rattle.lists.specs.Keyed.{has_key}
 use Rattle.lists.specs.Rising.{is_among}
 use Rattle.lists.proofs.FirstLemmas.{some_or_later}
@@ -26,39 +27,47 @@ use Rattle.log_book.specs.declared.told.Course.{Course}
 use Rattle.log_book.specs.declared.told.Fate.{Fate}
 use Rattle.log_book.specs.declared.told.Fate.TheVariants as fate
 use Rattle.log_book.specs.declared.told.Told.{Told}
-use Rattle.log_laws.specs.Ends.{Came, End, Left, Refused, Signed, came_told, end_told, ended_at, ends_told, waiting}
+use Rattle.log_laws.specs.Ends.{Came, End, Failed, Left, Signed, Went, came_told, end_told, ended_at, ends_told, refused_as, waiting, went_told}
 use Rattle.log_laws.specs.Sights.{came_of, closed_sight, goes_over, is_of_client, of_client, put_in, put_sight, raised_in, raised_sight, seen_at}
 use Rattle.log_laws.proofs.BookLemmas.{AreAlike, IsAlone, at_port, claim-alike, claim_by, claim_of, neither, sees-closed, sees-closed_apart}
 use Rattle.log_laws.proofs.SightsLemmas.{brings-put, brings-raised, told-append}
+use Rattle.log_laws.proofs.WentLemmas.{closed-same, goes_on, went-marked, went_or, wents}
 
 -- a reply with this number is a signature, or else a refusal
-abbrev pub came_reply : ℕ → Came
-came_reply reply = if reply == 14 then Signed else Refused
+abbrev pub came_reply : Bool → ℕ → Came
+came_reply was_put reply = if reply == 14 then Signed else refused_as was_put
 
-pub came-fate : (reply : ℕ) (course : Course) (faults : ℕ) → came_told (fate_by reply course faults) ≡ came_reply reply
+pub came-fate : (reply : ℕ) (course : Course) (faults : ℕ)
+    → came_told (fate_by reply course faults) ≡ came_reply (is_some course.put) reply
 came-fate reply course faults = by_test (reply == 14)
   where
-    by_equal : (is : Bool) → came_told (if is then fate.HelperRefused else fate.HelperLost) ≡ Refused
+    by_equal : (is : Bool) → came_told (if is then fate.HelperRefused else fate.HelperLost) ≡ Failed
     by_equal true = refl
     by_equal false = refl
 
-    by_put : (put : Option ℕ) → came_told (refused_by put faults) ≡ Refused
+    by_put : (put : Option ℕ) → came_told (refused_by put faults) ≡ refused_as (is_some put)
     by_put None = refl
     by_put (Some before) = by_equal (before == faults)
 
-    by_test : (is : Bool) → came_told (if is then fate.Signed else refused_by course.put faults) ≡ (if is then Signed else Refused)
+    by_test : (is : Bool)
+        → came_told (if is then fate.Signed else refused_by course.put faults) ≡ (if is then Signed else refused_as (is_some course.put))
     by_test true = refl
     by_test false = by_put course.put
 
 -- of a request that bytes end
 abbrev pub ended_ends : ℕ → Option EndedRequest → List End
 ended_ends wall None = []
-ended_ends wall (Some ended) = map (ended_at wall (came_reply ended.reply)) (claim_by ended.asked ended.course.since)
+ended_ends wall (Some ended) =
+    map (ended_at wall (came_reply (is_some ended.course.put) ended.reply) (went_told ended.course)) (claim_by ended.asked ended.course.since)
 
 -- of one whose port is closed, or isn't
-abbrev pub left_ends : ℕ → Bool → Option Peer → List End
-left_ends wall true found = map (ended_at wall Left) (claim_of found)
-left_ends wall false found = []
+abbrev pub left_ends : ℕ → Bool → Went → Option Peer → List End
+left_ends wall true went found = map (ended_at wall Left went) (claim_of found)
+left_ends wall false went found = []
+
+-- how far the request of a client went
+abbrev pub went_at : Option Peer → Went
+went_at found = went_or (wents found)
 
 module _ (number : ℕ) where
   abbrev pub ends : List Told → List End
@@ -71,7 +80,7 @@ module _ (number : ℕ) where
   ends-append one other = filter_map-append (end_told number) one other
 
   ends-own : (wall : ℕ) (asks : Asked) (course : Course) (came : Fate) (keys : List NamedKey)
-      → ends (told_by wall number asks course came keys) ≡ map (ended_at wall (came_told came)) (claim_by asks course.since)
+      → ends (told_by wall number asks course came keys) ≡ map (ended_at wall (came_told came) (went_told course)) (claim_by asks course.since)
   ends-own wall asked.Nothing course came keys = refl
   ends-own wall (asked.Signing blob message) course came keys = rw its_number refl
   ends-own wall (asked.Adding blob comment) course came keys = refl
@@ -93,7 +102,7 @@ module _ (number : ℕ) where
     concludes-own None later = refl
     concludes-own (Some ended) later =
         ends-own wall ended.asked ended.course (fate_by ended.reply ended.course faults) later.keys
-        ∙ ap (λ came. map (ended_at wall came) (claim_by ended.asked ended.course.since)) (came-fate ended.reply ended.course faults)
+        ∙ ap (λ came. map (ended_at wall came (went_told ended.course)) (claim_by ended.asked ended.course.since)) (came-fate ended.reply ended.course faults)
 
     pub ends-given : (bytes : List ℕ)
         → ends (see (seen_at wall faults (what.Given number bytes)) book).told ≡ ended_ends wall (books.ends_at bytes (at_port number book))
@@ -124,14 +133,14 @@ module _ (number : ℕ) where
     none-put port = refl
 
     left-own : (found : Option Peer) → at_port number book ≡ found
-        → ends (told_leaving wall book.keys found) ≡ map (ended_at wall Left) (claim_of found)
+        → ends (told_leaving wall book.keys found) ≡ map (ended_at wall Left (went_at found)) (claim_of found)
     left-own None is = refl
     left-own (Some peer) is =
         let own : peer.port ≡ number = found_key port_of number book.peers peer is in
         ap (λ n. ends (told_by wall n peer.asked peer.course fate.Left book.keys)) own
         ∙ ends-own wall peer.asked peer.course fate.Left book.keys
 
-    ends-closed_own : ends (see (closed_sight wall faults number) book).told ≡ map (ended_at wall Left) (claim_of (at_port number book))
+    ends-closed_own : ends (see (closed_sight wall faults number) book).told ≡ map (ended_at wall Left (went_at (at_port number book))) (claim_of (at_port number book))
     unfolding see
     ends-closed_own = left-own (at_port number book) refl
 
@@ -172,23 +181,26 @@ module _ (number : ℕ) where
       ∙ ap (λ (l : List Told). ends l ++ ends (see_all (map f ports) (see (f port) book).book).told) (none port book)
       ∙ ends-marks f ports (see (f port) book).book none
 
-  left-nobody : (wall : ℕ) (is : Bool) (found : Option Peer) → AreAlike None found → left_ends wall is found ≡ []
-  left-nobody wall true found neither = refl
-  left-nobody wall false found alike = refl
+  left-nobody : (wall : ℕ) (is : Bool) (went : Went) (found : Option Peer) → AreAlike None found → left_ends wall is went found ≡ []
+  left-nobody wall true went found neither = refl
+  left-nobody wall false went found alike = refl
 
-  left-alike : (wall : ℕ) (is : Bool) (one other : Option Peer) → AreAlike one other → left_ends wall is other ≡ left_ends wall is one
-  left-alike wall true one other alike = ap (map (ended_at wall Left)) (claim-alike alike)
-  left-alike wall false one other alike = refl
+  left-alike : (wall : ℕ) (is : Bool) (went : Went) (one other : Option Peer) → AreAlike one other
+      → left_ends wall is went other ≡ left_ends wall is went one
+  left-alike wall true went one other alike = ap (map (ended_at wall Left went)) (claim-alike alike)
+  left-alike wall false went one other alike = refl
 
   -- once it is closed
   abbrev Gone : (wall faults : ℕ) → Book → ℕ → Type 0
-  Gone wall faults book port = (ends (see (closed_sight wall faults port) book).told ≡ map (ended_at wall Left) (claim_of (at_port number book)))
+  Gone wall faults book port =
+      (ends (see (closed_sight wall faults port) book).told ≡ map (ended_at wall Left (went_at (at_port number book))) (claim_of (at_port number book)))
       × IsAlone number (see (closed_sight wall faults port) book).book.peers
       × AreAlike None (at_port number (see (closed_sight wall faults port) book).book)
 
   -- ports are closed
   ends-closed : (wall faults : ℕ) (ports : List ℕ) (book : Book) → IsAlone number book.peers
-      → ends (see_all (map (closed_sight wall faults) ports) book).told ≡ left_ends wall (is_among number ports) (at_port number book)
+      → ends (see_all (map (closed_sight wall faults) ports) book).told
+      ≡ left_ends wall (is_among number ports) (went_at (at_port number book)) (at_port number book)
   ends-closed wall faults [] book alone = ends-none book
   ends-closed wall faults (port ∷ ports) book alone =
       ends-then (closed_sight wall faults port) (map (closed_sight wall faults) ports) book
@@ -198,23 +210,24 @@ module _ (number : ℕ) where
       next = (see (closed_sight wall faults port) book).book
 
       by_test : (test : Bool) → (number == port) ≡ test
-          → (IsAlone number next.peers → ends (see_all (map (closed_sight wall faults) ports) next).told ≡ left_ends wall (is_among number ports) (at_port number next))
+          → (IsAlone number next.peers → ends (see_all (map (closed_sight wall faults) ports) next).told
+          ≡ left_ends wall (is_among number ports) (went_at (at_port number next)) (at_port number next))
           → ends (see (closed_sight wall faults port) book).told ++ ends (see_all (map (closed_sight wall faults) ports) next).told
-          ≡ left_ends wall (test || is_among number ports) (at_port number book)
+          ≡ left_ends wall (test || is_among number ports) (went_at (at_port number book)) (at_port number book)
       by_test true is rest =
           let equal : number ≡ port = grind (arith, nat_tests) in
           let closed = sees-closed number wall faults book alone in
           let gone : Gone wall faults book port = subst (Gone wall faults book) equal (ends-closed_own wall faults book, closed.alone, closed.found) in
           ap (λ (l : List End). l ++ ends (see_all (map (closed_sight wall faults) ports) next).told) gone.0
-          ∙ ap (λ (l : List End). map (ended_at wall Left) (claim_of (at_port number book)) ++ l)
-          (rest gone.1 ∙ left-nobody wall (is_among number ports) (at_port number next) gone.2)
-          ∙ append-nil (map (ended_at wall Left) (claim_of (at_port number book)))
+          ∙ ap (λ (l : List End). map (ended_at wall Left (went_at (at_port number book))) (claim_of (at_port number book)) ++ l)
+          (rest gone.1 ∙ left-nobody wall (is_among number ports) (went_at (at_port number next)) (at_port number next) gone.2)
+          ∙ append-nil (map (ended_at wall Left (went_at (at_port number book))) (claim_of (at_port number book)))
       by_test false is rest =
           let apart : number ≢ port = λ equal. let no : (number == port) ≡ true = grind (arith, nat_tests) in absurd (cc) in
           let closed = sees-closed_apart number wall faults book alone port apart in
           ap (λ (l : List End). l ++ ends (see_all (map (closed_sight wall faults) ports) next).told) (ends-closed_apart wall faults book port apart)
           ∙ rest closed.alone
-          ∙ left-alike wall (is_among number ports) (at_port number book) (at_port number next) closed.found
+          ∙ ap (λ found. left_ends wall (is_among number ports) (went_at found) found) (closed-same number wall faults port book apart)
 
   -- ---- an event
 
@@ -225,7 +238,8 @@ module _ (number : ℕ) where
 
   -- what came of it
   ends-came : (wall : ℕ) (outcome : Outcome) (book : Book) → IsAlone number book.peers
-      → ends (see_all (came_of wall outcome) book).told ≡ left_ends wall (is_among number outcome.closes) (at_port number book)
+      → ends (see_all (came_of wall outcome) book).told
+      ≡ left_ends wall (is_among number outcome.closes) (went_or (option_map (goes_on number outcome.actions) (wents (at_port number book)))) (at_port number book)
   ends-came wall outcome book alone =
       let faults = outcome.state.under_way.link.faults in
       let raises = map (raised_sight wall faults) (raised_in outcome.actions) in
@@ -240,19 +254,22 @@ module _ (number : ℕ) where
       ∙ ends-behind puts closes second
       ∙ ap (λ (l : List End). l ++ ends (see_all closes third).told) (ends-marks (put_sight wall faults) (put_in outcome.actions) second (λ port b. none-put wall faults b port))
       ∙ ends-closed wall faults outcome.closes third put.alone
-      ∙ left-alike wall (is_among number outcome.closes) (at_port number second) (at_port number third) put.found
-      ∙ left-alike wall (is_among number outcome.closes) (at_port number book) (at_port number second) raised.found
+      ∙ left-alike wall (is_among number outcome.closes) (went_at (at_port number third)) (at_port number second) (at_port number third) put.found
+      ∙ left-alike wall (is_among number outcome.closes) (went_at (at_port number third)) (at_port number book) (at_port number second) raised.found
+      ∙ ap (λ found. left_ends wall (is_among number outcome.closes) (went_or found) (at_port number book)) (went-marked number wall faults outcome.actions book)
 
   -- all of it, by what the bytes tell that go over the client's socket, and what they leave
   pub ends-event : (wall : ℕ) (over : List Sight) (outcome : Outcome) (book : Book) (found : Option Peer)
       → IsAlone number (see_all over book).book.peers → AreAlike found (at_port number (see_all over book).book)
+      → wents (at_port number (see_all over book).book) ≡ wents found
       → ends (see_all (over ++ came_of wall outcome) book).told
-      ≡ ends (see_all over book).told ++ left_ends wall (is_among number outcome.closes) found
-  ends-event wall over outcome book found alone alike =
+      ≡ ends (see_all over book).told ++ left_ends wall (is_among number outcome.closes) (went_or (option_map (goes_on number outcome.actions) (wents found))) found
+  ends-event wall over outcome book found alone alike went =
       ends-behind over (came_of wall outcome) book
       ∙ ap (λ (l : List End). ends (see_all over book).told ++ l)
       (ends-came wall outcome (see_all over book).book alone
-      ∙ left-alike wall (is_among number outcome.closes) found (at_port number (see_all over book).book) alike)
+      ∙ ap (λ w. left_ends wall (is_among number outcome.closes) (went_or (option_map (goes_on number outcome.actions) w)) (at_port number (see_all over book).book)) went
+      ∙ left-alike wall (is_among number outcome.closes) (went_or (option_map (goes_on number outcome.actions) (wents found))) found (at_port number (see_all over book).book) alike)
 
   -- bytes that a client sends, and those that go over other sockets, tell nothing of it
   pub ends-over : (moment : Moment) (state : State) (event : Happening) (book : Book)
@@ -283,10 +300,10 @@ module _ (number : ℕ) where
   -- ---- the end
 
   abbrev waits : Option Peer → List End
-  waits found = map waiting (claim_of found)
+  waits found = map (waiting (went_at found)) (claim_of found)
 
   ends-waiting : (asks : Asked) (course : Course) (keys : List NamedKey)
-      → ends (told_by course.since number asks course fate.Open keys) ≡ map waiting (claim_by asks course.since)
+      → ends (told_by course.since number asks course fate.Open keys) ≡ map (waiting (went_told course)) (claim_by asks course.since)
   ends-waiting asked.Nothing course keys = refl
   ends-waiting (asked.Signing blob message) course keys = rw its_number refl
   ends-waiting (asked.Adding blob comment) course keys = refl

@@ -1,5 +1,5 @@
 -- What a past says of the request that a client waits for, and what the client's port is: behind each event of others.
-use Rattle.std.proofs.Common.{◌≡◌, ◌≢◌, ℕ, ◌+◌, ◌^◌, ◌<◌, ◌≤◌, List, [], ◌∷◌, ◌++◌, length, refl, ap, arith, sym, subst, ◌∙◌, Option, Some, None}
+use Rattle.std.proofs.Common.{◌≡◌, ◌≢◌, ℕ, ◌+◌, ◌^◌, ◌<◌, ◌≤◌, List, [], ◌∷◌, ◌++◌, length, refl, ap, arith, sym, subst, ◌∙◌, Bool, Option, Some, None}
 use Rattle.std.proofs.lemmas.List.{append-nil}
 use Rattle.std.specs.Option.{option_map, option_or}
 use Rattle.world_ports.specs.declared.Door.TheVariants.{Clients}
@@ -48,25 +48,27 @@ IsSettled (Some put) = fate_of put.0.ask put.1 ≢ Unanswered
 
 -- these bytes are a reply that says what came of it
 abbrev pub SaysCame : Option (Asking × List Action) → List ℕ → Type 0
-SaysCame found text = (body : List ℕ) → length body < 2 ^ 32 → text ≡ string body → came_reply (first_byte body) ≡ came_by found
+SaysCame found text = (was_put : Bool) (body : List ℕ) → length body < 2 ^ 32 → text ≡ string body
+    → came_reply was_put (first_byte body) ≡ came_by was_put found
 
 -- what is done behind it changes nothing
 settled-more : (found : Option (Asking × List Action)) (more : List Action) → IsSettled found
     → IsSettled (option_or (option_map (behind_it more) found) None)
-    × (came_by (option_or (option_map (behind_it more) found) None) ≡ came_by found)
-settled-more None more settled = (tt, refl)
+    × ((was_put : Bool) → came_by was_put (option_or (option_map (behind_it more) found) None) ≡ came_by was_put found)
+settled-more None more settled = (tt, λ was_put. refl)
 settled-more (Some put) more settled =
     by_fate (fate_of put.0.ask put.1) refl
   where
     by_fate : (fate : Fate) → fate_of put.0.ask put.1 ≡ fate
-        → (fate_of put.0.ask (put.1 ++ more) ≢ Unanswered) × (came_of (fate_of put.0.ask (put.1 ++ more)) ≡ came_of (fate_of put.0.ask put.1))
+        → (fate_of put.0.ask (put.1 ++ more) ≢ Unanswered)
+        × ((was_put : Bool) → came_of was_put (fate_of put.0.ask (put.1 ++ more)) ≡ came_of was_put (fate_of put.0.ask put.1))
     by_fate Unanswered is = absurd (settled is)
     by_fate (Gets what) is =
         let same : fate_of put.0.ask (put.1 ++ more) ≡ Gets what = fate-append put.0.ask put.1 more ∙ ap (λ f. or_later f (fate_of put.0.ask more)) is in
-        (λ none. let no : Gets what ≡ Unanswered = sym same ∙ none in absurd (cc), ap came_of (same ∙ sym is))
+        (λ none. let no : Gets what ≡ Unanswered = sym same ∙ none in absurd (cc), λ was_put. ap (came_of was_put) (same ∙ sym is))
     by_fate Fails is =
         let same : fate_of put.0.ask (put.1 ++ more) ≡ Fails = fate-append put.0.ask put.1 more ∙ ap (λ f. or_later f (fate_of put.0.ask more)) is in
-        (λ none. let no : Fails ≡ Unanswered = sym same ∙ none in absurd (cc), ap came_of (same ∙ sym is))
+        (λ none. let no : Fails ≡ Unanswered = sym same ∙ none in absurd (cc), λ was_put. ap (came_of was_put) (same ∙ sym is))
 
 -- the body of the reply that tells what became of an ask
 abbrev reply_body : Fate → List ℕ
@@ -79,23 +81,24 @@ reply_body Fails = 5 ∷ []
 
 reply-text : (fate : Fate) (ask : ℕ) → fate ≢ Unanswered
     → (verdict_text (fate_verdict fate ask) ≡ string (reply_body fate)) × (verdict_waits (fate_verdict fate ask) ≡ Nothing)
-    × (came_reply (first_byte (reply_body fate)) ≡ came_of fate)
+    × ((was_put : Bool) → came_reply was_put (first_byte (reply_body fate)) ≡ came_of was_put fate)
 reply-text Unanswered ask some = absurd (some refl)
-reply-text (Gets (answer.Signed signature)) ask some = (refl, refl, refl)
-reply-text (Gets answer.Refused) ask some = (refl, refl, refl)
-reply-text (Gets answer.True) ask some = (refl, refl, refl)
-reply-text (Gets answer.False) ask some = (refl, refl, refl)
-reply-text Fails ask some = (refl, refl, refl)
+reply-text (Gets (answer.Signed signature)) ask some = (refl, refl, λ was_put. refl)
+reply-text (Gets answer.Refused) ask some = (refl, refl, λ was_put. refl)
+reply-text (Gets answer.True) ask some = (refl, refl, λ was_put. refl)
+reply-text (Gets answer.False) ask some = (refl, refl, λ was_put. refl)
+reply-text Fails ask some = (refl, refl, λ was_put. refl)
 
 -- a reply is read as it was written
 pub says-came : (found : Option (Asking × List Action)) (text given own : List ℕ) → text ≡ string own → given ≡ []
-    → length text ≤ most_owed → came_reply (first_byte own) ≡ came_by found → SaysCame found (given ++ text)
-says-came found text given own is none short came body small same =
+    → length text ≤ most_owed → ((was_put : Bool) → came_reply was_put (first_byte own) ≡ came_by was_put found)
+    → SaysCame found (given ++ text)
+says-came found text given own is none short came was_put body small same =
     let size : length text ≡ 4 + length own = ap length is ∙ length-string own in
     let both : string own ++ [] ≡ string body ++ [] =
     append-nil (string own) ∙ sym is ∙ sym (ap (λ g. g ++ text) none) ∙ same ∙ sym (append-nil (string body)) in
     let equal : own ≡ body = (same_string own body [] [] (omega (arith, size, short)) small both).0 in
-    ap (λ b. came_reply (first_byte b)) (sym equal) ∙ came
+    ap (λ b. came_reply was_put (first_byte b)) (sym equal) ∙ came was_put
 
 -- ---- what is known of a client that waits for an answer, or takes one
 
@@ -160,7 +163,7 @@ module _ (number : ℕ) (past : List Stamped) (state : State) (moment : Moment) 
     -- it is told something
     told-goes : (verdict : Verdict) (own : List ℕ) → (told : IsTold number verdict after) → verdict_text verdict ≡ string own
         → verdict_waits verdict ≡ Nothing → (put : Option (Asking × List Action)) → ask_in number (later ++ outcome_actions) ≡ put
-        → IsSettled put → came_reply (first_byte own) ≡ came_by put → Goes peer
+        → IsSettled put → ((was_put : Bool) → came_reply was_put (first_byte own) ≡ came_by was_put put) → Goes peer
     told-goes verdict own told text nothing put is settled came =
         let waits : told.port.waits ≡ Nothing = told.waits ∙ nothing in
         record {
@@ -223,7 +226,7 @@ module _ (number : ℕ) (past : List Stamped) (state : State) (moment : Moment) 
         ended what is some told =
             let reply = reply-text what ask some in
             told-goes (fate_verdict what ask) (reply_body what) told reply.0 reply.1 (Some put) now
-            (λ none. some (sym (fate ∙ is) ∙ none)) (reply.2 ∙ ap came_of (sym (fate ∙ is)))
+            (λ none. some (sym (fate ∙ is) ∙ none)) (λ was_put. reply.2 was_put ∙ ap (came_of was_put) (sym (fate ∙ is)))
 
         by_fate : (what : Fate) → fate_of ask outcome_actions ≡ what
             → IsTold number (fate_verdict (fate_of ask outcome_actions) ask) after → Goes peer
@@ -250,7 +253,7 @@ module _ (number : ℕ) (past : List Stamped) (state : State) (moment : Moment) 
         refused_for cause told =
             told-goes (Refuses cause) (5 ∷ []) told refl refl None
             (put ∙ unasked told.port told.found (λ ask waits. let no : Nothing ≡ OnAsk ask = sym told.waits ∙ waits in absurd (cc)))
-            tt refl
+            tt (λ was_put. refl)
 
         by_put : (asking : Asking) → IsAmong (Asked asking) outcome_actions → asking.port ≡ number
             → IsTold number (Awaits (OnAsk asking.ask)) after → (one : Option (Asking × List Action))
@@ -313,7 +316,7 @@ module _ (number : ℕ) (past : List Stamped) (state : State) (moment : Moment) 
           raised = λ job on. let no : Nothing ≡ OnConfirmation job = sym nothing ∙ on in absurd (cc);
           taking = λ none. (
             subst IsSettled (sym put) same.0,
-            λ body small is. (fared.taking nothing).1 body small is ∙ sym same.1 ∙ ap came_by (sym put),
+            λ was_put body small is. (fared.taking nothing).1 was_put body small is ∙ sym (same.1 was_put) ∙ ap (came_by was_put) (sym put),
           );
         };
       }

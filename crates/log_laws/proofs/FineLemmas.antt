@@ -8,38 +8,41 @@ use Rattle.lists.specs.Rising.{is_among}
 use Rattle.world_ports.specs.declared.Door.TheVariants.{Clients, Children}
 use Rattle.world_ports.specs.declared.Moment.{Moment}
 use Rattle.agent_model.specs.Actions.{Action, Outcome}
+use Rattle.agent_model.specs.Children.{heard_more}
 use Rattle.agent_model.specs.Events.{Happening, Timed, Joined, Heard, Ended, Took, Started, StartFailed, Tick}
-use Rattle.agent_model.specs.Runs.{AllFit, Stamped, stamped}
+use Rattle.agent_model.specs.Runs.{Stamped, stamped}
 use Rattle.agent_model.specs.Sound.{IsTied}
-use Rattle.agent_model.specs.State.{Fits, Port, Settings, State, find_port, first_state, is_client, owed_as, owed_by, owed_of, role_of}
+use Rattle.agent_model.specs.State.{Fits, Port, State, find_port, is_client, owed_as, owed_by, owed_of, role_of}
 use Rattle.agent_model.specs.Step.{handle, step, took_some}
 use Rattle.agent_model.specs.Time.{at_moment, time_passes}
-use Rattle.agent_model.proofs.FatedLemmas.{first-tied, step-fated}
+use Rattle.agent_model.proofs.FatedLemmas.{step-fated}
 use Rattle.agent_model.proofs.MakeLemmas.{Change, IsOf, hears, takes}
 use Rattle.agent_model.proofs.TimeKeptLemmas.{keeps_time-handle}
-use Rattle.log_book.specs.Books.{Book, ends_at as ends_in, new_book, open_in, see_all}
+use Rattle.agent_model.proofs.TimeLemmas.{AreEnds, time_passes-ends}
+use Rattle.log_book.specs.Books.{Book, ends_at as ends_in, see_all}
 use Rattle.log_book.specs.Peers.{Peer, answered, ended_by, looked, sent_more}
 use Rattle.log_book.specs.declared.sight.Sight.{Sight}
 use Rattle.log_book.specs.declared.sight.What.TheVariants as what
 use Rattle.log_book.specs.declared.told.Asked.TheVariants as asks
-use Rattle.log_laws.specs.Ends.{Came, End, Left, Request, TellsEnds, TellsWhatCame, ask_in, came_at, came_by, ended_at, ends_at, ends_with, is_busy, last_request, readings_of, waits_at, waits_with}
+use Rattle.log_laws.specs.Ends.{Came, End, Left, Request, Went, ask_in, came_at, came_by, ended_at, ends_at, ends_with, is_busy, last_request, readings_of, went_by, went_told}
 use Rattle.log_laws.specs.Ends as law
 use Rattle.log_laws.specs.Reads.{Reading}
-use Rattle.log_laws.specs.Sights.{came_of, event_sights, goes_over, is_of_client, of_client, run_sights, seen_at}
+use Rattle.log_laws.specs.Sights.{came_of, event_sights, goes_over, is_of_client, of_client, seen_at}
 use Rattle.log_laws.proofs.AgreeLemmas.{Matches, bytes-apart, came-brings, closed-after, nobody, open-after, somebody}
 use Rattle.log_laws.proofs.BookLemmas.{AreAlike, Brings, IsAlone, alike-then, at_port, claim_by, claim_of, ended_claim, peer_or, sees-given, sees-sent}
-use Rattle.log_laws.proofs.CameLemmas.{busy-is, came-idle, came-none, ended-or, ends-child, ends-none, ends-some, fares-alike, idle-not, left-none, waits-child, waits-none}
-use Rattle.log_laws.proofs.ClientLemmas.{AreBrief, Client, IsBrief, client-turned, idle, taking, waiting}
-use Rattle.log_laws.proofs.EndLemmas.{ended_ends, ends, ends-event, ends-given, ends-one, ends-open, ends-over, left_ends}
+use Rattle.log_laws.proofs.CameLemmas.{busy-is, came-idle, came-none, ended-or, ends-child, ends-none, ends-some, fares-alike, idle-not, left-none}
+use Rattle.log_laws.proofs.ClientLemmas.{Client, IsBrief, client-turned, idle, taking, waiting}
+use Rattle.log_laws.proofs.EndLemmas.{ended_ends, ends, ends-event, ends-given, ends-one, ends-over, left_ends}
 use Rattle.log_laws.proofs.FareLemmas.{Fared, Fares, goes}
 use Rattle.log_laws.proofs.LookLemmas.{claim}
 use Rattle.log_laws.proofs.OwnLemmas.{Looks, heard-looks, took-takes}
-use Rattle.log_laws.proofs.PastLemmas.{stamps}
-use Rattle.log_laws.proofs.ShortLemmas.{always-brief}
-use Rattle.log_laws.proofs.SightsLemmas.{book-append, brings-one, told-append}
+use Rattle.log_laws.proofs.PastLemmas.{last-more, more_done, others-step, stamps}
+use Rattle.log_laws.proofs.SightsLemmas.{book-append, brings-one}
 use Rattle.log_laws.proofs.StayLemmas.{ended-gone}
 use Rattle.log_laws.proofs.TellLemmas.{step-wall, told-event}
 use Rattle.log_laws.proofs.TurnLemmas.{Turns, gets, leaves, rests, time-turns}
+use Rattle.log_laws.proofs.WentLemmas.{GoesSo, asked-alike, book-one, goes-append, goes_on, peer-went, unmarked, unmarked-ends, went-append, went-came, went-given, went-over, went-sent, went_or, wents}
+use Rattle.log_laws.proofs.WhyLemmas.{unmarked-gone}
 
 module _ (number : ℕ) where
   -- what a book and a past have of a client is what the agent has
@@ -48,8 +51,11 @@ module _ (number : ℕ) where
     pub matches : Matches number (find_port number state.ports) (at_port number book)
     pub fares : (port : Port) → find_port number state.ports ≡ Some port → port.door ≡ Clients
         → Fares number past port (peer_or number (at_port number book))
+    pub goes : (port : Port) → find_port number state.ports ≡ Some port → port.door ≡ Clients
+        → (peer_or number (at_port number book)).asked ≢ asks.Nothing → (request : Request)
+        → last_request number past ≡ Some request → wents (at_port number book) ≡ Some (went_by number request.later)
 
-  claim-or : (found : Option Peer) → claim_of found ≡ claim (peer_or number found)
+  pub claim-or : (found : Option Peer) → claim_of found ≡ claim (peer_or number found)
   claim-or None = refl
   claim-or (Some peer) = refl
 
@@ -84,29 +90,43 @@ module _ (number : ℕ) where
       pub ends_are : ends number (see_all (event_sights state timed) book).told ≡ ends_at number past state timed
       pub fine_after : Fine past_after outcome.state book_after
 
+    -- how far the request of a client goes by the event
+    abbrev goes_to : Option Peer → Option Went
+    goes_to found = option_map (goes_on number outcome.actions) (wents found)
+
     -- by what the bytes tell that go over the client's socket, and what they leave
     finish : (first : List Reading) (found : Option Peer) (now : List End) → Brings number first found (see_all over book)
+        → wents (at_port number (see_all over book).book) ≡ wents found
         → ends number (see_all over book).told ≡ now
-        → now ++ left_ends wall (is_among number outcome.closes) found ≡ ends_at number past state timed
+        → now ++ left_ends wall (is_among number outcome.closes) (went_or (goes_to found)) found ≡ ends_at number past state timed
         → ((port : Port) → find_port number outcome.state.ports ≡ Some port → port.door ≡ Clients → Fares number past_after port (peer_or number found))
+        → ((port : Port) → find_port number outcome.state.ports ≡ Some port → port.door ≡ Clients
+        → (peer_or number found).asked ≢ asks.Nothing → (request : Request) → last_request number past_after ≡ Some request
+        → goes_to found ≡ Some (went_by number request.later))
         → Ends
-    finish first found now bytes tells total fares =
+    finish first found now bytes exact tells total fares goes =
         let told = told-event number state moment event tied book fine.alone brief_then brief_after fine.matches fits in
         record {
-          ends_are = ends-event number wall over outcome book found bytes.alone bytes.found
-              ∙ ap (λ (l : List End). l ++ left_ends wall (is_among number outcome.closes) found) tells
+          ends_are = ends-event number wall over outcome book found bytes.alone bytes.found exact
+              ∙ ap (λ (l : List End). l ++ left_ends wall (is_among number outcome.closes) (went_or (goes_to found)) found) tells
               ∙ total;
           fine_after = record {
             alone = told.apart;
             matches = told.matches;
-            fares = λ port there door.
-                let seen : Book = (see_all over book).book in
-                let came = came-brings number state moment event tied book fine.alone seen bytes.alone false (open-after number state moment event tied port there) in
-                let alike : AreAlike found (at_port number book_after) =
-                subst (λ b. AreAlike found (at_port number b)) (sym (book-append number over (came_of wall outcome) book)) (alike-then bytes.found came.found) in
-                fares-alike number past_after port alike (fares port there door);
+            fares = λ port there door. fares-alike number past_after port (alike port there) (fares port there door);
+            goes = λ port there door busy request last.
+                ap (λ b. wents (at_port number b)) (book-append number over (came_of wall outcome) book)
+                ∙ went-came number wall outcome (see_all over book).book (open-after number state moment event tied port there)
+                ∙ ap (option_map (goes_on number outcome.actions)) exact
+                ∙ goes port there door (asked-alike number (alike port there) busy) request last;
           };
         }
+      where
+        alike : (port : Port) → find_port number outcome.state.ports ≡ Some port → AreAlike found (at_port number book_after)
+        alike port there =
+            let seen : Book = (see_all over book).book in
+            let came = came-brings number state moment event tied book fine.alone seen bytes.alone false (open-after number state moment event tied port there) in
+            subst (λ b. AreAlike found (at_port number b)) (sym (book-append number over (came_of wall outcome) book)) (alike-then bytes.found came.found)
 
     -- ---- nobody is there
 
@@ -114,9 +134,11 @@ module _ (number : ℕ) where
     nobody-ends there none =
         finish [] None []
         (subst (λ o. Brings number [] o (see_all over book)) none (bytes-apart number state moment event tied book fine.alone (λ of. silent)))
+        (ap wents (went-over number moment state event book (λ piece is. silent) (λ count is. silent) ∙ none))
         (ends-over number moment state event book (λ count is. silent))
-        (left-none wall (is_among number outcome.closes) None refl
+        (left-none wall (is_among number outcome.closes) (went_or (goes_to None)) None refl
         ∙ sym (ends-child number timed (find_port number state.ports) (last_request number past) there))
+        (λ port found door busy. absurd (busy refl))
         (λ port found door busy. absurd (busy refl))
       where
         by_found : (found : Option Port) → ((port : Port) → found ≡ Some port → port.door ≡ Children) → is_of_client found ≡ false
@@ -152,6 +174,10 @@ module _ (number : ℕ) where
           }
           by_turn after there (leaves may) = absurd may
 
+      no_tick : {f : Port → Port} → Change Tick number f → ⊥
+      no_tick (hears piece is) = absurd (cc)
+      no_tick (takes count is) = absurd (cc)
+
       abbrev past_then : List Stamped
       past_then = past ++ stamped (step state moment Tick)
 
@@ -161,10 +187,22 @@ module _ (number : ℕ) where
           let it : Some gone.new ≡ Some behind-moment.now = sym gone.found ∙ behind-moment.there in
           let same : gone.new ≡ behind-moment.now = cc in
           subst (λ p. Fared number past_then p peer) same gone.fared
-        where
-          no_tick : {f : Port → Port} → Change Tick number f → ⊥
-          no_tick (hears piece is) = absurd (cc)
-          no_tick (takes count is) = absurd (cc)
+
+      -- how far its request went by then
+      goes-then : GoesSo number past_then [] peer
+      goes-then busy request last =
+          let fared = fine.fares port found door busy in
+          let tick = (step state moment Tick).actions in
+          let none : AreEnds tick = subst AreEnds (sym (append-nil (time_passes moment state).actions)) (time_passes-ends moment state) in
+          let last_is : last_request number past_then ≡ Some (more_done tick fared.request) =
+          last-more number past (step state moment Tick).state.moment tick (others-step number state moment Tick tied (λ of. no_tick of.1))
+          ∙ ap (option_map (more_done tick)) fared.last in
+          let it : Some (more_done tick fared.request) ≡ Some request = sym last_is ∙ last in
+          let same : more_done tick fared.request ≡ request = cc in
+          unmarked number [] (went_told peer.course) refl refl
+          ∙ peer-went number (at_port number book) (went_by number fared.request.later) (fine.goes port found door busy fared.request fared.last)
+          ∙ sym (went-append number fared.request.later tick ∙ unmarked-ends number (went_by number fared.request.later) none)
+          ∙ ap (λ (r : Request). went_by number r.later) same
 
       past-is : past_after ≡ past_then ++ stamps outcome.state.moment (handle event opened).actions
       past-is =
@@ -182,11 +220,16 @@ module _ (number : ℕ) where
         tells : ends number (see_all over book).told ≡ []
         tells = ends-over number moment state event book (λ count is. absurd (foreign (took_some count, takes count is)))
 
+        exact : wents (at_port number (see_all over book).book) ≡ wents (at_port number book)
+        exact = ap wents (went-over number moment state event book
+            (λ piece is. absurd (foreign (heard_more piece, hears piece is))) (λ count is. absurd (foreign (took_some count, takes count is))))
+
         idle-ends : is_busy port.waits port.owed ≡ false → peer.asked ≡ asks.Nothing → claim peer ≡ [] → Ends
         idle-ends idle_port none unclaimed =
-            finish [] (at_port number book) [] bytes tells
-            (left-none wall (is_among number outcome.closes) (at_port number book) (claim-or (at_port number book) ∙ unclaimed)
+            finish [] (at_port number book) [] bytes exact tells
+            (left-none wall (is_among number outcome.closes) (went_or (goes_to (at_port number book))) (at_port number book) (claim-or (at_port number book) ∙ unclaimed)
             ∙ sym (ends-is ∙ ends-none number timed port (last_request number past) (came-idle number port event foreign idle_port)))
+            (λ other there client_there busy. absurd (busy none))
             (λ other there client_there busy. absurd (busy none))
 
         left-ends : event ≡ Ended number → peer.asked ≢ asks.Nothing → Ends
@@ -200,22 +243,37 @@ module _ (number : ℕ) where
             ap (came_at number port fared.request.later) is
             ∙ ap (λ b. if b && is_busy port.waits port.owed then Some Left else None) itself
             ∙ ap (λ b. if b then Some Left else None) (busy-is port peer client busy) in
-            finish [] (at_port number book) [] bytes tells
-            (ap (λ b. left_ends wall b (at_port number book)) (closed-after number state moment event tied port found gone)
-            ∙ ap (map (ended_at wall Left)) (claim-or (at_port number book) ∙ fared.reads)
+            let went : went_or (goes_to (at_port number book)) ≡ went_by number fared.request.later =
+            ap (λ w. went_or (option_map (goes_on number outcome.actions) w)) (fine.goes port found door busy fared.request fared.last)
+            ∙ unmarked-gone number state moment event tied foreign gone (went_by number fared.request.later) in
+            finish [] (at_port number book) [] bytes exact tells
+            (ap (λ b. left_ends wall b (went_or (goes_to (at_port number book))) (at_port number book)) (closed-after number state moment event tied port found gone)
+            ∙ ap (map (ended_at wall Left (went_or (goes_to (at_port number book))))) (claim-or (at_port number book) ∙ fared.reads)
+            ∙ ap (λ w. map (ended_at wall Left w) (readings_of fared.request)) went
             ∙ sym (ends-is ∙ ap (ends_with number timed (Some port)) fared.last ∙ ends-some number timed port fared.request Left door came))
+            (λ other there client_there. let no : None ≡ Some other = sym gone ∙ there in absurd (cc))
             (λ other there client_there. let no : None ≡ Some other = sym gone ∙ there in absurd (cc))
 
         goes-ends : event ≢ Ended number → peer.asked ≢ asks.Nothing → Ends
         goes-ends open_yet busy =
             let now = goes number past state moment event tied foreign open_yet brief_after port peer found door client busy (fine.fares port found door busy) in
-            finish [] (at_port number book) [] bytes tells
-            (ap (λ b. left_ends wall b (at_port number book)) (open-after number state moment event tied now.new now.found)
+            let fared = fine.fares port found door busy in
+            let last_is : last_request number past_after ≡ Some (more_done outcome.actions fared.request) =
+            last-more number past outcome.state.moment outcome.actions (others-step number state moment event tied foreign)
+            ∙ ap (option_map (more_done outcome.actions)) fared.last in
+            finish [] (at_port number book) [] bytes exact tells
+            (ap (λ b. left_ends wall b (went_or (goes_to (at_port number book))) (at_port number book)) (open-after number state moment event tied now.new now.found)
             ∙ sym (ends-is ∙ ends-none number timed port (last_request number past) (came-none number port event foreign open_yet)))
             (λ other there client_there still_busy.
             let it : Some now.new ≡ Some other = sym now.found ∙ there in
             let same : now.new ≡ other = cc in
             subst (λ p. Fared number past_after p peer) same now.fared)
+            (λ other there client_there still_busy request last.
+            let it : Some (more_done outcome.actions fared.request) ≡ Some request = sym last_is ∙ last in
+            let same : more_done outcome.actions fared.request ≡ request = cc in
+            ap (option_map (goes_on number outcome.actions)) (fine.goes port found door busy fared.request fared.last)
+            ∙ ap Some (sym (went-append number fared.request.later outcome.actions))
+            ∙ ap (λ (r : Request). Some (went_by number r.later)) same)
 
         busy-ends : peer.asked ≢ asks.Nothing → (event ≡ Ended number) ⊎ (event ≢ Ended number) → Ends
         busy-ends busy (inl is) = left-ends is busy
@@ -235,27 +293,45 @@ module _ (number : ℕ) where
 
       -- behind a look
       looked-total : (new : Peer) → Looks number wall past_then outcome.state.moment (step-wall state moment event) new (handle event opened)
-          → left_ends wall (is_among number outcome.closes) (Some new) ≡ []
+          → left_ends wall (is_among number outcome.closes) (went_or (goes_to (Some new))) (Some new) ≡ []
       looked-total new looks = by_found (find_port number outcome.state.ports) refl
         where
-          by_found : (after : Option Port) → find_port number outcome.state.ports ≡ after → left_ends wall (is_among number outcome.closes) (Some new) ≡ []
-          by_found None is = left-none wall (is_among number outcome.closes) (Some new) (looks.gone is)
-          by_found (Some other) is = ap (λ b. left_ends wall b (Some new)) (open-after number state moment event tied other is)
+          by_found : (after : Option Port) → find_port number outcome.state.ports ≡ after
+              → left_ends wall (is_among number outcome.closes) (went_or (goes_to (Some new))) (Some new) ≡ []
+          by_found None is = left-none wall (is_among number outcome.closes) (went_or (goes_to (Some new))) (Some new) (looks.gone is)
+          by_found (Some other) is = ap (λ b. left_ends wall b (went_or (goes_to (Some new))) (Some new)) (open-after number state moment event tied other is)
 
       looked-fares : (new : Peer) → Looks number wall past_then outcome.state.moment (step-wall state moment event) new (handle event opened)
           → (other : Port) → find_port number outcome.state.ports ≡ Some other → other.door ≡ Clients → Fares number past_after other new
       looked-fares new looks other there client_there =
           subst (λ l. Fares number l other new) (sym past-is) (looks.fares other there (brief_after number other there client_there))
 
+      looked-goes : (new : Peer) → Looks number wall past_then outcome.state.moment (step-wall state moment event) new (handle event opened)
+          → (other : Port) → find_port number outcome.state.ports ≡ Some other → other.door ≡ Clients
+          → new.asked ≢ asks.Nothing → (request : Request) → last_request number past_after ≡ Some request
+          → goes_to (Some new) ≡ Some (went_by number request.later)
+      looked-goes new looks other there client_there busy request last =
+          ap Some (goes-append number (handle event opened).actions (went_told new.course) (time_passes-ends moment state)
+          ∙ looks.goes busy request (sym (ap (last_request number) past-is) ∙ last))
+
       heard-ends : (piece : List ℕ) → event ≡ Heard number piece → Ends
       heard-ends piece is =
-          finish [] (Some new) [] bytes
+          finish [] (Some new) [] bytes exact
           (ends-over number moment state event book (λ count took. let no : Heard number piece ≡ Took number count = sym is ∙ took in absurd (cc)))
           (looked-total new looks ∙ sym (ends-is ∙ ends-none number timed port (last_request number past) (λ later. ap (came_at number port later) is)))
           (looked-fares new looks)
+          (looked-goes new looks)
         where
           new : Peer
           new = looked wall (sent_more piece peer)
+
+          exact : wents (at_port number (see_all over book).book) ≡ wents (Some new)
+          exact =
+              let sight : Sight = seen_at wall state.under_way.link.faults (what.Sent number piece) in
+              ap (λ e. wents (at_port number (see_all (goes_over moment state e) book).book)) is
+              ∙ ap (λ b. wents (at_port number (see_all (of_client b sight) book).book)) is-client
+              ∙ ap (λ b. wents (at_port number b)) (book-one number sight book)
+              ∙ went-sent number wall state.under_way.link.faults book piece
 
           bytes : Brings number [] (Some new) (see_all over book)
           bytes =
@@ -266,7 +342,7 @@ module _ (number : ℕ) where
           looks : Looks number wall past_then outcome.state.moment (step-wall state moment event) new (handle event opened)
           looks =
               subst (λ e. Looks number wall past_then outcome.state.moment (step-wall state moment event) new (handle e opened)) (sym is)
-              (heard-looks number wall past_then outcome.state.moment (step-wall state moment event) opened behind-moment.now peer behind-moment.there behind-moment.is_client piece behind-moment.has fares-then)
+              (heard-looks number wall past_then outcome.state.moment (step-wall state moment event) opened behind-moment.now peer behind-moment.there behind-moment.is_client piece behind-moment.has fares-then goes-then)
 
       took-ends : (count : ℕ) → event ≡ Took number count → (0 < count) → count ≤ length (owed_of number state) → Ends
       took-ends count is some there_are = by_client client
@@ -295,6 +371,7 @@ module _ (number : ℕ) where
           by_peer : (who : Option Peer) → at_port number book ≡ who → peer.asked ≢ asks.Nothing
               → Brings number (ended_claim (ended_by given peer)) (Some (answered wall given peer)) (see_all over book)
               × (ends number (see_all over book).told ≡ ended_ends wall (ended_by given peer))
+              × (wents (at_port number (see_all over book).book) ≡ wents (Some (answered wall given peer)))
           by_peer None who busy = absurd (busy (ap (λ o. (peer_or number o).asked) who))
           by_peer (Some one) who busy =
               let same : peer ≡ one = ap (peer_or number) who in
@@ -308,6 +385,9 @@ module _ (number : ℕ) where
                     ∙ ends-one number sight book
                     ∙ ends-given number wall state.under_way.link.faults book given
                     ∙ ap (ended_ends wall) in_book,
+                ap (λ l. wents (at_port number (see_all l book).book)) over-is
+                    ∙ ap (λ b. wents (at_port number b)) (book-one number sight book)
+                    ∙ ap wents (went-given number wall state.under_way.link.faults book given ∙ left),
               )
 
           by_client : Client port peer → Ends
@@ -325,24 +405,34 @@ module _ (number : ℕ) where
               itself : (number == number) ≡ true
               itself = grind (arith, nat_tests)
 
+              told_as : Went → List End
+              told_as went = map (ended_at wall (came_by went.put (ask_in number before)) went) (claim peer)
+
+              came : Came
+              came = came_by (went_by number before).put (ask_in number before)
+
+              its : went_told peer.course ≡ went_by number before
+              its = peer-went number (at_port number book) (went_by number before) (fine.goes port found door asking fared.request fared.last)
+
               by_size : (whole : Bool) → (count == length port.owed) ≡ whole
-                  → (if count == length port.owed then map (ended_at wall (came_by (ask_in number before))) (claim peer) else [])
+                  → (if count == length port.owed then told_as (went_told peer.course) else [])
                   ≡ ends_with number timed (Some port) (Some fared.request)
               by_size whole size =
-                  ap (λ b. if b then map (ended_at wall (came_by (ask_in number before))) (claim peer) else []) size
+                  ap (λ b. if b then told_as (went_told peer.course) else []) size
                   ∙ by_whole whole (ap (came_at number port before) is
-                  ∙ ap (λ b. if b && (count == length port.owed) then Some (came_by (ask_in number before)) else None) itself
-                  ∙ ap (λ b. if b then Some (came_by (ask_in number before)) else None) size)
+                  ∙ ap (λ b. if b && (count == length port.owed) then Some came else None) itself
+                  ∙ ap (λ b. if b then Some came else None) size)
                 where
-                  by_whole : (all : Bool) → came_at number port before event ≡ (if all then Some (came_by (ask_in number before)) else None)
-                      → (if all then map (ended_at wall (came_by (ask_in number before))) (claim peer) else [])
+                  by_whole : (all : Bool) → came_at number port before event ≡ (if all then Some came else None)
+                      → (if all then told_as (went_told peer.course) else [])
                       ≡ ends_with number timed (Some port) (Some fared.request)
-                  by_whole true came =
-                      ap (map (ended_at wall (came_by (ask_in number before)))) fared.reads
-                      ∙ sym (ends-some number timed port fared.request (came_by (ask_in number before)) door came)
-                  by_whole false came =
-                      sym (ap (λ d. if is_client d then law.ended_by wall (came_at number port before event) (readings_of fared.request) else []) door
-                      ∙ ap (λ c. law.ended_by wall c (readings_of fared.request)) came)
+                  by_whole true ended =
+                      ap told_as its
+                      ∙ ap (map (ended_at wall came (went_by number before))) fared.reads
+                      ∙ sym (ends-some number timed port fared.request came door ended)
+                  by_whole false ended =
+                      sym (ap (λ d. if is_client d then law.ended_by wall (came_at number port before event) (went_by number before) (readings_of fared.request) else []) door
+                      ∙ ap (λ c. law.ended_by wall c (went_by number before) (readings_of fared.request)) ended)
 
               by_now : (after : Option Port) → find_port number opened.ports ≡ after → Turns ⊥ port after → Ends
               by_now after there (gets new verdict waits owed client_there heard owes_it on any) = absurd (waits nothing)
@@ -351,15 +441,16 @@ module _ (number : ℕ) where
                   let same_port : Some behind-moment.now ≡ Some port = sym behind-moment.there ∙ there in
                   let same : behind-moment.now ≡ port = cc in
                   let fares_now : Fares number past_then port peer = subst (λ p. Fares number past_then p peer) same fares-then in
-                  let takes_it = took-takes number wall past_then outcome.state.moment (step-wall state moment event) opened port peer there door count some within body nothing sent asking body_fits text fares_now before (fared.taking nothing).1 in
+                  let takes_it = took-takes number wall past_then outcome.state.moment (step-wall state moment event) opened port peer there door count some within body nothing sent asking body_fits text fares_now goes-then before (fared.taking nothing).1 in
                   let looks = subst (λ e. Looks number wall past_then outcome.state.moment (step-wall state moment event) (answered wall given peer) (handle e opened)) (sym is) takes_it.looks in
                   let brought = by_peer (at_port number book) refl asking in
-                  finish (ended_claim (ended_by given peer)) (Some (answered wall given peer)) _ brought.0 (brought.1 ∙ takes_it.ends)
-                  (ap (λ (l : List End). (if count == length port.owed then map (ended_at wall (came_by (ask_in number before))) (claim peer) else []) ++ l) (looked-total (answered wall given peer) looks)
+                  finish (ended_claim (ended_by given peer)) (Some (answered wall given peer)) _ brought.0 brought.2 (brought.1 ∙ takes_it.ends)
+                  (ap (λ (l : List End). (if count == length port.owed then told_as (went_told peer.course) else []) ++ l) (looked-total (answered wall given peer) looks)
                   ∙ append-nil _
                   ∙ by_size (count == length port.owed) refl
                   ∙ sym (ends-is ∙ ap (ends_with number timed (Some port)) fared.last))
                   (looked-fares (answered wall given peer) looks)
+                  (looked-goes (answered wall given peer) looks)
 
       client-ends : Ends
       client-ends = by_event_of event refl fits
@@ -405,67 +496,3 @@ module _ (number : ℕ) where
         by_match is (nobody there) = nobody-ends there is
         by_match is (somebody port who found door client) =
             client-ends port found door (subst (λ o. Client port (peer_or number o)) (sym is) client)
-
-  -- ---- the end of a run
-
-  pub waits-are : (past : List Stamped) (state : State) (book : Book) → Fine past state book
-      → ends number (open_in book) ≡ waits_at number past state
-  waits-are past state book fine = ends-open number book fine.alone ∙ by_match refl fine.matches
-    where
-      by_match : {who : Option Peer} → at_port number book ≡ who → Matches number (find_port number state.ports) who
-          → map law.waiting (claim_of (at_port number book)) ≡ waits_at number past state
-      by_match is (nobody there) =
-          ap (λ o. map law.waiting (claim_of o)) is
-          ∙ sym (waits-child (find_port number state.ports) (last_request number past) there)
-      by_match is (somebody port who found door client) =
-          by_client (subst (λ o. Client port (peer_or number o)) (sym is) client)
-        where
-          peer_there : Peer
-          peer_there = peer_or number (at_port number book)
-
-          waits-is : waits_at number past state ≡ waits_with (Some port) (last_request number past)
-          waits-is = ap (λ o. waits_with o (last_request number past)) found
-
-          by_busy : Client port peer_there → peer_there.asked ≢ asks.Nothing
-              → map law.waiting (claim_of (at_port number book)) ≡ waits_at number past state
-          by_busy client_there busy =
-              let fared = fine.fares port found door busy in
-              ap (map law.waiting) (claim-or (at_port number book) ∙ fared.reads)
-              ∙ sym (waits-is ∙ ap (waits_with (Some port)) fared.last
-              ∙ ap (λ d. if is_client d && is_busy port.waits port.owed then map law.waiting (readings_of fared.request) else []) door
-              ∙ ap (λ b. if b then map law.waiting (readings_of fared.request) else []) (busy-is port peer_there client_there busy))
-
-          by_client : Client port peer_there → map law.waiting (claim_of (at_port number book)) ≡ waits_at number past state
-          by_client (idle nothing unowed sent given none more) =
-              ap (map law.waiting) (claim-or (at_port number book) ∙ ap (λ a. claim_by a peer_there.course.since) none)
-              ∙ sym (waits-is ∙ waits-none port (last_request number past) (idle-not port nothing unowed))
-          by_client (waiting on unowed sent given asking) = by_busy (waiting on unowed sent given asking) asking
-          by_client (taking body nothing owes sent asking fits text) = by_busy (taking body nothing owes sent asking fits text) asking
-
--- ---- a run
-
-ends-run : (events : List Timed) (past : List Stamped) (state : State) (book : Book) → IsTied state → AllFit state events
-    → AreBrief state events → ((number : ℕ) → Fine number past state book)
-    → TellsEnds past state events ((see_all (run_sights state events) book).told ++ open_in (see_all (run_sights state events) book).book)
-unfolding see_all
-ends-run [] past state book tied fits brief fine = λ port. waits-are port past state book (fine port)
-ends-run (timed ∷ later) past state book tied fits brief fine =
-    let outcome = step state timed.moment timed.event in
-    let next : Book = (see_all (event_sights state timed) book).book in
-    let sights : List Sight = run_sights outcome.state later in
-    let each : (number : ℕ) → Ends number past state timed.moment timed.event tied book (fine number) fits.0 brief.0 brief.1 =
-    λ number. event-ends number past state timed.moment timed.event tied book (fine number) fits.0 brief.0 brief.1 in (
-      (see_all (event_sights state timed) book).told,
-      (see_all sights next).told ++ open_in (see_all sights next).book,
-      ap (λ l. l ++ open_in (see_all (event_sights state timed ++ sights) book).book) (told-append 0 (event_sights state timed) sights book)
-          ∙ ap (λ b. ((see_all (event_sights state timed) book).told ++ (see_all sights next).told) ++ open_in b) (book-append 0 (event_sights state timed) sights book)
-          ∙ append_assoc (see_all (event_sights state timed) book).told (see_all sights next).told (open_in (see_all sights next).book),
-      λ number. (each number).ends_are,
-      ends-run later (past ++ stamped outcome) outcome.state next (step-fated state timed.moment timed.event tied).tied fits.1 brief.2 (λ number. (each number).fine_after),
-    )
-
--- from the agent's start on
-pub tells-what-came : (settings : Settings) (events : List Timed) → TellsWhatCame settings events
-tells-what-came settings events fits =
-    ends-run events [] (first_state settings) new_book (first-tied settings) fits (always-brief settings events)
-    (λ number. record { alone = tt; matches = nobody (λ port found. absurd (cc)); fares = λ port found door busy. absurd (busy refl) })

@@ -1,4 +1,5 @@
 pub mod AgreeLemmas
+pub mod AllEndLemmas
 pub mod BookLemmas
 pub mod CameLemmas
 pub mod ClientLemmas
@@ -16,3 +17,5 @@ pub mod SightsLemmas
 pub mod StayLemmas
 pub mod TellLemmas
 pub mod TurnLemmas
+pub mod WentLemmas
+pub mod WhyLemmas

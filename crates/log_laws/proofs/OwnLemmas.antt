@@ -1,5 +1,5 @@
 -- What a past says of a client's request, and what its port is then, behind an event of the client itself.
-use Rattle.std.proofs.Common.{◌≡◌, ◌≢◌, ◌==◌, ℕ, suc, ◌+◌, ◌<◌, ◌≤◌, List, [], ◌∷◌, ◌++◌, length, map, take, drop, refl, ap, arith, sym, subst, ◌∙◌, append_assoc, Some, None, true, false, if◌then◌else◌}
+use Rattle.std.proofs.Common.{◌≡◌, ◌≢◌, ◌==◌, ℕ, suc, ◌+◌, ◌<◌, ◌≤◌, List, [], ◌∷◌, ◌++◌, length, map, take, drop, refl, ap, arith, sym, subst, ◌∙◌, append_assoc, Bool, Some, None, is_some, true, false, if◌then◌else◌}
 use Rattle.std.proofs.lemmas.Bool.Decides.{nat_tests}
 use Rattle.std.proofs.lemmas.List.{append-nil, drop_all, length-append, length-take-le, take-append-drop, take_at}
 use Rattle.std.specs.Option.{option_map, option_or}
@@ -35,7 +35,7 @@ use Rattle.log_book.specs.Peers as peers
 use Rattle.log_book.specs.Peers.{Peer, answered_by, ended_by, ended_with, looked, read_next, sent_more}
 use Rattle.log_book.specs.Requests.{first_byte, next_by, next_in}
 use Rattle.log_book.specs.declared.told.Asked.TheVariants as asks
-use Rattle.log_laws.specs.Ends.{ask_in, came_by, ended_at, readings_of}
+use Rattle.log_laws.specs.Ends.{Request, ask_in, came_by, ended_at, last_request, readings_of, went_by, went_told}
 use Rattle.log_laws.proofs.BookLemmas.{claim_by}
 use Rattle.log_laws.proofs.ClientLemmas.{Client, claim-read, idle, looked-busy, looked-idle, most_owed, next-by, taking, waiting}
 use Rattle.log_laws.proofs.EndLemmas.{came_reply, ended_ends}
@@ -43,6 +43,7 @@ use Rattle.log_laws.proofs.FareLemmas.{Fared, Fares, IsPut, IsSettled, SaysCame,
 use Rattle.log_laws.proofs.LookLemmas.{answered-by, claim, due-owed, due-waits, ended-by, front-part}
 use Rattle.log_laws.proofs.PastLemmas.{last-own, stamps}
 use Rattle.log_laws.proofs.ReadLemmas.{served-others}
+use Rattle.log_laws.proofs.WentLemmas.{GoesSo}
 
 -- ---- a request that is served
 
@@ -53,7 +54,8 @@ record Begins (number : ℕ) (served : Served) : Type 0 where
   settled : verdict_waits served.work.verdict ≡ Nothing → IsSettled (ask_in number served.work.actions)
   own : verdict_waits served.work.verdict ≡ Nothing → List ℕ
   text : (is : verdict_waits served.work.verdict ≡ Nothing) → verdict_text served.work.verdict ≡ string (own is)
-  came : (is : verdict_waits served.work.verdict ≡ Nothing) → came_reply (first_byte (own is)) ≡ came_by (ask_in number served.work.actions)
+  came : (is : verdict_waits served.work.verdict ≡ Nothing) (was_put : Bool)
+      → came_reply was_put (first_byte (own is)) ≡ came_by was_put (ask_in number served.work.actions)
 
 begins-put : (number : ℕ) (asker : Asker) (errand : Errand) (held : KeyState) (under_way : UnderWay) → asker.port ≡ number
     → Begins number (record { held = held; work = put_unless None errand asker.port under_way })
@@ -75,13 +77,13 @@ begins-put number asker errand held under_way own =
 
 begins-served : (number : ℕ) {read : Result ClientRequest MsgFault} {asker : Asker} {held : KeyState} {under_way : UnderWay} {served : Served}
     → asker.port ≡ number → Serves read asker held under_way served → Begins number served
-begins-served number own (denies cause) = record { asked = λ ask on. absurd (cc); raised = λ job on. absurd (cc); settled = λ none. tt; own = λ none. 5 ∷ []; text = λ none. refl; came = λ none. refl }
-begins-served number own (lists identities is) = record { asked = λ ask on. absurd (cc); raised = λ job on. absurd (cc); settled = λ none. tt; own = λ none. 12 ∷ (uint32 (length identities) ++ entries identities); text = λ none. refl; came = λ none. refl }
-begins-served number own (adds addition is) = record { asked = λ ask on. absurd (cc); raised = λ job on. absurd (cc); settled = λ none. tt; own = λ none. 6 ∷ []; text = λ none. refl; came = λ none. refl }
-begins-served number own (removes blob is) = record { asked = λ ask on. absurd (cc); raised = λ job on. absurd (cc); settled = λ none. tt; own = λ none. 6 ∷ []; text = λ none. refl; came = λ none. refl }
-begins-served number own (empties is) = record { asked = λ ask on. absurd (cc); raised = λ job on. absurd (cc); settled = λ none. tt; own = λ none. 6 ∷ []; text = λ none. refl; came = λ none. refl }
-begins-served number own (locks passphrase is) = record { asked = λ ask on. absurd (cc); raised = λ job on. absurd (cc); settled = λ none. tt; own = λ none. 6 ∷ []; text = λ none. refl; came = λ none. refl }
-begins-served number own (unlocks passphrase is) = record { asked = λ ask on. absurd (cc); raised = λ job on. absurd (cc); settled = λ none. tt; own = λ none. 6 ∷ []; text = λ none. refl; came = λ none. refl }
+begins-served number own (denies cause) = record { asked = λ ask on. absurd (cc); raised = λ job on. absurd (cc); settled = λ none. tt; own = λ none. 5 ∷ []; text = λ none. refl; came = λ none was_put. refl }
+begins-served number own (lists identities is) = record { asked = λ ask on. absurd (cc); raised = λ job on. absurd (cc); settled = λ none. tt; own = λ none. 12 ∷ (uint32 (length identities) ++ entries identities); text = λ none. refl; came = λ none was_put. refl }
+begins-served number own (adds addition is) = record { asked = λ ask on. absurd (cc); raised = λ job on. absurd (cc); settled = λ none. tt; own = λ none. 6 ∷ []; text = λ none. refl; came = λ none was_put. refl }
+begins-served number own (removes blob is) = record { asked = λ ask on. absurd (cc); raised = λ job on. absurd (cc); settled = λ none. tt; own = λ none. 6 ∷ []; text = λ none. refl; came = λ none was_put. refl }
+begins-served number own (empties is) = record { asked = λ ask on. absurd (cc); raised = λ job on. absurd (cc); settled = λ none. tt; own = λ none. 6 ∷ []; text = λ none. refl; came = λ none was_put. refl }
+begins-served number own (locks passphrase is) = record { asked = λ ask on. absurd (cc); raised = λ job on. absurd (cc); settled = λ none. tt; own = λ none. 6 ∷ []; text = λ none. refl; came = λ none was_put. refl }
+begins-served number own (unlocks passphrase is) = record { asked = λ ask on. absurd (cc); raised = λ job on. absurd (cc); settled = λ none. tt; own = λ none. 6 ∷ []; text = λ none. refl; came = λ none was_put. refl }
 begins-served number {asker = asker} {held = held} {under_way = under_way} own (signs signing key is found unasked free) =
     let put = begins-put number asker (Signs key signing) held under_way own in
     record { asked = put.asked; raised = put.raised; settled = put.settled; own = put.own; text = put.text; came = put.came }
@@ -96,12 +98,13 @@ module _ (number wall : ℕ) (past : List Stamped) (at_once : Moment) (same_wall
     pub fares : (port : Port) → find_port number outcome.state.ports ≡ Some port → length port.owed ≤ most_owed
         → Fares number (past ++ stamps at_once outcome.actions) port new
     pub gone : find_port number outcome.state.ports ≡ None → claim new ≡ []
+    pub goes : GoesSo number (past ++ stamps at_once outcome.actions) outcome.actions new
 
   module _ (state : State) (port : Port) (found : find_port number state.ports ≡ Some port) where
     -- nothing is looked at
-    looks-busy : (peer : Peer) → due port ≡ More → peer.asked ≢ asks.Nothing → Fares number past port peer
+    looks-busy : (peer : Peer) → due port ≡ More → peer.asked ≢ asks.Nothing → Fares number past port peer → GoesSo number past [] peer
         → Looks (looked wall peer) (steps.looked number state)
-    looks-busy peer more some fares =
+    looks-busy peer more some fares goes =
         subst (λ outcome. Looks (looked wall peer) outcome) (sym (looked-found number port state More found more))
         (subst (λ new. Looks new (stay state)) (sym (looked-busy wall peer some)) record {
           fares = λ other there short busy.
@@ -109,6 +112,7 @@ module _ (number wall : ℕ) (past : List Stamped) (at_once : Moment) (same_wall
               let is : port ≡ other = cc in
               subst (λ p. Fared number (past ++ []) p peer) is (subst (λ l. Fared number l port peer) (sym (append-nil past)) (fares busy));
           gone = λ none. let no : Some port ≡ None = sym found ∙ none in absurd (cc);
+          goes = λ busy request last. goes busy request (sym (ap (last_request number) (append-nil past)) ∙ last);
         })
 
     module _ (peer : Peer) (nothing : port.waits ≡ Nothing) (unowed : port.owed ≡ []) (sent : peer.sent ≡ port.heard) (given : peer.given ≡ []) (none : peer.asked ≡ asks.Nothing) where
@@ -116,6 +120,7 @@ module _ (number wall : ℕ) (past : List Stamped) (at_once : Moment) (same_wall
       looks-idle outcome = record {
         fares = λ other there short busy. absurd (busy none);
         gone = λ gone. ap (λ a. claim_by a peer.course.since) none;
+        goes = λ busy. absurd (busy none);
       }
 
       same_number : port.number ≡ number
@@ -131,6 +136,10 @@ module _ (number wall : ℕ) (past : List Stamped) (at_once : Moment) (same_wall
             subst (λ p. Fared number (past ++ stamps at_once (taken body_len body port state).actions) p new_peer) is
             (fared (subst (λ (p : Port). length p.owed ≤ most_owed) (sym is) short));
         gone = λ gone. let no : Some new_port ≡ None = sym found-own ∙ gone in absurd (cc);
+        goes = λ busy request last.
+            let both : Some own_request ≡ Some request = sym last-request ∙ last in
+            let it : own_request ≡ request = cc in
+            ap (λ (r : Request). went_by number r.later) it;
       }
         where
           body : List ℕ
@@ -163,12 +172,18 @@ module _ (number wall : ℕ) (past : List Stamped) (at_once : Moment) (same_wall
           owes : new_port.owed ≡ verdict_text served.work.verdict
           owes = ap (λ o. o ++ verdict_text served.work.verdict) unowed
 
+          own_request : Request
+          own_request = record { wall = at_once.wall; body = body; later = served.work.actions }
+
+          last-request : last_request number (past ++ stamps at_once (taken body_len body port state).actions) ≡ Some own_request
+          last-request = last-own number past at_once requesting served.work.actions same_number
+              (served-others number (serve-ends (asker_at state.moment port) state.held state.under_way body))
+
           fared : length new_port.owed ≤ most_owed
               → Fared number (past ++ stamps at_once (taken body_len body port state).actions) new_port new_peer
           fared short = record {
-            request = record { wall = at_once.wall; body = body; later = served.work.actions };
-            last = last-own number past at_once requesting served.work.actions same_number
-                (served-others number (serve-ends (asker_at state.moment port) state.held state.under_way body));
+            request = own_request;
+            last = last-request;
             reads = sym (claim-read wall (request_of body) [] refl)
                 ∙ ap (λ w. readings_of (record { wall = w; body = body; later = served.work.actions })) (sym same_wall);
             asked = begins.asked;
@@ -196,9 +211,9 @@ module _ (number wall : ℕ) (past : List Stamped) (at_once : Moment) (same_wall
   module _ (state : State) (port : Port) (peer : Peer) (found : find_port number state.ports ≡ Some port) (door : port.door ≡ Clients) where
     -- ---- the client sends
 
-    pub heard-looks : (piece : List ℕ) → Client port peer → Fares number past port peer
+    pub heard-looks : (piece : List ℕ) → Client port peer → Fares number past port peer → GoesSo number past [] peer
         → Looks (looked wall (sent_more piece peer)) (handle (Heard number piece) state)
-    heard-looks piece client fares =
+    heard-looks piece client fares goes =
         subst (λ outcome. Looks (looked wall (sent_more piece peer)) outcome) (sym (handle-heard number piece port state found door)) (by_client client)
       where
         heard_state : State
@@ -216,10 +231,10 @@ module _ (number wall : ℕ) (past : List Stamped) (at_once : Moment) (same_wall
         by_client (idle nothing unowed sent given none more) =
             looks heard_state (heard_more piece port) there (sent_more piece peer) nothing unowed (ap (λ s. s ++ piece) sent) given none
         by_client (waiting on unowed sent given some) =
-            looks-busy heard_state (heard_more piece port) there (sent_more piece peer) (due-waits port.waits port.owed (port.heard ++ piece) on) some still
+            looks-busy heard_state (heard_more piece port) there (sent_more piece peer) (due-waits port.waits port.owed (port.heard ++ piece) on) some still goes
         by_client (taking body nothing owes sent some fits text) =
             looks-busy heard_state (heard_more piece port) there (sent_more piece peer)
-            (ap (λ w. due_front w port.owed (port.heard ++ piece)) nothing ∙ due-owed port.owed (port.heard ++ piece) owes) some still
+            (ap (λ w. due_front w port.owed (port.heard ++ piece)) nothing ∙ due-owed port.owed (port.heard ++ piece) owes) some still goes
 
     -- ---- the client takes
 
@@ -227,7 +242,7 @@ module _ (number wall : ℕ) (past : List Stamped) (at_once : Moment) (same_wall
     pub record Takes (count : ℕ) (before : List Action) (outcome : Outcome) : Type 0 where
       pub looks : Looks (peers.answered wall (take count port.owed) peer) outcome
       pub ends : ended_ends wall (ended_by (take count port.owed) peer)
-          ≡ (if count == length port.owed then map (ended_at wall (came_by (ask_in number before))) (claim peer) else [])
+          ≡ (if count == length port.owed then map (ended_at wall (came_by (is_some peer.course.put) (ask_in number before)) (went_told peer.course)) (claim peer) else [])
 
     module _ (count : ℕ) (some : 0 < count) (within : count ≤ length port.owed) where
       abbrev took_state : State
@@ -245,7 +260,7 @@ module _ (number wall : ℕ) (past : List Stamped) (at_once : Moment) (same_wall
           let size : length bytes ≡ count = length-take-le count port.owed within in
           omega (arith, both, size)
 
-      module _ (body : List ℕ) (nothing : port.waits ≡ Nothing) (sent : peer.sent ≡ port.heard) (asking : peer.asked ≢ asks.Nothing) (fits : IsBody longest_body body) (text : peer.given ++ port.owed ≡ string body) (fares : Fares number past port peer) (before : List Action) (says : SaysCame (ask_in number before) (peer.given ++ port.owed)) where
+      module _ (body : List ℕ) (nothing : port.waits ≡ Nothing) (sent : peer.sent ≡ port.heard) (asking : peer.asked ≢ asks.Nothing) (fits : IsBody longest_body body) (text : peer.given ++ port.owed ≡ string body) (fares : Fares number past port peer) (goes : GoesSo number past [] peer) (before : List Action) (says : SaysCame (ask_in number before) (peer.given ++ port.owed)) where
         takes-all : drop count port.owed ≡ [] → Takes count before (steps.looked number took_state)
         takes-all gone =
             let all : bytes ≡ port.owed = sym (append-nil bytes) ∙ ap (λ r. bytes ++ r) (sym gone) ∙ take-append-drop count port.owed in
@@ -266,8 +281,8 @@ module _ (number wall : ℕ) (past : List Stamped) (at_once : Moment) (same_wall
               looks = subst (λ new. Looks new (steps.looked number took_state)) (sym (answered-by wall bytes peer _ next))
                   (looks took_state (took_some count port) there freed nothing gone sent refl refl);
               ends = ap (ended_ends wall) (ended-by bytes peer _ next)
-                  ∙ ap (λ came. map (ended_at wall came) (claim peer)) (says body small text)
-                  ∙ sym (ap (λ b. if b then map (ended_at wall (came_by (ask_in number before))) (claim peer) else []) is_all);
+                  ∙ ap (λ came. map (ended_at wall came (went_told peer.course)) (claim peer)) (says (is_some peer.course.put) body small text)
+                  ∙ sym (ap (λ b. if b then map (ended_at wall (came_by (is_some peer.course.put) (ask_in number before)) (went_told peer.course)) (claim peer) else []) is_all);
             }
 
         takes-part : (byte : ℕ) (rest : List ℕ) → drop count port.owed ≡ byte ∷ rest → Takes count before (steps.looked number took_state)
@@ -294,9 +309,9 @@ module _ (number wall : ℕ) (past : List Stamped) (at_once : Moment) (same_wall
             }) in
             record {
               looks = subst (λ new. Looks new (steps.looked number took_state)) (looked-busy wall more asking ∙ sym (answered-by wall bytes peer None next))
-                  (looks-busy took_state (took_some count port) there more waits asking still);
+                  (looks-busy took_state (took_some count port) there more waits asking still goes);
               ends = ap (ended_ends wall) (ended-by bytes peer None next)
-                  ∙ sym (ap (λ b. if b then map (ended_at wall (came_by (ask_in number before))) (claim peer) else []) is_part);
+                  ∙ sym (ap (λ b. if b then map (ended_at wall (came_by (is_some peer.course.put) (ask_in number before)) (went_told peer.course)) (claim peer) else []) is_part);
             }
 
         takes-by : (rest : List ℕ) → drop count port.owed ≡ rest → Takes count before (steps.looked number took_state)

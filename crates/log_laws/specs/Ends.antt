@@ -1,9 +1,10 @@
 -- Each line is told by the event at which its request ended, with what came of that: by the run's history (ours). The
 -- file is read from its end.
-use Rattle.std.specs.Prelude.{◌≡◌, ℕ, ◌==◌, ◌&&◌, List, [], ◌∷◌, ◌++◌, map, length, Bool, true, Option, None, Some, if◌then◌else◌}
+use Rattle.std.specs.Prelude.{◌≡◌, ℕ, ◌==◌, ◌&&◌, List, [], ◌∷◌, ◌++◌, map, length, Bool, true, false, Option, None, Some, is_some, if◌then◌else◌}
 use Rattle.std.specs.List.{cons_option, filter_map}
 use Rattle.std.specs.Option.{option_map, option_or}
 use Rattle.helper_link.specs.declared.answer.Answer.TheVariants as answer
+use Rattle.lists.specs.Rising.{is_among}
 use Rattle.agent_model.specs.Actions.{Action, Answered, Asked, Asking, Granted, Lost, Over, Proved, Raised, Requested}
 use Rattle.agent_model.specs.Binds.{agent_request_of}
 use Rattle.agent_model.specs.Events.{Happening, Timed, Joined, Heard, Ended, Took, Started, StartFailed, Tick}
@@ -12,25 +13,33 @@ use Rattle.agent_model.specs.Fates.{Fate, fate_of}
 use Rattle.agent_model.specs.Runs.{AllFit, Stamped, stamped}
 use Rattle.agent_model.specs.State.{Nothing, OnAsk, OnConfirmation, Port, Settings, State, Waits, find_port, first_state, is_client, is_some_bytes}
 use Rattle.agent_model.specs.Step.{step}
+use Rattle.log_book.specs.declared.told.Course.{Course}
 use Rattle.log_book.specs.declared.told.Fate.{Fate as ToldFate}
 use Rattle.log_book.specs.declared.told.Fate.TheVariants as told
 use Rattle.log_book.specs.declared.told.Told.{Told}
 use Rattle.log_laws.specs.Reads.{Reading, asked_by, read_at}
-use Rattle.log_laws.specs.Sights.{told_in}
+use Rattle.log_laws.specs.Sights.{put_in, raised_in, told_in}
 
--- what came of a request for a signature: the client took one, or a refusal, or left before it had taken either, or it
--- waits
+-- what came of a request for a signature: the client took one, or it took a refusal and the request was never put to the
+-- helper, or was put to it, or the client left before it had taken either, or it waits
 pub data Came : Type 0 where
   Signed : Came
   Refused : Came
+  Failed : Came
   Left : Came
   Waiting : Came
+
+-- how far it went: whether the user was asked about it, and whether it was put to the helper
+pub record Went : Type 0 where
+  pub raised : Bool
+  pub put : Bool
 
 -- what came of a request that was read, and at which second of the wall clock; of one that waits, that of the reading
 pub record End : Type 0 where
   pub reading : Reading
   pub wall : ℕ
   pub came : Came
+  pub went : Went
 
 -- ---- the request that a client made last
 
@@ -84,19 +93,29 @@ abbrev pub ask_in : ℕ → List Action → Option (Asking × List Action)
 ask_in port [] = None
 ask_in port (action ∷ later) = option_or (ask_by port action later) (ask_in port later)
 
--- by what became of the ask: a signature, where the helper answered with one
-abbrev pub came_of : Fate → Came
-came_of fates.Unanswered = Refused
-came_of (fates.Gets (answer.Signed signature)) = Signed
-came_of (fates.Gets answer.Refused) = Refused
-came_of (fates.Gets answer.True) = Refused
-came_of (fates.Gets answer.False) = Refused
-came_of fates.Fails = Refused
+-- how far the client's request went, by what was done since: the user was asked about one of the client, and one was put
+-- to the helper
+abbrev pub went_by : ℕ → List Action → Went
+went_by port later = record { raised = is_among port (raised_in later); put = is_among port (put_in later) }
 
--- a request for which no ask was put was refused
-abbrev pub came_by : Option (Asking × List Action) → Came
-came_by None = Refused
-came_by (Some put) = came_of (fate_of put.0.ask put.1)
+-- a refusal of a request that was put to the helper, or wasn't
+abbrev pub refused_as : Bool → Came
+refused_as true = Failed
+refused_as false = Refused
+
+-- by what became of the ask: a signature, where the helper answered with one
+abbrev pub came_of : Bool → Fate → Came
+came_of was_put fates.Unanswered = refused_as was_put
+came_of was_put (fates.Gets (answer.Signed signature)) = Signed
+came_of was_put (fates.Gets answer.Refused) = refused_as was_put
+came_of was_put (fates.Gets answer.True) = refused_as was_put
+came_of was_put (fates.Gets answer.False) = refused_as was_put
+came_of was_put fates.Fails = refused_as was_put
+
+-- without an ask it was refused
+abbrev pub came_by : Bool → Option (Asking × List Action) → Came
+came_by was_put None = refused_as was_put
+came_by was_put (Some put) = came_of was_put (fate_of put.0.ask put.1)
 
 -- ---- the event that ends it
 
@@ -114,26 +133,28 @@ came_at number port later (Heard at piece) = None
 came_at number port later (Ended at) =
     if (at == number) && is_busy port.waits port.owed then Some Left else None
 came_at number port later (Took at count) =
-    if (at == number) && (count == length port.owed) then Some (came_by (ask_in number later)) else None
+    if (at == number) && (count == length port.owed)
+    then Some (came_by (went_by number later).put (ask_in number later)) else None
 came_at number port later (Started job ticket) = None
 came_at number port later (StartFailed job) = None
 came_at number port later Tick = None
 
 -- it came at this second
-abbrev pub ended_at : ℕ → Came → Reading → End
-ended_at wall came reading = record { reading = reading; wall = wall; came = came }
+abbrev pub ended_at : ℕ → Came → Went → Reading → End
+ended_at wall came went reading = record { reading = reading; wall = wall; came = came; went = went }
 
 -- of these, where it came
-abbrev pub ended_by : ℕ → Option Came → List Reading → List End
-ended_by wall None readings = []
-ended_by wall (Some came) readings = map (ended_at wall came) readings
+abbrev pub ended_by : ℕ → Option Came → Went → List Reading → List End
+ended_by wall None went readings = []
+ended_by wall (Some came) went readings = map (ended_at wall came went) readings
 
 -- an event's part, by who is at the port and what it asked for last
 abbrev pub ends_with : ℕ → Timed → Option Port → Option Request → List End
 ends_with number timed None last = []
 ends_with number timed (Some port) None = []
 ends_with number timed (Some port) (Some request) = if is_client port.door
-    then ended_by timed.moment.wall (came_at number port request.later timed.event) (readings_of request) else []
+    then ended_by timed.moment.wall (came_at number port request.later timed.event)
+    (went_by number request.later) (readings_of request) else []
 
 -- the requests for signatures of the client at this port that an event ends, behind this past and in this state: one,
 -- or none
@@ -143,19 +164,19 @@ ends_at number past state timed = ends_with number timed (find_port number state
 -- ---- those that have no end
 
 -- it waits
-abbrev pub waiting : Reading → End
-waiting reading = record { reading = reading; wall = reading.since; came = Waiting }
+abbrev pub waiting : Went → Reading → End
+waiting went reading = record { reading = reading; wall = reading.since; came = Waiting; went = went }
 
 -- by who is at the port and what it asked for last
-abbrev pub waits_with : Option Port → Option Request → List End
-waits_with None last = []
-waits_with (Some port) None = []
-waits_with (Some port) (Some request) = if is_client port.door && is_busy port.waits port.owed
-    then map waiting (readings_of request) else []
+abbrev pub waits_with : ℕ → Option Port → Option Request → List End
+waits_with number None last = []
+waits_with number (Some port) None = []
+waits_with number (Some port) (Some request) = if is_client port.door && is_busy port.waits port.owed
+    then map (waiting (went_by number request.later)) (readings_of request) else []
 
 -- the requests for signatures for whose answer the client at this port waits: one, or none
 abbrev pub waits_at : ℕ → List Stamped → State → List End
-waits_at number past state = waits_with (find_port number state.ports) (last_request number past)
+waits_at number past state = waits_with number (find_port number state.ports) (last_request number past)
 
 -- ---- what is told
 
@@ -163,10 +184,14 @@ waits_at number past state = waits_with (find_port number state.ports) (last_req
 abbrev pub came_told : ToldFate → Came
 came_told told.Signed = Signed
 came_told told.Refused = Refused
-came_told told.HelperRefused = Refused
-came_told told.HelperLost = Refused
+came_told told.HelperRefused = Failed
+came_told told.HelperLost = Failed
 came_told told.Left = Left
 came_told told.Open = Waiting
+
+-- and how far it is told to have gone: by these two a line says what the user said
+abbrev pub went_told : Course → Went
+went_told course = record { raised = course.raised; put = is_some course.put }
 
 -- a told request of the client at this port
 abbrev pub end_told : ℕ → Told → Option End
@@ -174,6 +199,7 @@ end_told port one = if one.port == port then Some (record {
   reading = record { since = one.course.since; blob = one.blob; message = one.message };
   wall = one.wall;
   came = came_told one.fate;
+  went = went_told one.course;
 }) else None
 
 -- those of the client at this port, in their order

@@ -4,4 +4,5 @@ pub mod Raised
 pub mod Puts
 pub mod Reads
 pub mod Ends
+pub mod Whys
 pub mod EndRows

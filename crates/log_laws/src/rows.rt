@@ -1,23 +1,43 @@
 //! Literal rows of what came of a request: laws that are proved by computing.
 #![tactic(auto, unfolding(wire_text::specs::Wire::uint32, wire_text::specs::Wire::string, wire_text::specs::Wire::announced_len, wire_core::specs::Fields::uint32_at, wire_core::specs::Fields::string_len, wire_core::specs::Fields::string_at, agent_msg::specs::Reading::request_of_number, agent_msg::specs::Reading::request_of))]
 
-ghost use Rattle.std.specs.Prelude.{◌≡◌, ◌∷◌, [], None, Some};
-ghost use Rattle.agent_model.specs.Actions.{Lost};
+ghost use Rattle.std.specs.Prelude.{◌≡◌, ◌∷◌, [], None, Some, false, true};
+ghost use Rattle.agent_model.specs.Actions.{ForSignature, Granted, Lost, Over};
+ghost use Rattle.agent_model.specs.Binds.{agent_request_of};
 ghost use Rattle.agent_model.specs.Events.{Ended, Heard, Took};
 ghost use Rattle.agent_model.specs.State.{Nothing, OnAsk, OnConfirmation};
-ghost use Rattle.log_laws.specs.EndRows.{asked, asks, at, body, owes, puts, reading, refuses, signs, waits};
-ghost use Rattle.log_laws.specs.Ends.{Left, Refused, Signed, ask_in, came_at, came_by, last_request, readings_of};
+ghost use Rattle.log_laws.specs.EndRows.{asked, asks, at, body, came, owes, puts, raises, reading, refuses, signs, verifies, waits, went};
+ghost use Rattle.log_laws.specs.Ends.{Failed, Left, Refused, Signed, came_at, last_request, readings_of, went_by};
+ghost use Rattle.log_laws.specs.Whys.{purpose_by};
 
-/// A request is signed where the helper answered its client's ask with a signature, before it was lost.
+/// A request is signed where the helper answered its client's ask with a signature, before it was lost; a refusal says
+/// whether one was put.
 pub fn what_the_helper_made_of_it()
-    ensures unasked { came_by (ask_in 1 []) ≡ Refused }
-    ensures signed { came_by (ask_in 1 (puts 3 1 ∷ signs 3 ∷ [])) ≡ Signed }
-    ensures refused { came_by (ask_in 1 (puts 3 1 ∷ refuses 3 ∷ [])) ≡ Refused }
-    ensures lost { came_by (ask_in 1 (puts 3 1 ∷ Lost ∷ signs 3 ∷ [])) ≡ Refused }
-    ensures lost_before { came_by (ask_in 1 (Lost ∷ puts 3 1 ∷ signs 3 ∷ [])) ≡ Signed }
-    ensures lost_after { came_by (ask_in 1 (puts 3 1 ∷ signs 3 ∷ Lost ∷ [])) ≡ Signed }
-    ensures other_ask { came_by (ask_in 1 (puts 3 1 ∷ signs 2 ∷ [])) ≡ Refused }
-    ensures other_client { came_by (ask_in 1 (puts 3 2 ∷ signs 3 ∷ [])) ≡ Refused }
+    ensures unasked { came [] ≡ Refused }
+    ensures signed { came (puts 3 1 ∷ signs 3 ∷ []) ≡ Signed }
+    ensures refused { came (puts 3 1 ∷ refuses 3 ∷ []) ≡ Failed }
+    ensures lost { came (puts 3 1 ∷ Lost ∷ signs 3 ∷ []) ≡ Failed }
+    ensures lost_before { came (Lost ∷ puts 3 1 ∷ signs 3 ∷ []) ≡ Signed }
+    ensures lost_after { came (puts 3 1 ∷ signs 3 ∷ Lost ∷ []) ≡ Signed }
+    ensures other_ask { came (puts 3 1 ∷ signs 2 ∷ []) ≡ Failed }
+    ensures other_client { came (puts 3 2 ∷ signs 3 ∷ []) ≡ Refused }
+{}
+
+/// How far the request of the client at port 1 went, by what was done behind it.
+pub fn a_request_goes_so_far()
+    ensures nowhere { went_by 1 [] ≡ went false false }
+    ensures raised { went_by 1 (raises 1 ∷ []) ≡ went true false }
+    ensures put { went_by 1 (puts 3 1 ∷ []) ≡ went false true }
+    ensures agreed { went_by 1 (raises 1 ∷ Granted 2 ∷ puts 3 1 ∷ []) ≡ went true true }
+    ensures denied { went_by 1 (raises 1 ∷ Over 2 ∷ []) ≡ went true false }
+    ensures others { went_by 1 (raises 2 ∷ puts 3 2 ∷ []) ≡ went false false }
+    ensures verified { went_by 1 (verifies 3 1 ∷ []) ≡ went false false }
+{}
+
+/// What is put for a request is what it asks for.
+pub fn a_request_is_put_as_it_is()
+    ensures { purpose_by (agent_request_of body)
+        ≡ Some (ForSignature (record { blob = 107 ∷ []; message = 109 ∷ []; flags = 0 })) }
 {}
 
 /// A client's last request counts, with what was done behind it.

@@ -2,7 +2,7 @@ use Rattle.std.proofs.Common.{[], ap, subst, sym, ◌∙◌}
 use Rattle.agent_model.specs.State.{first_state}
 use Rattle.log_laws.specs.Ends.{TellsEnds}
 use Rattle.log_laws.specs.Reads.{told_of_client}
-use Rattle.log_laws.proofs.FineLemmas.{tells-what-came}
+use Rattle.log_laws.proofs.AllEndLemmas.{tells-what-came}
 use Rattle.log_laws.proofs.TellLemmas.{tells-what-is-read}
 use Rattle.replay_run.specs.Replay.{events_of, settings_of}
 use Rattle.replay_run.proofs.FitLemmas.{schedule-fits}
