@@ -4,6 +4,7 @@ use Rattle.log_laws.specs.Ends.{TellsEnds}
 use Rattle.log_laws.specs.Reads.{told_of_client}
 use Rattle.log_laws.proofs.AllEndLemmas.{tells-what-came}
 use Rattle.log_laws.proofs.TellLemmas.{tells-what-is-read}
+use Rattle.log_laws.proofs.WhyLemmas.{puts-what-was-read}
 use Rattle.replay_run.specs.Replay.{events_of, settings_of}
 use Rattle.replay_run.proofs.FitLemmas.{schedule-fits}
 use Rattle.log_core.specs.Lines.{whole_lines}
@@ -26,3 +27,6 @@ pub returns-clause-came : goal.returns-clause-came
 returns-clause-came c = λ settings text.
     subst (TellsEnds [] (first_state (settings_of settings (whole_lines text))) (events_of settings (whole_lines text))) (sym (all_told settings text))
     (tells-what-came (settings_of settings (whole_lines text)) (events_of settings (whole_lines text)) (schedule-fits settings (whole_lines text)))
+
+pub returns-clause-put : goal.returns-clause-put
+returns-clause-put c = λ settings text before later whole. puts-what-was-read (settings_of settings (whole_lines text)) before
