@@ -16,10 +16,10 @@ ghost use Rattle.replay_run.specs.Replay.{events_of, settings_of};
 /// record's log are those of that run. The laws of log_laws say of it that the requests which are seen to be put to the
 /// helper, and those about which the user is seen to be asked, are those of the run's history. And of each client the
 /// requests of the log are the requests for signatures that the history says were read of it, each once and in their
-/// order, with the second, the key and the message. And they stand in the order of the run's events: of each event those
-/// that it ends, with what came of them by the history (signed, refused before it was put to the helper or behind that,
-/// or left by the client) and whether the user was asked, and behind them those that wait. What was put for a client since
-/// its last request is what that request asks for, behind each front of the run.
+/// order, with the second, the key and the message. And they stand in the order of the run's events: of each event
+/// those that it ends, with what came of them by the history (signed, refused before it was put to the helper or behind
+/// that, or left by the client) and whether the user was asked, and behind them those that wait. What was put for a
+/// client since its last request is what that request asks for, behind each front of the run.
 pub fn a_log_is_of_the_records_run()
     ensures seen { (settings : Settings) (text : List ℕ) → sights_of settings text
         ≡ run_sights (first_state (settings_of settings text)) (events_of settings text) }

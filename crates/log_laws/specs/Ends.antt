@@ -20,8 +20,8 @@ use Rattle.log_book.specs.declared.told.Told.{Told}
 use Rattle.log_laws.specs.Reads.{Reading, asked_by, read_at}
 use Rattle.log_laws.specs.Sights.{put_in, raised_in, told_in}
 
--- what came of a request for a signature: the client took one, or it took a refusal and the request was never put to the
--- helper, or was put to it, or the client left before it had taken either, or it waits
+-- what came of a request for a signature: the client took one, or it took a refusal and the request was never put to
+-- the helper, or was put to it, or the client left before it had taken either, or it waits
 pub data Came : Type 0 where
   Signed : Came
   Refused : Came
@@ -93,8 +93,8 @@ abbrev pub ask_in : ℕ → List Action → Option (Asking × List Action)
 ask_in port [] = None
 ask_in port (action ∷ later) = option_or (ask_by port action later) (ask_in port later)
 
--- how far the client's request went, by what was done since: the user was asked about one of the client, and one was put
--- to the helper
+-- how far the client's request went, by what was done since: the user was asked about one of the client, and one was
+-- put to the helper
 abbrev pub went_by : ℕ → List Action → Went
 went_by port later = record { raised = is_among port (raised_in later); put = is_among port (put_in later) }
 

@@ -11,8 +11,8 @@ use Rattle.agent_msg.specs.Requests.{Add, Bind, ClientRequest, ListIdentities, L
 use Rattle.agent_msg.specs.declared.fault.MsgFault.{MsgFault}
 use Rattle.log_laws.specs.Ends.{Request, last_request}
 
--- what is put for a request: the very signature that it asks for, by blob, message and flags, or the verification of the
--- very binding
+-- what is put for a request: the very signature that it asks for, by blob, message and flags, or the verification of
+-- the very binding
 abbrev pub purpose_in : ClientRequest → Option Purpose
 purpose_in ListIdentities = None
 purpose_in (Sign signing) = Some (ForSignature signing)

@@ -41,10 +41,10 @@ pub fn what_is_told_was_read()
 {}
 
 /// The requests for signatures that are told in a run stand in the order of its events: of each event those that it
-/// ends, of each client and no other, and behind them those that wait in the end. Of each is told what came of it by the
-/// run's history: it was signed where the helper answered its ask with a signature and the client took that, refused
-/// where the client took another reply, and left where its port ended before. A refusal says that the request was put to
-/// the helper exactly where it was; and that the user was asked is told exactly where he was.
+/// ends, of each client and no other, and behind them those that wait in the end. Of each is told what came of it by
+/// the run's history: it was signed where the helper answered its ask with a signature and the client took that,
+/// refused where the client took another reply, and left where its port ended before. A refusal says that the request
+/// was put to the helper exactly where it was; and that the user was asked is told exactly where he was.
 pub fn what_is_told_is_what_came()
     ensures { (settings : Settings) (events : List Timed) → TellsWhatCame settings events }
 {}
