@@ -285,18 +285,15 @@ def write_case(seed: str) -> tuple[Case, int | None]:
     return writer.case(), writer.limit
 
 
-MODELS = ("wire", "formats", "rules", "agent", "replay", "add_tool", "record", "audit", "log")
-
-
 def wrong_module(edit: dict[str, str], wanted: str) -> ModuleType:
     """A module of the models of which one line is changed. A process may import one such edit."""
     with tempfile.TemporaryDirectory() as folder:
         Path(folder, "wrong_model").mkdir()
-        for name in MODELS:
-            text = (HERE / f"{name}.py").read_text()
-            if edit["file"] == f"{name}.py":
+        for path in HERE.glob("*.py"):
+            text = path.read_text()
+            if edit["file"] == path.name:
                 text = text.replace(edit["old"], edit["new"])
-            Path(folder, "wrong_model", f"{name}.py").write_text(text)
+            Path(folder, "wrong_model", path.name).write_text(text)
         sys.path.insert(0, folder)
         return importlib.import_module(f"wrong_model.{wanted}")
 
