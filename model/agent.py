@@ -9,6 +9,7 @@ from collections.abc import Callable
 from dataclasses import dataclass, field
 
 from . import formats
+from .purposes import purposes_of
 from .questions import line_of, question
 from .rules import Binding, Chain, Purposes, Rules, are_for, may_sign, principals, room, visible
 from .wire import Fault, demand, string, take_frame, uint32, within
@@ -236,7 +237,7 @@ class Agent:
     def sign(self, number: int, client: Port, blob: bytes, message: bytes, flags: int) -> None:
         demand(blob in self.identities, "sign: not held")
         identity, signing = self.identities[blob], (blob, message, flags)
-        self.may_sign(client, identity, blob, message)
+        self.may_sign(client, identity, blob, message, "asked")
         if not identity.confirm:
             return self.put_signing(number, identity, signing)
         demand(not self.above("confirmations", len(self.confirmations) + 1), "confirmations")
@@ -251,10 +252,14 @@ class Agent:
             number, self.mono, identity.addition, signing, frame
         )
 
-    def may_sign(self, client: Port, identity: Identity, blob: bytes, message: bytes) -> None:
+    def may_sign(
+        self, client: Port, identity: Identity, blob: bytes, message: bytes, when: str
+    ) -> None:
         """Raises why a key isn't to sign a message: what it is for, or where to."""
+        if identity.purposes:
+            told = "one of" if are_for(identity.purposes, blob, message) else "none of"
+            self.seen[f"{when}: {min(purposes_of(message, blob)).decode()[:6]}, {told} the key's"] += 1
         demand(are_for(identity.purposes, blob, message), "other purpose")
-        self.seen["purpose: one of the key's"] += bool(identity.purposes)
         within("rules", may_sign, identity.rules, blob, client.chain, message, self.wall)
         self.seen["rules: permit"] += bool(identity.rules)
 
@@ -384,7 +389,7 @@ class Agent:
         try:
             demand(self.passphrase is None, "locked")
             demand(identity is not None and identity.addition == told.addition, "not held")
-            self.may_sign(self.ports[told.asker], identity, *told.signing[:2])
+            self.may_sign(self.ports[told.asker], identity, *told.signing[:2], "granted")
             self.put_signing(told.asker, identity, told.signing)
             self.seen["confirmation: granted"] += 1
         except Fault as cause:

@@ -124,14 +124,15 @@ class ChildMoves(Moves):
     def purposes(self) -> None:
         """A key for some purposes is to sign for several, maybe after a question; it may be added again meanwhile."""
         random, port, key = self.random, self.client(fresh=0.3), self.pick(self.keys)
-        extra = random.choice([b"", b"", b"\x02", pool.uses(2)])
+        extra = random.choice([b"", b"\x02", b"\x02", b"\x02" + pool.uses(1), pool.uses(2)])
         add = b"\x19" + key.added + string(b"c") + pool.some_purposes(random) + extra
         self.send(port, add, cut=0)
         for _ in range(random.choice([1, 2, 3])):
             if port not in self.agent.ports or self.agent.ports[port].waits:
                 return
             user = random.choice([b"u", b"u" * 65, b"\x1f\x7f u\n"])
-            messages = [self.login(port, key), pool.file_data(random), b"m", pool.login(random, key, b"s", user, None)]
+            messages = [self.login(port, key), pool.login(random, key, b"s", user, None), b"m"]
+            messages += [pool.file_data(random)] * 2
             self.send(port, b"\x0d" + string(key.blob) + string(random.choice(messages)) + uint32(0), cut=0.03)
             if self.chance(0.15):
                 other = self.client(fresh=0.3)
@@ -165,7 +166,10 @@ class ChildMoves(Moves):
             route[random.randrange(len(route))] = random.choice(pool.FALSE_HOSTS)
         key = self.pick(self.keys)
         terms = pool.restrict(*pool.route_rules(random, route))
-        if self.chance(0.3):
+        if self.chance(0.4):
+            logins = [pool.purposes(b"login"), pool.purposes(b"other", b"login"), pool.some_purposes(random)]
+            terms = random.choice([terms + random.choice(logins), random.choice(logins) + terms])
+        if self.chance(0.4):
             terms += b"\x02"
         if self.chance(0.6):
             self.say(f"at {self.run.moment[0]} {random.choice([100, 150, 199])}")
@@ -230,9 +234,11 @@ class ChildMoves(Moves):
         random, port, key = self.random, self.client(fresh=0.8), self.pick(self.keys)
         host = pool.HOSTS[8]
         self.say(f"at {self.run.moment[0]} 150")
-        rule = pool.rule(pool.hop(b"", b"", []), pool.hop(b"", host.name, [host.entry]))
+        names = [(b"", host.name), (b"", b"\x1b\xff" + b"h" * 60 + b".example.org"), (b"perseus", b"p.example.org")]
+        rules = [pool.rule(pool.hop(b"", b"", []), pool.hop(*name, [host.entry])) for name in names]
+        random.shuffle(rules)
         purposes = random.choice([b"", pool.purposes(b"login"), pool.purposes(b"other", b"login")])
-        add = b"\x19" + key.added + string(b"c") + b"\x02" + pool.restrict(rule) + purposes
+        add = b"\x19" + key.added + string(b"c") + b"\x02" + pool.restrict(*rules) + purposes
         if port in self.agent.ports:
             self.send(port, add, cut=0)
         self.bind(port, host.key, b"login", forwarding=0)

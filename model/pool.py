@@ -121,7 +121,7 @@ def restrict(*rules: bytes) -> bytes:
 
 
 def route_rules(random: Random, route: list[Host]) -> list[bytes]:
-    """Rules that permit a route, with keys and rules beside it, in any order."""
+    """Rules that permit a route, with keys, other names for a host and rules beside it, in any order."""
     rules, source = [], hop(b"", b"", [])
     for host in route:
         keys = [host.entry]
@@ -130,6 +130,9 @@ def route_rules(random: Random, route: list[Host]) -> list[bytes]:
             random.shuffle(keys)
         target = hop(random.choice(PATTERNS), host.name, keys)
         rules.append(rule(source, target))
+        if random.random() < 0.3:
+            name = random.choice([b"again.example.org", b"\x1b\xff" + b"h" * 60 + b".example.org"])
+            rules.append(rule(source, hop(random.choice(PATTERNS), name, keys)))
         source = hop(b"", host.name, keys)
     if random.random() < 0.4:
         rules.append(rule(source, hop(b"", b"further", [HOSTS[1].entry])))
