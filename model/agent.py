@@ -243,10 +243,11 @@ class Agent:
         demand(not self.above("confirmations", len(self.confirmations) + 1), "confirmations")
         job = self.next_number("job")
         self.starts[job] = "confirm"
-        line = line_of(blob, message)
+        line = line_of(blob, message, identity.rules, client.chain, self.wall)
         text = question(identity.comment, blob, identity.purposes, line)
         if identity.purposes:
             self.seen[f"question: {line.split(b' ')[2].decode()}"] += 1
+            self.seen["question: host"] += bool(identity.rules)
         frame = formats.confirm_frame(job, text)
         self.confirmations[job] = Confirmation(
             number, self.mono, identity.addition, signing, frame

@@ -387,7 +387,7 @@ GOALS = [
             cause: confirmation: ended; cause: confirmation: start failed
             cause: confirmation: limit; cause: confirmation: bad length; cause: confirmation: Short; cause: confirmation: Kind
             cause: confirmation: Trailing; cause: confirmation: TicketLength
-            question: login; question: signature; question: data""",
+            question: login; question: signature; question: data; question: host""",
         # what waits too long, and schedules of format 2
         """line schedule; helper lost: ask limit
             ask limit: -1; ask limit: +0; ask limit: +1

@@ -7,7 +7,7 @@ import hashlib
 
 from .formats import login, public_key
 from .purposes import is_login, namespace_of
-from .rules import Purposes
+from .rules import Chain, Purposes, Rules, host_of
 
 
 def shown(text: bytes, most: int) -> bytes:
@@ -15,11 +15,13 @@ def shown(text: bytes, most: int) -> bytes:
     return bytes(byte if 0x20 <= byte <= 0x7E else ord("?") for byte in text[:most])
 
 
-def line_of(blob: bytes, message: bytes) -> bytes:
-    """What a message is for."""
+def line_of(blob: bytes, message: bytes, rules: Rules | None, chain: Chain, wall: int) -> bytes:
+    """What a message is for; of a login also the host, where the key's constraints name it."""
     if is_login(message, blob):
         user = login(message, blob)[1]
-        return b"For a login as " + shown(user, 64) + b"."
+        host = host_of(rules, chain, user, wall)
+        to = b"" if host is None else b" to " + shown(host, 64)
+        return b"For a login as " + shown(user, 64) + to + b"."
     namespace = namespace_of(message)
     if namespace is not None:
         return b"For a signature in namespace " + shown(namespace, 64) + b"."

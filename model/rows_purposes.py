@@ -4,8 +4,8 @@ from __future__ import annotations
 
 import hashlib
 
-from .rows import K1, LIST, NO, NOTHING, OK, ONE, S1, TERMS1, USES, H1, hear, listing, row, st, to, u32
-from .rows_children import bind, hello, helper, put1, sign, signed, true, verify
+from .rows import K1, LIST, NO, NOTHING, OK, ONE, S1, S2, TERMS1, USES, H1, H2, hear, listing, row, st, to, u32
+from .rows_children import bind, chain, hello, helper, put1, sign, signed, true, verify
 from .rows_hostile import answer
 from .rows_room import EVERY_ROW as EARLIER
 from .rows_room import FILL, KEY, LEFT, RULE, ruled
@@ -129,12 +129,72 @@ asks("a user of 65 bytes is cut", ALL, plain_login(S1, b"u" * 64 + b"v"), b"\nFo
 asks("a user's line ends are shown", ALL, plain_login(S1, b"a\nb\x7f\xc3\xa9 "), b"\nFor a login as a?b??? .")
 asks("a namespace is cut", ALL, file_in(b"\t" + b"n" * 64), b"\nFor a signature in namespace ?" + b"n" * 63 + b".")
 
-row(
-    "a login's third line names no host",
-    ["join client", *hear(1, TERMS1 + ALL + FOR_H1 + b"\x02", bind(H1, S1, 0)), *helper(2), *hear(2, true(1))]
-    + hear(1, sign(K1, bound_login(S1, b"root", H1))) + ["started 2 " + "00" * 16, "join child", *hear(3, hello(2))],
-    [to(1, OK), "start 1 helper", to(2, verify(1, H1, S1)), to(1, OK), "start 2 confirm"]
-    + [to(3, confirm(2, line=b"\nFor a login as root."))],
+# Where the key has destination constraints, the line of a login ends with the host
+
+
+def names(
+    name: str, rules: list[bytes], user: bytes, line: bytes, *hops: tuple[bytes, bytes, int], terms: bytes = ALL
+) -> None:
+    """A key under these constraints is to sign a login over these bindings, and the user is asked with this behind."""
+    (first_key, first_session, first_on), *others = hops
+    bound, (last_key, last_session, _) = chain(1, 2, 2, *others), hops[-1]
+    row(
+        name,
+        ["join client", *hear(1, TERMS1 + terms + restrict(*rules) + b"\x02", bind(first_key, first_session, first_on))]
+        + [*helper(2), *hear(2, true(1)), *bound[0], *hear(1, sign(K1, bound_login(last_session, user, last_key)))]
+        + ["started 2 " + "00" * 16, "join child", *hear(3, hello(2))],
+        [to(1, OK), "start 1 helper", to(2, verify(1, first_key, first_session)), to(1, OK), *bound[1]]
+        + ["start 2 confirm", to(3, confirm(2, line=line))],
+    )
+
+
+def from_here(user: bytes, host: bytes, *keys: tuple[bytes, int]) -> bytes:
+    return rule(ORIGIN, hop(user, host, *keys))
+
+
+AT_H1, AT_H2, HERE = (H1, 0), (H2, 0), (H1, S1, 0)
+OVER_H1 = ((H1, S1, 1), (H2, S2, 0))
+CETUS = from_here(b"", b"cetus", AT_H1)
+ONWARD = rule(hop(b"", b"cetus", AT_H1), hop(b"", b"scylla", AT_H2))
+TO_CETUS = b"\nFor a login as root to cetus."
+names("a login's third line names the host of the key's constraint", [CETUS], b"root", TO_CETUS, HERE)
+names(
+    "a constraint for another host, and one for another user, don't name it",
+    [from_here(b"", b"scylla", AT_H2), from_here(b"perseus", b"for perseus", AT_H1), CETUS],
+    b"root",
+    TO_CETUS,
+    HERE,
 )
+names(
+    "the first constraint that permits names the host",
+    [from_here(b"", b"scylla", AT_H2, AT_H1), CETUS, from_here(b"root", b"third", AT_H1)],
+    b"root",
+    b"\nFor a login as root to scylla.",
+    HERE,
+)
+names(
+    "over a host to the next the last hop's constraint names it",
+    [from_here(b"", b"straight", AT_H2), CETUS, rule(hop(b"", b"scylla", AT_H2), hop(b"", b"back", AT_H2)), ONWARD],
+    b"root",
+    b"\nFor a login as root to scylla.",
+    *OVER_H1,
+)
+LONG = b"\x1b\xc3\xa9h\n" + b"h" * 59
+names(
+    "a host of 64 bytes is shown",
+    [from_here(b"", LONG, AT_H1)],
+    b"u",
+    b"\nFor a login as u to ???h?" + b"h" * 59 + b".",
+    HERE,
+)
+names(
+    "a host of 65 bytes is cut, and so is a user",
+    [from_here(b"", LONG + b"i", AT_H1)],
+    b"u" * 65,
+    b"\nFor a login as " + b"u" * 64 + b" to ???h?" + b"h" * 59 + b".",
+    HERE,
+)
+names("a user may hold what looks like a host", [CETUS], b"git to x", b"\nFor a login as git to x to cetus.", HERE)
+names("a key without purposes is asked for by two lines, whatever its hosts", [CETUS], b"root", b"", HERE, terms=b"")
 
 EVERY_ROW = EARLIER  # with those of the files that this one stands on

@@ -51,14 +51,20 @@ def is_at(hop: Hop, host_key: bytes, wall: int) -> bool:
     return (certificate.signer, True) in hop.keys and certificate.is_good_for(hop.host, wall)
 
 
-def leads(rules: Rules, before: bytes | None, to: bytes, user: bytes | None, wall: int) -> bool:
-    """Whether a rule permits the way from one host (None: the agent's) to another."""
+def permitting(
+    rules: Rules, before: bytes | None, to: bytes, user: bytes | None, wall: int
+) -> Hop | None:
+    """The to-hop of the first rule that permits the way from one host (None: the agent's) to another."""
     for source, target in rules:
         starts = not source.keys if before is None else is_at(source, before, wall)
         for_user = user is None or target.user == b"" or matches(user, target.user)
         if starts and for_user and is_at(target, to, wall):
-            return True
-    return False
+            return target
+    return None
+
+
+def leads(rules: Rules, before: bytes | None, to: bytes, user: bytes | None, wall: int) -> bool:
+    return permitting(rules, before, to, user, wall) is not None
 
 
 def every_hop(rules: Rules, chain: Chain, user: bytes | None, wall: int) -> bool:
@@ -93,6 +99,16 @@ def may_sign(rules: Rules | None, blob: bytes, chain: Chain, message: bytes, wal
     demand(session == chain[-1].session, "OtherSession")
     demand(host_key is not None or len(chain) == 1, "NoHostKey")
     demand(host_key in (None, chain[-1].host_key), "OtherHostKey")
+
+
+def host_of(rules: Rules | None, chain: Chain, user: bytes, wall: int) -> bytes | None:
+    """What a key's rules call the host of a login over these bindings: the host of the first rule that permits it
+    from the one before. None where there are no rules."""
+    if not rules:
+        return None
+    before = chain[-2].host_key if len(chain) > 1 else None
+    found = permitting(rules, before, chain[-1].host_key, user, wall)
+    return found.host if found else None
 
 
 def are_for(purposes: Purposes, blob: bytes, message: bytes) -> bool:

@@ -207,6 +207,39 @@ def nobody_is_asked_about_what_a_key_is_not_for(folder):
 
 
 @check
+def the_question_about_a_key_for_hosts_names_the_host(folder):
+    """As the first constraint that permits the login has it; a key without purposes has the two lines of ssh-agent."""
+    relay = rig.built("confirm_relay")
+    installed, key = Installed(folder), keygen(folder / "key")
+    asked = folder / "asked"
+    asker = rig.script(folder / "asker", f"printf '%s\\n--\\n' \"$1\" >> {asked}; echo yes")
+    words = ("--relay", relay, "--askpass", asker)
+    with Hosts(folder, "one", "two") as hosts, our_agent(PROGRAM, folder, *words) as agent:
+        hosts.allow(key)
+        others = folder / "others"
+        others.write_text("".join(f"alias.{line}\n" for line in hosts.known.read_text().splitlines()))
+        fingerprint = run(["ssh-keygen", "-lf", f"{key}.pub"]).split()[1]
+        begin, known = f"Allow use of key key?\nKey fingerprint {fingerprint}.", ("-H", hosts.known, "-H", others)
+        one, onward = ("one", "echo in"), ("-A", "one", f"ssh -F {hosts.config} two 'echo in'")
+        for purposes, destinations, way, names in (
+            ("login", ["one"], one, ["one"]),
+            ("all", ["two", "one", "alias.one"], one, ["one"]),
+            ("git,login", ["alias.one", "one"], one, ["alias.one"]),
+            ("login", ["nobody@alias.one", f"{USER}@one", "alias.one"], one, ["one"]),
+            ("login", ["one", "alias.two", "one>alias.two", "one>two"], onward, ["one", "alias.two"]),
+            ("login", ["alias.two", "one", "one>two"], onward, ["one", "two"]),
+            (None, ["one"], one, [None]),
+        ):
+            asked.write_text("")
+            agent.run("ssh-add", "-q", "-D")
+            words = [word for name in destinations for word in ("-h", name)]
+            added(installed, agent, "-q", "-c", *(["--for", purposes] if purposes else []), *known, *words, key)
+            assert hosts.ssh(agent, *way) == (0, "in\n"), (destinations, way)
+            wanted = [begin + (f"\nFor a login as {USER} to {name}." if name else "") for name in names]
+            assert asked.read_text().split("\n--\n")[:-1] == wanted, (destinations, asked.read_text())
+
+
+@check
 def purposes_beside_destinations_uses_and_lifetimes(folder):
     installed, key = Installed(folder), keygen(folder / "key")
     with Hosts(folder, "one", "two") as hosts, our_agent(PROGRAM, folder) as agent:
