@@ -109,13 +109,6 @@ name_purposes() {
     done
 }
 
-# FILE: what stands between its armour lines, read by this shell: no other program gets an open key.
-body() {
-    while IFS= read -r line || [ -n "$line" ]; do
-        case $line in -----*) ;; *) printf '%s\n' "$line" ;; esac
-    done < "$1"
-}
-
 # LIFE in seconds, as OpenSSH's tools read it, or nothing: numbers, each with a unit or none, of at
 # most 2^31 - 1 together.
 seconds() {

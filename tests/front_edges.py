@@ -81,7 +81,7 @@ def a_passphrase_of_several_keys_is_asked_for_once(folder):
 
 @check
 def an_open_key_passes_through_no_other_program(folder):
-    """Of the programs that are started while a key is added, add_tool alone is given its text."""
+    """Of the programs that are started while a key is added, OpenSSH's ssh-add and ssh-keygen alone read its file."""
     installed = Installed(folder)
     key = keygen(folder / "key")
     tools, log = folder / "tools", folder / "log"

@@ -2,12 +2,13 @@
 same status and both outputs here, and what it calls refused ends with one line. tests/daily.py runs these too."""
 
 import os
-import pathlib
 import re
 import signal
 import subprocess
 
 import rig
+from frames import string
+from front_add import private_file
 from installed import Installed, Keys, check, keygen, plain
 from rig import openssh_agent, run, until
 
@@ -64,6 +65,8 @@ ADD_SAME = {
     "no words": [[]],
     "FILE": [["{plain}"], ["{plain}", "{none}"], ["{none}"]],
     "-c": [["-c", "{plain}"]],
+    "-": [["-"], ["{plain}"], ["-d", "-"]],
+    "-v": [["-v", "{plain}"], ["-vv", "-d", "{plain}"]],
     "-d": [["{plain}"], ["-d", "{plain}"], ["-d", "{plain}"], ["-d", "{none}"], ["{plain}"], ["-qd", "{plain}.pub"]],
     "-D": [["{plain}"], ["-D"], ["-q", "-D"], ["-D", "-D"]],
     "-k": [["-k", "{certified}"], ["-dk", "{certified}"]],
@@ -120,7 +123,6 @@ def what_daily_calls_the_same_of_ssh_add_is(folder):
                         given = [str(key) for key in keys.defaults]
                     home = dict(environment, HOME=str(keys.home), SSH_AUTH_SOCK=path)
                     status, told, errors = answer(program, given, home)
-                    errors = re.sub(r"(?m)^mortarleek-add: .*by OpenSSH's ssh-add\n", "", errors)
                     seen.append((status, told, errors))
                 assert seen[0] == seen[1], (words, seen)
     assert {row for (tool, row), said in table().items() if tool == "ssh-add" and said == "same"} == set(ADD_SAME)
@@ -129,8 +131,10 @@ def what_daily_calls_the_same_of_ssh_add_is(folder):
 @check
 def what_daily_calls_refused_ends_with_a_line(folder):
     installed, key = Installed(folder), keygen(folder / "key")
-    hosted = keygen(folder / "hosted")
-    pathlib.Path(f"{hosted}.pub").write_text("sk-ssh-ed25519@openssh.com AAAA hosted\n")
+    # The fields of an authenticator's key are those of OpenSSH's PROTOCOL.u2f: flags, a handle and a reserved string.
+    public = (bytes(range(32)), b"ssh:")
+    fields = b"".join(map(string, public)) + b"\1" + string(b"a handle") + string(b"")
+    hosted = private_file(folder / "hosted", b"sk-ssh-ed25519@openssh.com", fields, public)
     with installed.start() as daemon:
         for (tool, row), said in table().items():
             if said != "refused":
