@@ -12,7 +12,7 @@ import subprocess
 import time
 
 import rig
-from installed import Installed, agent_of, check, keygen
+from installed import Installed, a_display, agent_of, check, dialog_on, keygen
 from rig import children, is_alive, openssh_agent, run, until, zombies
 
 
@@ -196,32 +196,73 @@ def a_dialog_asks_on_a_display(folder):
     installed = Installed(folder)
     rig.install("dialog")
     key = keygen(folder / "key", comment="a key of mine")
-    reader, writer = os.pipe()
-    words = ["Xvfb", "-displayfd", str(writer), "-screen", "0", "640x360x24", "-nolisten", "tcp"]
-    display = subprocess.Popen(words, pass_fds=[writer], stderr=subprocess.DEVNULL)
-    os.close(writer)
-    try:
-        name = ":" + os.read(reader, 20).decode().strip()
-        environment = {"DISPLAY": name}
+    with a_display() as display:
+        environment = {"DISPLAY": display}
         with installed.start(environment=environment) as daemon:
             daemon.run("ssh-add", "-q", "-c", key)
             for typed, status in (("Return", 0), ("Escape", 1)):
                 words = ["ssh-add", "-T", f"{key}.pub"]
                 quiet = dict(stdout=subprocess.DEVNULL, stderr=subprocess.DEVNULL)
                 waiting = subprocess.Popen(words, env=daemon.environment, **quiet)
-                looks = ["xdotool", "search", "--onlyvisible", "--class", "askpass"]
-                shown = dict(os.environ, **environment)
-                until(lambda: run(looks, None, env=shown).strip(), 60, "the dialog")
+                dialog_on(display)
                 time.sleep(1)
                 if "PICTURE" in os.environ and typed == "Return":
                     time.sleep(5)
-                    run(["import", "-display", name, "-window", "root", "-trim", os.environ["PICTURE"]])
-                run(["xdotool", "key", typed], env=shown)
+                    run(["import", "-display", display, "-window", "root", "-trim", os.environ["PICTURE"]])
+                run(["xdotool", "key", typed], env=dict(os.environ, **environment))
                 assert waiting.wait(60) == status, typed
-    finally:
-        os.close(reader)
-        display.terminate()
-        display.wait()
+
+
+# Debian's programs that ask.
+ASKPASS = ("/usr/libexec/ssh-askpass/x11-ssh-askpass", "/usr/lib/openssh/gnome-ssh-askpass")
+
+
+def words_on(display, program):
+    """The words of each process of the program that shows a dialog on the display."""
+    found = []
+    for place in pathlib.Path("/proc").glob("[0-9]*"):
+        with contextlib.suppress(OSError):
+            words = (place / "cmdline").read_bytes().split(b"\0")[:-1]
+            if words[:1] == [program.encode()] and f"DISPLAY={display}".encode() in (place / "environ").read_bytes():
+                found.append([word.decode() for word in words[1:]])
+    return found
+
+
+@check
+def a_dialog_about_a_key_with_purposes_has_three_lines(folder):
+    """By each of Debian's programs that is there: it is given these lines alone, and its window is on the screen whole. With
+    the variable PICTURES pictures are written into that folder."""
+    rig.built("confirm_relay")
+    installed = Installed(folder)
+    rig.install("dialog")
+    key = keygen(folder / "key", comment="a key of mine")
+    public = folder / "public"
+    public.write_text(pathlib.Path(f"{key}.pub").read_text())
+    fingerprint = run(["ssh-keygen", "-lf", public]).split()[1]
+    quiet = dict(stdin=subprocess.DEVNULL, stdout=subprocess.DEVNULL, stderr=subprocess.DEVNULL)
+    sizes = {"X": 1024, "Y": 400}
+    for program in filter(os.path.exists, ASKPASS):
+        with a_display(*sizes.values()) as display:
+            shown = dict(os.environ, DISPLAY=display)
+            with installed.start(environment={"DISPLAY": display, "SSH_ASKPASS": program}) as daemon:
+                daemon.run(installed.add, "-q", "-c", "--for", "all", key)
+                for namespace, typed, status in (("git", "Return", 0), ("n" * 65, "Escape", 255)):
+                    words = ["ssh-keygen", "-Y", "sign", "-f", public, "-n", namespace]
+                    waiting = subprocess.Popen(words, env=daemon.environment, **quiet)
+                    window = dialog_on(display)
+                    lines = ["Allow use of key a key of mine?", f"Key fingerprint {fingerprint}."]
+                    lines.append(f"For a signature in namespace {namespace[:64]}.")
+                    assert words_on(display, program) == [["\n".join(lines)]], words_on(display, program)
+                    said = run(["xdotool", "getwindowgeometry", "--shell", window], env=shown)
+                    at = {name: int(number) for name, number in re.findall(r"(?m)^([A-Z]+)=(-?\d+)$", said)}
+                    for side, size in (("X", at["WIDTH"]), ("Y", at["HEIGHT"])):
+                        assert at[side] >= 0 and at[side] + size <= sizes[side], (program, at)
+                    time.sleep(1)
+                    if "PICTURES" in os.environ:
+                        picture = f"{os.environ['PICTURES']}/{os.path.basename(program)}-{len(namespace)}.png"
+                        run(["import", "-display", display, "-window", "root", picture])
+                    run(["xdotool", "key", typed], env=shown)
+                    assert waiting.wait(60) == status, (program, typed)
 
 
 @check

@@ -1,6 +1,7 @@
 """What the checks of the front ends share: the programs as they are installed, a daemon of them, keys in a home, and
 what OpenSSH's own tools answer to the same words."""
 
+import contextlib
 import os
 import re
 import shutil
@@ -51,6 +52,28 @@ class Installed:
 
     def folders(self):
         return sorted(self.temporary.iterdir())
+
+
+@contextlib.contextmanager
+def a_display(width=640, height=360):
+    """The name of a display of one's own, by a server without a screen."""
+    reader, writer = os.pipe()
+    words = ["Xvfb", "-displayfd", str(writer), "-screen", "0", f"{width}x{height}x24", "-nolisten", "tcp"]
+    server = subprocess.Popen(words, pass_fds=[writer], stderr=subprocess.DEVNULL)
+    os.close(writer)
+    try:
+        yield ":" + os.read(reader, 20).decode().strip()
+    finally:
+        os.close(reader)
+        server.terminate()
+        server.wait()
+
+
+def dialog_on(display):
+    """The window of an askpass program, once it is seen."""
+    looks = ["xdotool", "search", "--onlyvisible", "--class", "askpass"]
+    shown = dict(os.environ, DISPLAY=display)
+    return until(lambda: run(looks, None, env=shown).strip(), 60, "the dialog").split()[0]
 
 
 class Daemon:
