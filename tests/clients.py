@@ -1,8 +1,9 @@
 #!/usr/bin/env python3
 """Real clients against the built agent, on loopback: each check is made with OpenSSH's agent too, in the same run, and
-what that gives is the expected value; but for a number of uses, which that agent doesn't know. It starts an sshd of its
-own, with its own keys, at free ports. Words choose checks: the parts ssh, destinations, programs, alone, others and
-scripts, or a part of a check's name. With the environment variable AGENT another program is taken for agent_prog."""
+what that gives is the expected value; but for a number of uses and for purposes, which that agent doesn't know. It
+starts an sshd of its own, with its own keys, at free ports. Words choose checks: the parts ssh, destinations, programs,
+other, others, purposes and scripts, or a part of a check's name. With the environment variable AGENT another program is
+taken for agent_prog."""
 
 import atexit
 import concurrent.futures
@@ -22,6 +23,8 @@ sys.dont_write_bytecode = True
 
 import rig
 from hosts import SSHD, USER, Hosts, certify, keygen
+from installed import Installed
+from purposes import commits, shown, tags
 from rig import Skip, openssh_agent, our_agent, run, until
 
 check = rig.Checks("clients")
@@ -615,32 +618,37 @@ def with_each(agent, keys, *command):
     return answers
 
 
-@check
-def paramiko_logs_in(folder):
-    python = system_python("paramiko")
-    keys = [keygen(folder / f"{kind}{bits}", kind, bits) for kind, bits in KINDS]
-    with Hosts(folder, "one") as hosts:
-        script = folder / "login.py"
-        script.write_text(
-            f"""import paramiko
+def paramiko_login(folder, hosts):
+    """The command of a login by paramiko, which also lists."""
+    python, script = system_python("paramiko"), folder / "by_paramiko.py"
+    script.write_text(
+        f"""import paramiko
 client = paramiko.SSHClient()
 client.set_missing_host_key_policy(paramiko.AutoAddPolicy())
 client.connect("127.0.0.1", {hosts.one}, username={USER!r}, allow_agent=True, look_for_keys=False)
 print(client.exec_command("echo in")[1].read().decode(), end="")
 print([key.get_name() for key in paramiko.Agent().get_keys()])
 """
-        )
+    )
+    return python, "-W", "ignore", script
+
+
+@check
+def paramiko_logs_in(folder):
+    keys = [keygen(folder / f"{kind}{bits}", kind, bits) for kind, bits in KINDS]
+    with Hosts(folder, "one") as hosts:
+        words = paramiko_login(folder, hosts)
         hosts.allow(*keys)
 
         def case(agent):
-            return with_each(agent, keys, python, "-W", "ignore", script)
+            return with_each(agent, keys, *words)
 
         assert all(answer.startswith("in\n") for answer in alike(folder, case))
 
 
 def asyncssh_login(folder, hosts):
     """The command of a login by asyncssh."""
-    python, script = system_python("asyncssh"), folder / "login.py"
+    python, script = system_python("asyncssh"), folder / "by_asyncssh.py"
     script.write_text(
         f"""import asyncio, asyncssh
 async def main():
@@ -665,31 +673,31 @@ def asyncssh_logs_in(folder):
         assert alike(folder, case) == ["in\n"] * len(keys)
 
 
+def plink_login(folder, hosts):
+    if not shutil.which("plink"):
+        raise Skip("no plink")
+    finger = run(["ssh-keygen", "-lf", folder / "host_one.pub"]).split()[1]
+    words = ["plink", "-ssh", "-batch", "-agent", "-hostkey", finger, "-P", hosts.one, f"{USER}@127.0.0.1", "echo in"]
+    return ["env", f"HOME={folder}", *words]
+
+
+def dbclient_login(folder, hosts):
+    if not shutil.which("dbclient"):
+        raise Skip("no dbclient")
+    return ["env", f"HOME={folder}", "dbclient", "-y", "-y", "-p", hosts.one, f"{USER}@127.0.0.1", "echo in"]
+
+
 @check
 def plink_and_dbclient_log_in(folder):
     with a_host_to_log_in(folder) as (key, hosts):
-        finger = run(["ssh-keygen", "-lf", folder / "host_one.pub"]).split()[1]
 
         def case(agent):
             agent.run("ssh-add", "-q", key)
             answers = []
-            if shutil.which("plink"):
-                words = [
-                    "plink",
-                    "-ssh",
-                    "-batch",
-                    "-agent",
-                    "-hostkey",
-                    finger,
-                    "-P",
-                    hosts.one,
-                    f"{USER}@127.0.0.1",
-                ]
-                answers.append(agent.run(*words, "echo in", env={"HOME": str(folder)}))
-            if shutil.which("dbclient"):
-                words = ["dbclient", "-y", "-y", "-p", hosts.one, f"{USER}@127.0.0.1"]
-                said = agent.run(*words, "echo in", env={"HOME": str(folder)}, stdin=subprocess.DEVNULL)
-                answers.append(said.splitlines()[-1])
+            for command in (plink_login, dbclient_login):
+                with contextlib.suppress(Skip):
+                    said = agent.run(*command(folder, hosts), stdin=subprocess.DEVNULL)
+                    answers.append(said.splitlines()[-1])
             return answers
 
         answers = alike(folder, case)
@@ -731,23 +739,29 @@ int main(int argc, char **argv)
 """
 
 
-@check
-def libssh2_logs_in(folder):
+def libssh2_login(folder, hosts):
+    """The command of a login by libssh2, which prints the comments of the keys that it tries."""
     if not pathlib.Path("/usr/include/libssh2.h").exists():
         raise Skip("no libssh2-1-dev")
     (folder / "login.c").write_text(LIBSSH2)
-    run(["gcc", "-o", folder / "login", folder / "login.c", "-lssh2"])
+    run(["gcc", "-o", folder / "by_libssh2", folder / "login.c", "-lssh2"])
+    return folder / "by_libssh2", hosts.one, USER
+
+
+@check
+def libssh2_logs_in(folder):
     keys = [keygen(folder / f"{kind}{bits}", kind, bits) for kind, bits in KINDS]
     with Hosts(folder, "one") as hosts:
+        words = libssh2_login(folder, hosts)
         hosts.allow(*keys)
 
         def case(agent):
             answers = []
             for key in keys:
                 agent.run("ssh-add", "-q", key)
-                answers.append(agent.run(folder / "login", hosts.one, USER, status=None))
+                answers.append(agent.run(*words, status=None))
                 agent.run("ssh-add", "-q", "-D")
-            return [*answers, agent.run(folder / "login", hosts.one, USER, status=5)]
+            return [*answers, agent.run(*words, status=5)]
 
         assert alike(folder, case) == [*(f"{key.name}\n" for key in keys), ""]
 
@@ -805,8 +819,8 @@ def go_login(folder, hosts):
         "GOCACHE": str(folder / "cache"),
         "GOFLAGS": "-p=2",
     }
-    run(["/usr/bin/go", "build", "-o", folder / "login", folder / "login.go"], env=environment, timeout=900)
-    return folder / "login", f"127.0.0.1:{hosts.one}", USER
+    run(["/usr/bin/go", "build", "-o", folder / "by_go", folder / "login.go"], env=environment, timeout=900)
+    return folder / "by_go", f"127.0.0.1:{hosts.one}", USER
 
 
 @check
@@ -825,6 +839,199 @@ def go_s_client_logs_in_and_lists_locks_and_removes(folder):
 
         answers = alike(folder, case)
         assert all(answer.startswith("in\n") for answer in answers[:-1]), answers
+
+
+# Keys for some purposes, which OpenSSH's agent doesn't know: what ours does alone.
+check.part = "purposes"
+
+
+def add_for(agent, key, *purposes):
+    """Adds a key for these purposes alone."""
+    body = pathlib.Path(f"{key}.body")
+    body.write_text("".join(pathlib.Path(key).read_text().splitlines(True)[1:-1]))
+    agent.run(rig.built("add_tool"), *(word for purpose in purposes for word in ("-p", purpose)), body)
+
+
+def works(agent, *command):
+    done = subprocess.run(
+        [str(word) for word in command],
+        env=agent.environment,
+        timeout=60,
+        stdin=subprocess.DEVNULL,
+        stdout=subprocess.DEVNULL,
+        stderr=subprocess.DEVNULL,
+    )
+    return done.returncode == 0
+
+
+LOGINS = ((("login",), True), (("sshsig:git",), False), (("sshsig", "other"), False), (("sshsig:git", "login"), True))
+
+
+def by_purposes(folder, login, kinds=KINDS):
+    """A client logs in by a key of each kind that is for logins, and by no other key; one for git signs a commit."""
+    keys = [keygen(folder / f"{kind}{bits}", kind, bits) for kind, bits in kinds]
+    with Hosts(folder, "one") as hosts:
+        command = login(folder, hosts)
+        hosts.allow(*keys)
+        with our_agent(PROGRAM, folder) as agent:
+            for key in keys:
+                for purposes, comes_in in LOGINS:
+                    add_for(agent, key, *purposes)
+                    assert works(agent, *command) == comes_in, (key.name, purposes)
+                    if purposes == ("sshsig:git",):
+                        assert commits(folder, agent, key), key.name
+                    agent.run("ssh-add", "-q", "-D", status=None)
+
+
+@check
+def ssh_logs_in_by_purposes(folder):
+    by_purposes(folder, lambda folder, hosts: ("ssh", "-F", hosts.config, "one", "true"))
+
+
+@check
+def scp_sftp_and_rsync_copy_by_purposes(folder):
+    (folder / "file").write_text("text")
+    for number, words in enumerate((["scp", "-F"], ["scp", "-O", "-F"], ["sftp", "-F"], ["rsync", "-e"])):
+        place = folder / str(number)
+        place.mkdir()
+
+        def copy(_, hosts):
+            reaches = f"ssh -F {hosts.config}" if words[0] == "rsync" else hosts.config
+            return [*words, reaches, "-q", f"one:{folder}/file", place / "copy"]
+
+        by_purposes(place, copy, KINDS[:1])
+
+
+@check
+def paramiko_logs_in_by_purposes(folder):
+    by_purposes(folder, paramiko_login)
+
+
+@check
+def asyncssh_logs_in_by_purposes(folder):
+    by_purposes(folder, asyncssh_login)
+
+
+@check
+def go_s_client_logs_in_by_purposes(folder):
+    by_purposes(folder, go_login)
+
+
+@check
+def libssh2_logs_in_by_purposes(folder):
+    by_purposes(folder, libssh2_login)
+
+
+@check
+def plink_logs_in_by_purposes(folder):
+    by_purposes(folder, plink_login, KINDS[:1])
+
+
+@check
+def dbclient_logs_in_by_purposes(folder):
+    by_purposes(folder, dbclient_login, KINDS[:1])
+
+
+@check
+def forwarded_jumps_and_shared_connections_by_purposes(folder):
+    key = keygen(folder / "key")
+    with Hosts(folder, "one", "two") as hosts, our_agent(PROGRAM, folder) as agent:
+        hosts.allow(key)
+        for purposes, comes_in in LOGINS:
+            add_for(agent, key, *purposes)
+            for words in (
+                ["-A", "one", f"ssh -F {hosts.config} two true"],
+                ["-J", "one", "two", "true"],
+                ["-o", f"ControlPath={folder}/master", "-o", "ControlMaster=auto", "one", "true"],
+            ):
+                assert (hosts.ssh(agent, *words)[0] == 0) == comes_in, (purposes, words)
+
+
+@check
+def certificates_by_purposes(folder):
+    """Where ssh sees a certificate and its plain key, it has the plain key sign the login, which names the certificate.
+    That is no login of the plain key's, and so other data for it: two keys for logins then come in where the host
+    allows the plain key, and two for other data come in by the certificate. A certificate alone signs its logins."""
+    installed = Installed(folder)
+    for kind, bits in (("ed25519", 256), ("rsa", 2048), ("ecdsa", 256)):
+        place = folder / kind
+        place.mkdir()
+        key = keygen(place / "key", kind, bits)
+        with Hosts(place, "one", "two") as hosts, our_agent(PROGRAM, place) as agent:
+            certify(hosts.authority, key, "-n", USER)
+            environment = dict(installed.environment, SSH_AUTH_SOCK=agent.path)
+            onward = f"ssh -F {hosts.config} two true"
+            ways = (["one", "true"], ["-A", "one", onward])
+            comes_in = lambda: all([hosts.ssh(agent, *words)[0] == 0 for words in ways])
+            for purposes, both, alone, allowed in (
+                ("login", False, True, True),
+                ("git", False, False, False),
+                ("sshsig", False, False, False),
+                ("other", True, False, True),
+                ("login,other", True, True, True),
+            ):
+                agent.run("ssh-add", "-q", "-D", status=None)
+                run([installed.add, "--any-agent", "-q", "--for", purposes, key], env=environment)
+                hosts.allow()
+                assert comes_in() == both, (kind, purposes)
+                hosts.allow(key)
+                assert comes_in() == allowed, (kind, purposes)
+                hosts.allow()
+                agent.run("ssh-add", "-q", "-d", "-k", key)
+                assert comes_in() == alone, (kind, purposes)
+
+
+NAMESPACES = {"git": "sshsig:git", "file": "sshsig:file", "my own@example.org": "sshsig:my own@example.org"}
+
+
+@check
+def files_in_three_namespaces_by_purposes(folder):
+    """By keys of each kind and both digests, and by a certificate. An authority's key in the agent signs certificates,
+    which are other data."""
+    installed = Installed(folder)
+    keys = [keygen(folder / f"{kind}{bits}", kind, bits) for kind, bits in KINDS]
+    certified, authority = keygen(folder / "certified"), keygen(folder / "authority")
+    certify(authority, certified, "-n", "me")
+    message, allowed = folder / "message", folder / "allowed"
+    message.write_text("a message\n")
+    lines = [f"me {pathlib.Path(f'{key}.pub').read_text()}" for key in keys]
+    allowed.write_text("".join(lines) + f"me cert-authority {pathlib.Path(f'{authority}.pub').read_text()}")
+    signature = pathlib.Path(f"{message}.sig")
+
+    def signs(agent, public, namespace, *more):
+        """Whether ssh-keygen signs the message by what the agent has, so that it is verified."""
+        signature.unlink(missing_ok=True)
+        if not works(agent, "ssh-keygen", "-Y", "sign", "-f", public, "-n", namespace, *more, message):
+            return False
+        with open(message) as text:
+            words = ["-f", allowed, "-I", "me", "-n", namespace, "-s", signature]
+            return "Good" in run(["ssh-keygen", "-Y", "verify", *words], stdin=text)
+
+    with our_agent(PROGRAM, folder) as agent:
+        for key in keys:
+            public = shown(key)
+            for purpose in (*NAMESPACES.values(), "sshsig", "login", "other"):
+                add_for(agent, key, purpose)
+                for namespace, named in NAMESPACES.items():
+                    for more in ([], ["-O", "hashalg=sha256"]):
+                        does = signs(agent, public, namespace, *more)
+                        assert does == (purpose in (named, "sshsig")), (key.name, purpose, namespace)
+            for purpose, does in (("sshsig:git", True), ("login", False)):
+                add_for(agent, key, purpose)
+                assert commits(folder, agent, key) == does, (key.name, purpose)
+                assert not does or tags(folder, agent, key), key.name
+        environment = dict(installed.environment, SSH_AUTH_SOCK=agent.path)
+        for purposes, does in (("file", True), ("git", False), ("login,other", False)):
+            agent.run("ssh-add", "-q", "-D")
+            run([installed.add, "--any-agent", "-q", "--for", purposes, certified], env=environment)
+            agent.run("ssh-add", "-q", "-d", "-k", certified)
+            place = pathlib.Path(shown(certified)).parent / "key-cert.pub"
+            shutil.copy(f"{certified}-cert.pub", place)
+            assert signs(agent, place, "file") == does, purposes
+        for purposes, does in ((("other",), True), (("login", "sshsig"), False)):
+            add_for(agent, authority, *purposes)
+            words = ["ssh-keygen", "-q", "-U", "-s", f"{authority}.pub", "-I", "id", "-n", "me", f"{keys[0]}.pub"]
+            assert works(agent, *words) == does, purposes
 
 
 # OpenSSH's own scripts.
