@@ -26,6 +26,7 @@ import time
 sys.dont_write_bytecode = True
 
 import rig
+import watch
 from frames import Ended, string
 from rig import (
     ADD,
@@ -54,6 +55,7 @@ from model import ed25519
 check = rig.Checks("edge")
 PROGRAM = rig.agent_program()
 CLIENTS = 128
+LONGEST = 262144
 TICKET = "MORTARLEEK_TICKET"
 DIGITS = re.compile(rb"[0-9a-fA-F]{32}")
 CONFIRM = b"\x02"
@@ -920,17 +922,30 @@ def with_many_rules(number):
     return ADD_LIMITED, fields, comment, b"\xff" + string(b"restrict-destination-v00@openssh.com") + string(rules)
 
 
+def with_short_rules(number):
+    """The same with hosts' keys that are as short as may be."""
+    return to_one_host(number.to_bytes(32, "big"), b"h")[0]
+
+
+def with_many_purposes(number):
+    """An addition with as many purposes as there may be, each of the longest."""
+    fields, comment, _ = stand_in_key(number.to_bytes(32, "big"))
+    words = b"".join(string(b"sshsig:%0248d" % place) for place in range(64))
+    return ADD_LIMITED, fields, comment, b"\xff" + string(b"purposes-v00@example.com") + string(words)
+
+
 @check
 def what_one_client_adds_takes_a_bounded_part_of_memory(folder):
-    """Private strings and constraints have 8 MiB of room in all: what is above it is refused, and the others stay."""
-    for made, taken in ((with_large_private, 32), (with_many_rules, 13)):
+    """Private strings, constraints and purposes have 8 MiB of room in all: what is above it is refused, and the others
+    stay."""
+    for made, taken in ((with_large_private, 32), (with_many_rules, 13), (with_short_rules, 9), (with_many_purposes, 407)):
         with serve(folder, name=made.__name__, helper="/bin/false") as agent, agent.peer(seconds=60) as peer:
             peer.ask(LIST)
             before, begin = resident(agent), time.monotonic()
-            answers = [peer.ask(*made(number))[0] for number in range(100)]
+            answers = [peer.ask(*made(number))[0] for number in range(taken + 68)]
             grown, waited = resident(agent) - before, time.monotonic() - begin
-            print(f"{made.__name__}: {taken} keys, {grown / 2**20:.1f} MiB, 100 additions in {waited:.1f} s")
-            assert answers == [SUCCESS] * taken + [FAILURE] * (100 - taken), answers
+            print(f"{made.__name__}: {taken} keys, {grown / 2**20:.1f} MiB, {taken + 68} additions in {waited:.1f} s")
+            assert answers == [SUCCESS] * taken + [FAILURE] * 68, answers.count(SUCCESS)
             assert len(peer.blobs()) == taken
             assert grown <= 32 << 20, grown
             assert peer.ask(*made(0))[0] == SUCCESS, "a key is replaced in a full table"
@@ -961,9 +976,7 @@ def the_host_keys_of_a_connection_are_bounded_in_all(folder):
             for peer in peers:
                 answers = []
                 for place in range(16):
-                    session = string(b"session %d" % place)
-                    bind = string(b"session-bind@openssh.com") + string(host_key) + session + string(b"s") + b"\1"
-                    peer.send(bytes([rig.EXTENSION]) + bind)
+                    peer.send(session_bind(host_key, b"session %d" % place))
                     if place < 4:
                         child = child or helper.wait(1).hello()
                         child.send(b"\x67" + child.reply()[1:9])
@@ -1016,6 +1029,120 @@ def what_a_silent_helper_is_owed_is_bounded(folder):
         helper.close()
 
 
+class Parts:
+    """What an agent's parts take of memory, of which one is filled behind the other."""
+
+    def __init__(self, agent):
+        self.pid, self.told, self.last = agent.process.pid, [], watch.memory(agent.process.pid)
+
+    def tell(self, what):
+        """Once the agent has nothing to do."""
+        watch.settled(lambda: rig.spent(self.pid))
+        now = watch.memory(self.pid)
+        self.told.append(f"{what} {(now - self.last) / 2**20:.1f}")
+        self.last = now
+
+
+def with_long_comment(size):
+    """An addition with a comment of so many bytes."""
+    fields, comment, _ = rig.plain_key(b"l" * 32, b"c" * size)
+    return ADD, fields, comment
+
+
+def fill(agent):
+    """Adds keys until the 8 MiB of the table have no room, and its list is the longest, of which one asks for consent;
+    answers the blob of that one."""
+    with agent.peer(seconds=60) as peer:
+        blob, number = add(peer, b"q" * 32, CONFIRM), 0
+        while peer.ask(*with_many_rules(number))[0] == SUCCESS:
+            number += 1
+        assert number == 13, number
+        length = LONGEST - 5 - 14 * (8 + len(blob) + 3) - 8 - len(rig.plain_key(b"l" * 32)[2])
+        assert peer.ask(*with_long_comment(length + 1))[0] == FAILURE
+        assert peer.ask(*with_long_comment(length))[0] == SUCCESS
+    return blob
+
+
+def bound_to_much(agent, helper, held, count):
+    """So many clients, each bound to host keys of 262,144 bytes by a helper that says yes."""
+    peers, child = [held.enter_context(agent.peer(seconds=60)) for _ in range(count)], None
+    for peer in peers:
+        for place in range(4):
+            peer.send(session_bind(rsa_blob(LONGEST // 4), b"session %d" % place))
+            child = child or helper.wait(1).hello()
+            child.send(b"\x67" + child.reply()[1:9])
+            assert peer.reply()[0] == SUCCESS
+    return peers
+
+
+def fill_the_link(agent):
+    """Clients that bind themselves to a long host key and leave, until the helper is owed 8 MiB."""
+    body = session_bind(rsa_blob(LONGEST - 300), b"session")
+    for _ in range(3):
+        with contextlib.ExitStack() as held:
+            peers = [held.enter_context(agent.peer(seconds=60)) for _ in range(15)]
+            for peer in peers:
+                peer.send(body)
+            watch.settled(lambda: rig.spent(agent.process.pid))
+    with agent.peer(seconds=60) as peer:
+        peer.send(body)
+        assert peer.reply() == bytes([FAILURE]), "the helper is owed less"
+
+
+def fill_all(agent, helper, is_recorded):
+    """Fills each part of an agent, and tells what these take of memory, in MiB."""
+    parts = Parts(agent)
+    if is_recorded:
+        with agent.peer() as peer:
+            for number in range(16):
+                assert peer.ask(rig.UNLOCK, string(bytes([number]) * 262000)) == bytes([FAILURE])
+        parts.tell("tried passphrases")
+    asked = request(fill(agent), bytes(262000))
+    parts.tell("table")
+    with contextlib.ExitStack() as held:
+        peers = bound_to_much(agent, helper, held, CLIENTS - 16)
+        parts.tell("host keys")
+        fill_the_link(agent)
+        parts.tell("asks of the helper")
+        questions = [held.enter_context(agent.peer(seconds=60)) for _ in range(16)]
+        for peer in questions:
+            peer.send(asked)
+        until(lambda: len(children(agent.process.pid)) == 17, 30, what="the relays")
+        parts.tell("questions")
+        for peer in peers:
+            peer.send(bytes([LIST]))
+        parts.tell("unread lists")
+        for peer in peers + questions:
+            peer.socket.sendall(string(bytes(LONGEST))[:-1])
+        parts.tell("half requests")
+        most = watch.memory(agent.process.pid, "VmHWM")
+    return most, parts.told
+
+
+# The most memory of an agent, in MiB, and of one that makes a record.
+MOST_OF_ALL, MOST_RECORDED = 300, 440
+
+
+@check
+def an_agent_takes_a_bounded_memory_whatever_is_done_to_it(folder):
+    """With all its parts at their bounds at once: 128 clients, of which 16 wait for the user, and each of which has half a
+    request written."""
+    for name, most in ("plain", MOST_OF_ALL), ("recorded", MOST_RECORDED):
+        home = folder / name
+        home.mkdir()
+        helper = rig.HandedOver(home)
+        asker = rig.script(home / "ask", "exec sleep 60")
+        words = ["--relay", rig.built("confirm_relay"), "--askpass", asker]
+        words += ["--record"] if name == "recorded" else []
+        try:
+            with serve(home, *words, helper=helper.program, stderr=subprocess.DEVNULL) as agent:
+                peak, told = fill_all(agent, helper, name == "recorded")
+                print(f"{name}: at most {peak / 2**20:.1f} MiB: {', '.join(told)}")
+                assert peak <= most << 20, peak
+        finally:
+            helper.close()
+
+
 AUTHORITY = string(b"ssh-rsa") + string(b"") * 2
 
 
@@ -1035,10 +1162,21 @@ def to_one_host(tag, host, user=b"", key=AUTHORITY, is_authority=b"\1", size=261
     return (ADD_LIMITED, fields, comment, b"\xff" + rules), blob
 
 
+def session_bind(host_key, session, signature=b"s", forwarding=b"\1"):
+    """The request that binds a client to a host."""
+    words = map(string, (b"session-bind@openssh.com", host_key, session, signature))
+    return bytes([rig.EXTENSION]) + b"".join(words) + forwarding
+
+
+def login(session, user, blob):
+    """What a user signs by a stand-in key for a login."""
+    text = string(session) + b"\x32" + string(user) + string(b"ssh-connection")
+    return text + string(b"publickey") + b"\1" + string(b"keyed-sha256@example.com") + string(blob)
+
+
 def bind(peer, helper, host_key, forwarding=b"\0"):
     """Binds a client to a host in the session `session`, by a helper that says yes to it."""
-    words = string(b"session-bind@openssh.com") + string(host_key) + string(b"session") + string(b"s") + forwarding
-    peer.send(bytes([rig.EXTENSION]) + words)
+    peer.send(session_bind(host_key, b"session", forwarding=forwarding))
     child = helper.wait(1).hello()
     child.send(b"\x67" + child.reply()[1:9])
     assert peer.reply()[0] == SUCCESS
@@ -1049,9 +1187,9 @@ def processor_time(pid, call, times=5):
     """How many seconds of a process's processor time a call takes, the least of some."""
     took = []
     for _ in range(times):
-        before = rig.spent(pid)
+        before = watch.spent(pid)
         call()
-        took.append(rig.spent(pid) - before)
+        took.append(watch.spent(pid) - before)
     return min(took)
 
 
@@ -1065,12 +1203,12 @@ SEARCHES = [
 ]
 
 
-def filled_with_hosts(agent, host):
+def filled_with_hosts(agent, host, key=AUTHORITY):
     """Adds keys for hosts of this name until the table is full, and answers how many."""
     count = 0
     with agent.peer(seconds=60) as peer:
         for size in (261500, 65536, 16384, 4096, 1024):
-            while peer.ask(*to_one_host(count.to_bytes(32, "big"), host, size=size)[0])[0] == SUCCESS:
+            while peer.ask(*to_one_host(b"hosts%27d" % count, host, key=key, size=size)[0])[0] == SUCCESS:
                 count += 1
     return count
 
@@ -1108,9 +1246,8 @@ def a_login_is_judged_shortly_whatever_its_user_is(folder):
                 if place == 0:
                     child = bind(peer, helper, host_key)
                 for size in (4096, 4097, 250000):
-                    login = string(b"session") + b"\x32" + string(b"a" * size) + string(b"ssh-connection")
-                    login += string(b"publickey") + b"\1" + string(b"keyed-sha256@example.com") + string(blob)
-                    took = processor_time(agent.process.pid, lambda: peer.send(request(blob, login)) or peer.reply())
+                    asked = request(blob, login(b"session", b"a" * size, blob))
+                    took = processor_time(agent.process.pid, lambda: peer.send(asked) or peer.reply())
                     print(f"users like {len(pattern)} bytes, a user of {size} letters: {took:.2f} s a signature")
                     assert took <= 0.5, took
             child.close()

@@ -1,19 +1,27 @@
 #!/usr/bin/env python3
 """Many clients that sign at once: 128, each so many times, with the helper for tests. Ten of them are processes that
-are killed in the middle. Each signature is compared with that of hashlib.
+are killed in the middle. Each signature is compared with that of hashlib. Or hostile clients beside honest ones.
 
     tests/load.py [--each N] [--minutes M]
+    tests/load.py --hostile [--minutes M]
 
 Rounds of such clients go on for so many minutes, at least one. Between rounds no client is connected: the agent then
 holds no descriptor and no process more than before the first round, and no memory more than after the rounds of the
 first minute. Memory has a tolerance of 128 kB: it is counted in pages, and the C library gives the last of its heap
 back or keeps it, by the order in which clients leave. The last line has the figures and the machine's load; ends with 1
-where something failed."""
+where something failed.
+
+With --hostile two agents, one with a helper that is slow and then silent, are beset by each kind of client that
+tests/edge.py has, in scenes that take turns. Honest clients list and sign meanwhile, each request of which has to be
+answered: how long that took (median, 99th of a hundred, longest) and what agents and helpers hold is printed. Behind a
+round of scenes no client is connected, no descriptor and no process is left, and of memory the later rounds leave no
+more than the first ones, but for pieces that the C library keeps."""
 
 import argparse
 import hashlib
 import hmac
 import os
+import pathlib
 import random
 import selectors
 import subprocess
@@ -23,6 +31,7 @@ import time
 
 sys.dont_write_bytecode = True
 
+import hostile
 import rig
 import watch
 from frames import string
@@ -117,29 +126,6 @@ def round_of(agent, blob, each):
     return made
 
 
-def settled(number):
-    """What a number is once it stays the same for a second."""
-    found, since = number(), time.monotonic()
-    while time.monotonic() - since < 1:
-        time.sleep(0.05)
-        if (now := number()) != found:
-            found, since = now, time.monotonic()
-    return found
-
-
-class Held:
-    """What the agent holds while no client is connected."""
-
-    def __init__(self, pid, descriptors):
-        rig.until(lambda: watch.descriptors(pid) <= descriptors, what="the closing of descriptors")
-        self.descriptors, self.processes, self.memory = watch.descriptors(pid), rig.children(pid), watch.memory(pid)
-        self.helpers = sum(map(watch.memory, self.processes))
-
-    def __str__(self):
-        parts = [f"{self.memory >> 10} kB", f"helper {self.helpers >> 10} kB", f"{self.descriptors} descriptors"]
-        return ", ".join([*parts, f"{len(self.processes)} processes"])
-
-
 def serve(folder, each, minutes):
     helper = rig.built("standin_helper")
     with rig.our_agent(rig.agent_program(), folder, helper=helper, stderr=subprocess.DEVNULL) as agent:
@@ -149,14 +135,14 @@ def serve(folder, each, minutes):
             assert peer.ask(rig.ADD, fields, comment) == bytes([rig.SUCCESS])
             asked = request(blob, b"first")
             assert peer.ask(asked[0], asked[1:]) == signature(b"first")
-        alone = Held(pid, settled(lambda: watch.descriptors(pid)))
+        alone = watch.Held(pid, watch.settled(lambda: watch.descriptors(pid)))
         made, rounds, began = 0, 0, time.monotonic()
         round_of(agent, blob, 20)
-        first = Held(pid, alone.descriptors)
+        first = watch.Held(pid, alone.descriptors)
         while not rounds or time.monotonic() - began < 60 * minutes:
             made += round_of(agent, blob, each)
             rounds += 1
-            last = Held(pid, alone.descriptors)
+            last = watch.Held(pid, alone.descriptors)
             if time.monotonic() - began < 60 and minutes > 1:
                 first = last
         seconds = time.monotonic() - began
@@ -174,11 +160,15 @@ def main():
     parser = argparse.ArgumentParser(prog="tests/load.py")
     parser.add_argument("--each", type=int, default=1000, help="signatures of each client in a round")
     parser.add_argument("--minutes", type=float, default=0)
+    parser.add_argument("--hostile", action="store_true", help="hostile clients beside honest ones")
     words = parser.parse_args()
     try:
         rig.there(rig.agent_program())
         with tempfile.TemporaryDirectory(prefix="mk-") as folder:
-            serve(folder, words.each, words.minutes)
+            if words.hostile:
+                hostile.serve(pathlib.Path(folder), words.minutes or 1)
+            else:
+                serve(folder, words.each, words.minutes)
     except rig.Skip as reason:
         print(f"load: not run: {reason}")
         return 1

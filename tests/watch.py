@@ -19,8 +19,45 @@ def memory(pid, field="VmRSS"):
     raise LookupError(field)
 
 
+def memory_if_alive(pid):
+    """The same of a process that may have ended."""
+    with contextlib.suppress(OSError, LookupError):
+        return memory(pid)
+    return 0
+
+
+def spent(pid):
+    """Processor seconds of a process, to the microsecond: by the scheduler's own count of all its threads."""
+    tasks = pathlib.Path(f"/proc/{pid}/task").glob("*/schedstat")
+    return sum(int(task.read_text().split()[0]) for task in tasks) / 1e9
+
+
 def descriptors(pid):
     return len(os.listdir(f"/proc/{pid}/fd"))
+
+
+def settled(number):
+    """What a number is once it stays the same for a second."""
+    found, since = number(), time.monotonic()
+    while time.monotonic() - since < 1:
+        time.sleep(0.05)
+        if (now := number()) != found:
+            found, since = now, time.monotonic()
+    return found
+
+
+class Held:
+    """What the agent holds while no client is connected."""
+
+    def __init__(self, pid, most):
+        """Waits until it has at most so many descriptors."""
+        until(lambda: descriptors(pid) <= most, 60, what="the closing of descriptors")
+        self.descriptors, self.processes, self.memory = descriptors(pid), children(pid), memory(pid)
+        self.helpers = sum(map(memory_if_alive, self.processes))
+
+    def __str__(self):
+        parts = [f"{self.memory >> 10} kB", f"helper {self.helpers >> 10} kB", f"{self.descriptors} descriptors"]
+        return ", ".join([*parts, f"{len(self.processes)} processes"])
 
 
 def load():

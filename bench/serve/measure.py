@@ -231,13 +231,16 @@ def counted(text):
     return total, sum(int(count) for number, count in calls if number in asks)
 
 
-def instructions(start, messages, keys=0, few=1000, more=10000, clients=1, life=None):
+def instructions(start, messages, keys=0, few=1000, more=10000, clients=1, life=None, key=None):
     """Instructions and allocations a reply, of many replies less those of few, so that the start doesn't count."""
     totals = []
     for count in (few, few + more):
         out = WORK / "callgrind"
         agent = start([VALGRIND, "--tool=callgrind", f"--callgrind-out-file={out}"])
         fill(agent, range(keys), life)
+        if key is not None:
+            with agent.peer(seconds=60) as peer:
+                assert peer.ask(ADD, key.private, string(b""))[0] == SUCCESS
         load(agent, clients, messages, 600, count)
         agent.process.terminate()
         agent.process.wait()
@@ -257,7 +260,7 @@ def tell_instructions():
         path = WORK / "t.sock"
         words = [*before, WORK / "ssh-agent", "-D", "-a", path]
         process = subprocess.Popen(words, stdout=subprocess.DEVNULL, stderr=subprocess.DEVNULL)
-        until(path.exists, 60, "ssh-agent under valgrind")
+        until(lambda: rig.listens(path, True), 60, "ssh-agent under valgrind")
         return Agent(process, path)
 
     starts = {
@@ -281,6 +284,12 @@ def tell_instructions():
         tell(f"instructions {what}", {name: counts[0] for name, counts in found.items()}, "")
         # neither may take any, so that there is no ratio
         print(f"allocations {what}: " + ", ".join(f"{name} {counts[1]:.4g}" for name, counts in found.items()), flush=True)
+    if rig.HELPER.exists():
+        key = openssh.generate(WORK, "ed25519", "256")
+        request = bytes([SIGN]) + string(key.blob) + string(bytes(200)) + bytes(4)
+        for clients in (1, 16):
+            found = instructions(starts["ours"], [request], few=200, more=2000, clients=clients, key=key)
+            print(f"instructions a signature of ed25519 256, {clients} clients, without the helper's: ours {found[0]:.4g}", flush=True)
 
 
 def refusals(agents, null):
