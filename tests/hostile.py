@@ -24,8 +24,10 @@ fork = multiprocessing.get_context("fork")
 WAIT = 600
 # How much more an agent may hold behind a later round than behind those of the first half: the C library keeps pieces.
 TOLERANCE = 4 << 20
-# Who connects beside a crowd that comes and goes waits behind the 4096 at the listener, for as long as that takes.
-CROWD, COMES = "a crowd that comes and goes", "10 come and list"
+# Who connects beside others that come and go waits behind all that wait at the listener, of which 16 come in between two
+# polls: so this one has its turns where nobody does, and behind each scene.
+COMES = "10 come and list"
+STAY = ("120 that list", "dear lists and logins", "a locked agent", "asks of a slow helper")
 # A number of an addition that no other one has.
 OTHER = 1 << 20
 
@@ -231,7 +233,7 @@ class Stage:
         """The processes of a scene."""
         hostile = [attack(*words) for words in self.scenes[scene]]
         end = time.monotonic() + seconds
-        honest = [words for words in self.honest if scene != CROWD or words[0] != COMES]
+        honest = [words for words in self.honest if scene in STAY or words[0] != COMES]
         return scene, hostile, [Honest(kind, pause, end, begin) for kind, pause, begin in honest]
 
     def finish(self, begun):
@@ -370,7 +372,7 @@ def real_stage(folder, agent):
         "dear lists and logins": dear + pipelined,
         "full table, guesses, halves, bindings, questions": full + guessing + halves + bindings,
         "a locked agent": guessing * 2 + pipelined,
-        CROWD: crowd,
+        "a crowd that comes and goes": crowd,
         "all but the crowd": listing(1) + dear + pipelined + full + guessing + halves + bindings + signing,
         "dearest signatures, also of who leaves": signing + leaving,
     }
