@@ -33,10 +33,15 @@ def spent(pid):
     return sum(int(task.read_text().split()[0]) for task in tasks)
 
 
+def carriers(agent):
+    """The agent, and the one behind it where it is a filter, without the processes that they started."""
+    behind = carriers(agent.behind) if isinstance(agent, Filter) else []
+    return [agent.process.pid, *behind]
+
+
 def family(agent):
     """The agent and the processes that it started, and those of the agent behind a filter."""
-    behind = family(agent.behind) if isinstance(agent, Filter) else []
-    return [agent.process.pid, *children(agent.process.pid), *behind]
+    return [pid for carrier in carriers(agent) for pid in (carrier, *children(carrier))]
 
 
 def load(agent, clients, messages, seconds=SECONDS, count=10**12, first=None):
@@ -49,9 +54,9 @@ def load(agent, clients, messages, seconds=SECONDS, count=10**12, first=None):
     return int(subprocess.run(words, check=True, stdout=subprocess.PIPE, text=True).stdout)
 
 
-def cost(agent, clients, messages, first=None):
-    """Processor microseconds a reply."""
-    pids = family(agent)
+def cost(agent, clients, messages, first=None, counted=family):
+    """Processor microseconds a reply, of those processes that are counted."""
+    pids = counted(agent)
     before = sum(map(spent, pids))
     replies, seconds = 0, SECONDS
     # on a busy machine the first time may be too short
@@ -64,13 +69,14 @@ def cost(agent, clients, messages, first=None):
 class Filter(Agent):
     """A filter before an agent."""
 
-    def __init__(self, behind):
+    def __init__(self, behind, before=()):
         keys, path = WORK / "filter.keys", WORK / "filter.sock"
         keys.write_text(behind.run("ssh-add", "-L"))
-        process = subprocess.Popen([rig.BUILT / "filter_proxy", keys, behind.path, path], stdin=subprocess.DEVNULL)
+        words = [*before, rig.BUILT / "filter_proxy", keys, behind.path, path]
+        process = subprocess.Popen(words, stdin=subprocess.DEVNULL, stderr=subprocess.DEVNULL)
         super().__init__(process, path)
         self.behind = behind
-        until(lambda: rig.listens(self.path, True), what="the filter")
+        until(lambda: rig.listens(self.path, True), 60, "the filter")
 
 
 def null_agent():
@@ -394,7 +400,9 @@ def refused_bind(key):
 
 def through(agents, null):
     """What a list of 100 keys and a signature take through a filter that lets them all pass, beside the agent alone: of
-    clients that bind, as ssh does, and of others, whose connections to the agent are spare between requests."""
+    clients that bind, as ssh does, and of others, whose connections to the agent are spare between requests. Helpers
+    aren't counted: they sign the same with and without a filter, and what one signature takes more than another is more
+    than the filter's part."""
     if not (rig.BUILT / "filter_proxy").exists():
         print("serve: no filter: bin/filter_proxy isn't built")
         return
@@ -410,7 +418,7 @@ def through(agents, null):
             for kind, first in kinds.items():
                 for what, most in MOST_THROUGH.items():
                     for clients, goal in most.items():
-                        pairs = [[cost(each, clients, [asked[what]], first) for each in (agent, before)] for _ in range(ROUNDS)]
+                        pairs = [[cost(each, clients, [asked[what]], first, carriers) for each in (agent, before)] for _ in range(ROUNDS)]
                         alone, both = map(statistics.median, zip(*pairs))
                         more = statistics.median(both - alone for alone, both in pairs)
                         print(
@@ -418,6 +426,10 @@ def through(agents, null):
                             f"{more:.3g} us more; goal at most {goal}: {'met' if more <= goal else 'not met'}",
                             flush=True,
                         )
+        if VALGRIND and name == "ours":
+            for what, message in asked.items():
+                counts = instructions(lambda words: Filter(agent, words), [message], few=100, more=1000)
+                print(f"{what} through a filter: {counts[0]:.0f} instructions and {counts[1]:.4g} allocations of its own", flush=True)
         with agent.peer() as peer:
             peer.ask(REMOVE_ALL)
 

@@ -12,10 +12,12 @@ items_of vectors = map (λ one. one.items) vectors
 abbrev pub most_marks : ℕ
 most_marks = 1024
 
--- the mark of a blob: by its byte in the middle and its last one, since the blobs of keys of one type begin alike, and
--- those of security keys for one application end alike
+-- the mark of a blob: by two bytes in the middle and its last one, since the blobs of keys of one type begin alike, those
+-- of security keys for one application end alike, and certificates of one authority may have the same middle
 abbrev pub mark_of : List ℕ → ℕ
-mark_of blob = 4 * get_or blob (length blob / 2) 0 + get_or blob (length blob - 1) 0 % 4
+mark_of blob =
+    (4 * (get_or blob (length blob / 2) 0 + get_or blob (length blob / 2 + 1) 0) + get_or blob (length blob - 1) 0)
+    % most_marks
 
 -- this is the blob
 abbrev pub is_blob : List ℕ → Option (List ℕ) → Bool

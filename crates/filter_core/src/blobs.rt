@@ -99,9 +99,10 @@ fn mark_of(blob: &[u8]) -> usize
     ensures is { result ≡ mark_of blob.now }
     ensures within { result < most_marks }
 {
-    let middle = byte_at(blob, blob.len() / 2);
+    let half = blob.len() / 2;
+    let middle = byte_at(blob, half) + byte_at(blob, half + 1);
     let last = byte_at(blob, blob.len().saturating_sub(1));
-    4 * middle + last % 4
+    (4 * middle + last) % MOST_MARKS
 }
 
 // Whether the blob stands at this place.
