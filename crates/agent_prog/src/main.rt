@@ -55,7 +55,7 @@ fn serve<R, W: Wait, I: Source, O: Sink, E: Sink>(
     errors: &mut E,
 ) -> Result<Status, Status>
 where
-    R: Files<File = File> + Net + Processes + RandomSource + Clock + Env + AllocGlobal,
+    R: Files<File = File> + Net + Processes + RandomSource + Clock + Env + AllocGlobal + Eprint,
 {
     let alloc = rt.alloc();
     let mut world = world_of(rt, alloc, served).map_err(|error| status_of(
