@@ -19,6 +19,7 @@ for tool in gcc python3 ssh-agent; do
 done
 gcc -O2 -o "$work/load" bench/serve/load.c
 gcc -O2 -o "$work/null" bench/serve/null.c
+gcc -O2 -o "$work/relay" bench/serve/relay.c
 rounds=${1:-7}
 shift $(($# > 0 ? 1 : 0))
 python3 -B bench/serve/measure.py "$work" "$rounds" "$@"

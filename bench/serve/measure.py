@@ -35,7 +35,7 @@ def spent(pid):
 
 def carriers(agent):
     """The agent, and the one behind it where it is a filter, without the processes that they started."""
-    behind = carriers(agent.behind) if isinstance(agent, Filter) else []
+    behind = carriers(agent.behind) if isinstance(agent, Before) else []
     return [agent.process.pid, *behind]
 
 
@@ -66,17 +66,27 @@ def cost(agent, clients, messages, first=None, counted=family):
     return (sum(map(spent, pids)) - before) / replies / 1000
 
 
-class Filter(Agent):
-    """A filter before an agent."""
+class Before(Agent):
+    """A program before an agent, started by these words and its socket."""
 
-    def __init__(self, behind, before=()):
-        keys, path = WORK / "filter.keys", WORK / "filter.sock"
-        keys.write_text(behind.run("ssh-add", "-L"))
-        words = [*before, rig.BUILT / "filter_proxy", keys, behind.path, path]
-        process = subprocess.Popen(words, stdin=subprocess.DEVNULL, stderr=subprocess.DEVNULL)
+    def __init__(self, behind, name, *words):
+        path = WORK / f"{name}.sock"
+        process = subprocess.Popen([*words, path], stdin=subprocess.DEVNULL, stderr=subprocess.DEVNULL)
         super().__init__(process, path)
         self.behind = behind
-        until(lambda: rig.listens(self.path, True), 60, "the filter")
+        until(lambda: rig.listens(self.path, True), 60, name)
+
+
+def filter_before(agent, before=()):
+    """A filter that lets all the agent's keys pass."""
+    keys = WORK / "filter.keys"
+    keys.write_text(agent.run("ssh-add", "-L"))
+    return Before(agent, "filter", *before, rig.BUILT / "filter_proxy", keys, agent.path)
+
+
+def relay_before(agent):
+    """A relay that passes on what comes."""
+    return Before(agent, "relay", WORK / "relay", agent.path)
 
 
 def null_agent():
@@ -402,7 +412,8 @@ def through(agents, null):
     """What a list of 100 keys and a signature take through a filter that lets them all pass, beside the agent alone: of
     clients that bind, as ssh does, and of others, whose connections to the agent are spare between requests. Helpers
     aren't counted: they sign the same with and without a filter, and what one signature takes more than another is more
-    than the filter's part."""
+    than the filter's part. Beside it is the part of a relay that looks at nothing: what the way through another program
+    costs by itself."""
     if not (rig.BUILT / "filter_proxy").exists():
         print("serve: no filter: bin/filter_proxy isn't built")
         return
@@ -414,21 +425,23 @@ def through(agents, null):
         fill(agent, range(99))
         with agent.peer() as peer:
             assert peer.ask(ADD, key.private, string(b""))[0] == SUCCESS
-        with Filter(agent) as before:
+        with filter_before(agent) as before, relay_before(agent) as relay:
             for kind, first in kinds.items():
                 for what, most in MOST_THROUGH.items():
                     for clients, goal in most.items():
-                        pairs = [[cost(each, clients, [asked[what]], first, carriers) for each in (agent, before)] for _ in range(ROUNDS)]
-                        alone, both = map(statistics.median, zip(*pairs))
-                        more = statistics.median(both - alone for alone, both in pairs)
+                        ways, message = (agent, before, relay), [asked[what]]
+                        taken = [[cost(way, clients, message, first, carriers) for way in ways] for _ in range(ROUNDS)]
+                        alone, both, _ = map(statistics.median, zip(*taken))
+                        more = statistics.median(both - alone for alone, both, _ in taken)
+                        least = statistics.median(passed - alone for alone, _, passed in taken)
                         print(
                             f"{what} through a filter, {clients} clients {kind}: {name} alone {alone:.4g} us, both {both:.4g} us, "
-                            f"{more:.3g} us more; goal at most {goal}: {'met' if more <= goal else 'not met'}",
+                            f"{more:.3g} us more, a relay {least:.3g}; goal at most {goal}: {'met' if more <= goal else 'not met'}",
                             flush=True,
                         )
         if VALGRIND and name == "ours":
             for what, message in asked.items():
-                counts = instructions(lambda words: Filter(agent, words), [message], few=100, more=1000)
+                counts = instructions(lambda words: filter_before(agent, words), [message], few=100, more=1000)
                 print(f"{what} through a filter: {counts[0]:.0f} instructions and {counts[1]:.4g} allocations of its own", flush=True)
         with agent.peer() as peer:
             peer.ask(REMOVE_ALL)
