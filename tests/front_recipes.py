@@ -151,8 +151,10 @@ def a_host_gets_the_key_of_a_socket_that_stays(folder):
 
 @check
 def a_key_signs_commits_and_logs_in_nowhere(folder):
-    (lines,) = recipe("A key that signs commits and logs in nowhere")
+    lines, question = recipe("A key that signs commits and logs in nowhere")
     signing_line, forge_line = lines.splitlines()
+    # tests/purposes.py hears the whole question: here it is of the host of the recipe.
+    assert "-h forge" in forge_line and question.endswith("\nFor a login as git to forge.\n"), question
     with Home(folder) as home, Hosts(folder, "forge") as hosts:
         keys = [keygen(home.home / f".ssh/{name}") for name in ("signing", "forge")]
         hosts.allow(*keys)
