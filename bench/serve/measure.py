@@ -71,6 +71,7 @@ class Before(Agent):
 
     def __init__(self, behind, name, *words):
         path = WORK / f"{name}.sock"
+        path.unlink(missing_ok=True)
         process = subprocess.Popen([*words, path], stdin=subprocess.DEVNULL, stderr=subprocess.DEVNULL)
         super().__init__(process, path)
         self.behind = behind
