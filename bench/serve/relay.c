@@ -1,27 +1,9 @@
 /* A relay before an agent that passes on what comes and looks at none of it: what the way through another program alone
    costs. The words are the agent's socket and its own. */
-#include <err.h>
-#include <string.h>
-#include <sys/epoll.h>
-#include <sys/socket.h>
-#include <sys/un.h>
-#include <unistd.h>
+#include "door.h"
 
 /* The other side of each connection, by its descriptor. */
 static int other[4096];
-
-static struct sockaddr_un address_of(const char *path)
-{
-    struct sockaddr_un address = { .sun_family = AF_UNIX };
-    strncpy(address.sun_path, path, sizeof address.sun_path - 1);
-    return address;
-}
-
-static void watch(int epoll, int fd)
-{
-    struct epoll_event event = { .events = EPOLLIN, .data.fd = fd };
-    epoll_ctl(epoll, EPOLL_CTL_ADD, fd, &event);
-}
 
 /* A client, and a connection to the agent for it. */
 static void join(int epoll, int door, const struct sockaddr_un *upstream)
@@ -42,11 +24,8 @@ int main(int argc, char **argv)
     static char room[16384];
     if (argc != 3)
         errx(2, "words: AGENT SOCKET");
-    struct sockaddr_un upstream = address_of(argv[1]), address = address_of(argv[2]);
-    int door = socket(AF_UNIX, SOCK_STREAM | SOCK_NONBLOCK, 0), epoll = epoll_create1(0);
-    if (bind(door, (struct sockaddr *)&address, sizeof address) < 0 || listen(door, 128) < 0)
-        err(1, "%s", argv[2]);
-    watch(epoll, door);
+    struct sockaddr_un upstream = address_of(argv[1]);
+    int epoll = epoll_create1(0), door = door_at(epoll, argv[2]);
     for (;;) {
         struct epoll_event events[64];
         int count = epoll_wait(epoll, events, 64, -1);
