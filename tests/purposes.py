@@ -185,22 +185,27 @@ def a_login_over_two_hosts_with_a_certificate_too(folder):
         assert status == 0 and said.endswith("in\n"), said
 
 
+def that_agrees(folder):
+    """The words of an agent that asks a program which agrees, and the file in which that keeps the questions."""
+    asked = folder / "asked"
+    asker = rig.script(folder / "asker", f"printf '%s\\n--\\n' \"$1\" >> {asked}; echo yes")
+    return ("--relay", rig.built("confirm_relay"), "--askpass", asker), asked
+
+
 @check
 def nobody_is_asked_about_what_a_key_is_not_for(folder):
     """A question begins with what it is for a key without purposes, and then tells what is signed."""
-    relay = rig.built("confirm_relay")
     installed, key = Installed(folder), keygen(folder / "key")
-    asked = folder / "asked"
-    asker = rig.script(folder / "asker", f"printf '%s\\n--\\n' \"$1\" >> {asked}; echo yes")
-    with Hosts(folder, "one") as hosts, our_agent(PROGRAM, folder, "--relay", relay, "--askpass", asker) as agent:
+    words, asked = that_agrees(folder)
+    with Hosts(folder, "one") as hosts, our_agent(PROGRAM, folder, *words) as agent:
         hosts.allow(key)
-        for words, wanted in CASES:
+        for purposes, wanted in CASES:
             asked.write_text("")
             agent.run("ssh-add", "-q", "-D")
-            added(installed, agent, "-q", "-c", "--for", words, key)
-            assert does(agent, hosts, key) == set(wanted.split()), words
+            added(installed, agent, "-q", "-c", "--for", purposes, key)
+            assert does(agent, hosts, key) == set(wanted.split()), purposes
             questions = asked.read_text().split("\n--\n")[:-1]
-            assert len(questions) == len(wanted.split()), (words, questions)
+            assert len(questions) == len(wanted.split()), (purposes, questions)
             fingerprint = run(["ssh-keygen", "-lf", f"{key}.pub"]).split()[1]
             begin = f"Allow use of key key?\nKey fingerprint {fingerprint}.\n"
             assert sorted(questions) == sorted(begin + LINES[name] for name in wanted.split()), questions
@@ -209,11 +214,8 @@ def nobody_is_asked_about_what_a_key_is_not_for(folder):
 @check
 def the_question_about_a_key_for_hosts_names_the_host(folder):
     """As the first constraint that permits the login has it; a key without purposes has the two lines of ssh-agent."""
-    relay = rig.built("confirm_relay")
     installed, key = Installed(folder), keygen(folder / "key")
-    asked = folder / "asked"
-    asker = rig.script(folder / "asker", f"printf '%s\\n--\\n' \"$1\" >> {asked}; echo yes")
-    words = ("--relay", relay, "--askpass", asker)
+    words, asked = that_agrees(folder)
     with Hosts(folder, "one", "two") as hosts, our_agent(PROGRAM, folder, *words) as agent:
         hosts.allow(key)
         others = folder / "others"
