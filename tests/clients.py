@@ -618,6 +618,15 @@ def with_each(agent, keys, *command):
     return answers
 
 
+def with_each_kind(folder, login):
+    """What a client says that logs in by these words with a key of each kind, the same as with OpenSSH's agent."""
+    keys = [keygen(folder / f"{kind}{bits}", kind, bits) for kind, bits in KINDS]
+    with Hosts(folder, "one") as hosts:
+        words = login(folder, hosts)
+        hosts.allow(*keys)
+        return alike(folder, lambda agent: with_each(agent, keys, *words))
+
+
 def paramiko_login(folder, hosts):
     """The command of a login by paramiko, which also lists."""
     python, script = system_python("paramiko"), folder / "by_paramiko.py"
@@ -635,15 +644,8 @@ print([key.get_name() for key in paramiko.Agent().get_keys()])
 
 @check
 def paramiko_logs_in(folder):
-    keys = [keygen(folder / f"{kind}{bits}", kind, bits) for kind, bits in KINDS]
-    with Hosts(folder, "one") as hosts:
-        words = paramiko_login(folder, hosts)
-        hosts.allow(*keys)
-
-        def case(agent):
-            return with_each(agent, keys, *words)
-
-        assert all(answer.startswith("in\n") for answer in alike(folder, case))
+    answers = with_each_kind(folder, paramiko_login)
+    assert all(answer.startswith("in\n") for answer in answers)
 
 
 def asyncssh_login(folder, hosts):
@@ -662,15 +664,8 @@ asyncio.run(main())
 
 @check
 def asyncssh_logs_in(folder):
-    keys = [keygen(folder / f"{kind}{bits}", kind, bits) for kind, bits in KINDS]
-    with Hosts(folder, "one") as hosts:
-        words = asyncssh_login(folder, hosts)
-        hosts.allow(*keys)
-
-        def case(agent):
-            return with_each(agent, keys, *words)
-
-        assert alike(folder, case) == ["in\n"] * len(keys)
+    answers = with_each_kind(folder, asyncssh_login)
+    assert answers == ["in\n"] * len(KINDS)
 
 
 def plink_login(folder, hosts):
