@@ -4,7 +4,7 @@ use Rattle.std.proofs.Math.ListN.{length-replicate}
 use Rattle.std.proofs.lemmas.List.{take_at, take-append-le, drop-append-le, drop-take}
 use Rattle.std.proofs.lemmas.List.Elements.{All-append, All-drop, All-replicate}
 use Rattle.std.proofs.lemmas.Slice.{drop-append-drop}
-use Rattle.secret_buf.specs.Buffers.{Buffer, buffer_of, cleared, overwritten, IsWiped, IsScrubbed}
+use Rattle.secret_buf.specs.Buffers.{Buffer, buffer_of, cleared, overwritten, room_in, IsWiped, IsScrubbed}
 
 -- the lengths of parts and of what is put together of parts
 ruleset lengths = (length-append, length-take, length-drop, length-replicate)
@@ -49,7 +49,7 @@ module _ (s : List ℕ) (start end : ℕ) (is : IsScrubbed s start end) where
         record {
           ordered = to_end;
           within = omega (arith, is.within, same_length);
-          halved = omega (arith, is.halved, same_length);
+          roomy = omega (arith, is.roomy, same_length);
           before =
               rw (take_at (take start s ++ replicate (to - start) 0) (drop to s) to length-front)
               (wiped_and_zeros _ _ is.before);
@@ -81,15 +81,15 @@ module _ (s : List ℕ) (start end : ℕ) (is : IsScrubbed s start end) where
 
     -- with bytes written behind the live ones, storage is scrubbed with them
     pub IsScrubbed-overwritten :
-        end + length bytes - start + (end + length bytes - start) ≤ length s
+        end + length bytes - start ≤ room_in (length s)
         → IsScrubbed (overwritten s end bytes) start (end + length bytes)
-    IsScrubbed-overwritten half =
+    IsScrubbed-overwritten room =
         let same_length : length (overwritten s end bytes) ≡ length s =
         grind (arith, lengths, fits, length-front_and_bytes) in
         record {
           ordered = omega (arith, is.ordered);
           within = omega (arith, fits, same_length);
-          halved = omega (arith, half, same_length);
+          roomy = omega (arith, room, same_length);
           before = rw take-overwritten is.before;
           after =
               rw (drop-append-drop _ s _ (end + length bytes) (omega arith) length-front_and_bytes)

@@ -26,17 +26,21 @@ overwritten storage at bytes = take at storage ++ bytes ++ drop (at + length byt
 abbrev pub cleared : List ℕ → ℕ → ℕ → List ℕ
 cleared storage start end = take start storage ++ replicate (end - start) 0 ++ drop end storage
 
--- the buffer whose live bytes are those from start to end: they may come to fill half the storage
+-- how many live bytes storage of this size may hold: a sixteenth of it stays free
+abbrev pub room_in : ℕ → ℕ
+room_in size = size - size / 16
+
+-- the buffer whose live bytes are those from start to end: they may come to fill the room in the storage
 abbrev pub buffer_of : List ℕ → ℕ → ℕ → Buffer
 buffer_of storage start end = record {
   live = slice_range storage start end;
-  spare = length storage / 2 - (end - start);
+  spare = room_in (length storage) - (end - start);
 }
 
--- the bytes from start to end fill at most half of the storage, and all others are zero
+-- the bytes from start to end are within the room in the storage, and all others are zero
 pub record IsScrubbed (storage : List ℕ) (start end : ℕ) : Type 0 where
   pub ordered : start ≤ end
   pub within : end ≤ length storage
-  pub halved : (end - start) + (end - start) ≤ length storage
+  pub roomy : end - start ≤ room_in (length storage)
   pub before : IsWiped (take start storage)
   pub after : IsWiped (drop end storage)

@@ -1,18 +1,21 @@
 //! A buffer, pushed behind and consumed in front, whose storage is zero outside its bytes.
 
-ghost use Rattle.std.specs.Prelude.{◌≡◌, ◌+◌, ◌*◌, ◌-◌, ◌/◌, ◌^◌, ◌<◌, ◌≤◌, [], ◌++◌, IfSome, IsOk, OnErr, OnOk, drop, length, slice_range};
-ghost use Rattle.secret_buf.specs.Buffers.{buffer_of, no_bytes, IsScrubbed, KeepsRoom};
+ghost use Rattle.std.specs.Prelude.{◌≡◌, ◌+◌, ◌-◌, ◌^◌, ◌<◌, ◌≤◌, [], ◌++◌, IfSome, IsOk, OnErr, OnOk, drop, length, slice_range};
+ghost use Rattle.secret_buf.specs.Buffers.{buffer_of, no_bytes, room_in, IsScrubbed, KeepsRoom};
 
 use crate::storage::Storage;
 use std::alloc::{AllocError, Global};
 use std::marker::Model;
 use std::mem;
 
+// From this size on, in bytes, storage grows by less than its own size.
+const LONG: usize = 16384;
+
 /// Bytes that are pushed behind and consumed in front, in storage that is zero outside them.
 ///
-/// The live bytes fill at most half of the storage. So where room behind them is short, more bytes
-/// were consumed since they last lay in front than have to be moved, and on average a byte that is
-/// pushed is moved a bounded number of times.
+/// A sixteenth of the storage stays free of live bytes. So where room behind them is short, at least
+/// a sixteenth was consumed since they last lay in front, and for each byte that is consumed at most
+/// fifteen are moved, however full the buffer is kept.
 pub struct ScrubBuf {
     storage: Storage,
     start: usize,
@@ -112,7 +115,7 @@ impl ScrubBuf {
     fn spare(&self) -> usize
         ensures { result ≡ self.now.spare }
     {
-        self.storage.len() / 2 - (self.end - self.start)
+        room_in(self.storage.len()) - (self.end - self.start)
     }
 
     // Moves the live bytes into larger storage.
@@ -165,7 +168,7 @@ impl Drop for ScrubBuf {
 // Makes room for `more` bytes behind the live bytes, and says where they start then.
 fn make_tail(storage: &mut Storage, start: usize, end: usize, more: usize) -> usize
     requires scrubbed { IsScrubbed storage.old start end }
-    requires room { end - start + more ≤ length storage.old / 2 }
+    requires room { end - start + more ≤ room_in (length storage.old) }
     ensures scrubbed { IsScrubbed storage.new result (result + (end - start)) }
     ensures live { slice_range storage.new result (result + (end - start))
         ≡ slice_range storage.old start end }
@@ -180,10 +183,22 @@ fn make_tail(storage: &mut Storage, start: usize, end: usize, more: usize) -> us
     0
 }
 
-// The size of storage for `live` bytes and `more`, which is at least twice `size`.
-fn grown_size(size: usize, live: usize, more: usize) -> Option<usize>
-    ensures enough { IfSome result (λ grown. 2 * (live + more) ≤ grown) }
-    ensures doubled { IfSome result (λ grown. 2 * size ≤ grown) }
+// How many live bytes storage of this size may hold.
+fn room_in(size: usize) -> usize
+    ensures { result ≡ room_in size }
 {
-    live.checked_add(more)?.max(size).checked_mul(2)
+    size - size / 16
+}
+
+// The size of storage with room for `live` bytes and `more`. It is doubled while it is short, and
+// grows by an eighth where it is long, so that a byte is moved a bounded number of times by growth
+// too, and what stays unused of long storage is little.
+fn grown_size(size: usize, live: usize, more: usize) -> Option<usize>
+    ensures enough { IfSome result (λ grown. live + more ≤ room_in grown) }
+    ensures grown { IfSome result (λ grown. size ≤ grown) }
+{
+    let wanted = live.checked_add(more)?;
+    let least = wanted.checked_add(wanted / 15)?;
+    let step = size.min((size / 8).max(LONG));
+    Some(size.checked_add(step)?.max(least))
 }
