@@ -19,7 +19,7 @@ LIMITS = {"body of a client": 262144, "body of a child": 262144, "list": 262144}
 LIMITS |= {"client": 128, "child": 32, "asks": 256, "confirmations": 16}
 LIMITS |= {"bindings": 16, "session": 128}
 # Bytes of all private strings and rules, and of the host keys of one connection and what they name.
-LIMITS |= {"room": 8388608, "host keys": 262144}
+LIMITS |= {"room": 8388608, "host keys": 65536}
 LIMITS |= {"principals": 1024}
 # Behind how many bytes in the bodies of the asks that are open one more is put: it may be as long as it is.
 LIMITS |= {"bodies of asks": 8388607}

@@ -57,7 +57,7 @@ row(
     [*[to(1, OK)] * 13, to(1, NO), to(1, OK)],
 )
 
-# Host keys of 262144 bytes in all
+# Host keys of 65536 bytes in all
 
 
 def rsa(size: int) -> bytes:
@@ -65,11 +65,11 @@ def rsa(size: int) -> bytes:
     return st(b"ssh-rsa") + st(b"\x03") + st(b"\x01" * (size - 20))
 
 
-QUARTER = rsa(65536)
+QUARTER = rsa(16384)
 THREE = chain(1, 2, 2, *[(QUARTER, bytes([n]) * 32, 1) for n in range(3)])
 row(
-    "host keys of 262144 bytes in all, and one byte more",
-    [*START, *THREE[0], *hear(1, bind(rsa(65537), S1, 1)), *hear(1, bind(QUARTER, S1, 1))]
+    "host keys of 65536 bytes in all, and one byte more",
+    [*START, *THREE[0], *hear(1, bind(rsa(16385), S1, 1)), *hear(1, bind(QUARTER, S1, 1))]
     + [*hear(2, true(5)), *hear(1, bind(H1, b"new", 0)), *hear(1, bind(QUARTER, S1, 1))]
     + hear(2, true(6)),
     [*START_PRINT, *THREE[1], to(1, NO), to(2, verify(5, QUARTER, S1)), to(1, OK)]

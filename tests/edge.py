@@ -972,13 +972,13 @@ def a_number_of_an_addition_has_at_most_2048_bytes(folder):
 
 @check
 def the_host_keys_of_a_connection_are_bounded_in_all(folder):
-    """With a helper that says yes to all, each of 32 connections is bound to 262,144 bytes of host keys at most."""
+    """With a helper that says yes to all, each of 32 connections is bound to 65,536 bytes of host keys at most."""
     helper = rig.HandedOver(folder)
     try:
         with serve(folder, helper=helper.program) as agent, contextlib.ExitStack() as open_peers:
             peers = [open_peers.enter_context(agent.peer(seconds=60)) for _ in range(32)]
             peers[0].ask(LIST)
-            before, child, host_key = resident(agent), None, rsa_blob(60000)
+            before, child, host_key = resident(agent), None, rsa_blob(16000)
             for peer in peers:
                 answers = []
                 for place in range(16):
@@ -989,8 +989,8 @@ def the_host_keys_of_a_connection_are_bounded_in_all(folder):
                     answers.append(peer.reply()[0])
                 assert answers == [SUCCESS] * 4 + [FAILURE] * 12, answers
             grown = resident(agent) - before
-            print(f"32 connections with 16 tries of 60,000 bytes each: {grown / 2**20:.1f} MiB")
-            assert grown <= 32 << 20, grown
+            print(f"32 connections with 16 tries of 16,000 bytes each: {grown / 2**20:.1f} MiB")
+            assert grown <= 8 << 20, grown
     finally:
         helper.close()
 
@@ -1070,11 +1070,11 @@ def fill(agent):
 
 
 def bound_to_much(agent, helper, held, count):
-    """So many clients, each bound to host keys of 262,144 bytes by a helper that says yes."""
+    """So many clients, each bound to host keys of 65,536 bytes by a helper that says yes."""
     peers, child = [held.enter_context(agent.peer(seconds=60)) for _ in range(count)], None
     for peer in peers:
         for place in range(4):
-            peer.send(session_bind(rsa_blob(LONGEST // 4), b"session %d" % place))
+            peer.send(session_bind(rsa_blob(16384), b"session %d" % place))
             child = child or helper.wait(1).hello()
             child.send(b"\x67" + child.reply()[1:9])
             assert peer.reply()[0] == SUCCESS
@@ -1083,7 +1083,7 @@ def bound_to_much(agent, helper, held, count):
 
 def fill_the_link(agent):
     """Clients that bind themselves to a long host key and leave, until the helper is owed 8 MiB."""
-    body = session_bind(rsa_blob(LONGEST - 300), b"session")
+    body = session_bind(rsa_blob(65536), b"session", b"s" * (LONGEST - 65536 - 300))
     for _ in range(3):
         with contextlib.ExitStack() as held:
             peers = [held.enter_context(agent.peer(seconds=60)) for _ in range(15)]

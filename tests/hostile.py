@@ -389,7 +389,7 @@ def slow_stage(agent):
         body = edge.request(blob)
         assert not is_refused(peer, body, wanted), "its helper signs at first"
     long = edge.request(blob, bytes(262000))
-    host_key = edge.rsa_blob(60000)
+    host_key = edge.rsa_blob(16000)
     bodies = [edge.session_bind(host_key, b"session %d" % place) for place in range(5)]
     scene = [(asks, path, [edge.request(blob, bytes(1000))], 20), (leaves, path, long, 20, 1), (binds, path, bodies, 8)]
     scene += [(stays, path, 20)]

@@ -7,9 +7,8 @@ use Rattle.std.proofs.lemmas.Bool.{and_parts, leb-true, ltb-true}
 use Rattle.std.proofs.lemmas.Slice.Eq.{bytes_eq-Decides}
 use Rattle.std.proofs.lemmas.List.Elements.{All-append}
 use Rattle.std.proofs.lemmas.List.Sums.{sum_by_push}
-use Rattle.wire_text.specs.Bounds.{longest_body}
 use Rattle.key_blob.specs.PublicKeys.{public_key_of}
-use Rattle.dest_rule.specs.Chains.{Binding, New, Same, Refuse, ChainFull, OtherKey, SessionLength, newest, newest_after, find_session, has_room, is_open, is_session, judge_known, judge_open, judge, bound, IsChain, most_bindings, most_names, names_len}
+use Rattle.dest_rule.specs.Chains.{Binding, New, Same, Refuse, ChainFull, OtherKey, SessionLength, newest, newest_after, find_session, has_room, is_open, is_session, judge_known, judge_open, judge, bound, IsChain, most_bindings, most_keys, most_names, names_len}
 
 -- the newest binding stands at the end
 pub newest_at : (first : Binding) (later : List Binding)
@@ -67,7 +66,7 @@ new_has_room host_key session chain new = session_has_room _ host_key session ch
 
 -- with room there are fewer than 16, and the host keys with this one are small and name few
 room_is : (host_key : List ℕ) (chain : List Binding) → has_room host_key chain ≡ true
-    → (length chain < most_bindings) × (length host_key + sum_by (λ one. length one.host_key) chain ≤ longest_body)
+    → (length chain < most_bindings) × (length host_key + sum_by (λ one. length one.host_key) chain ≤ most_keys)
     × (names_len (public_key_of host_key) + sum_by (λ one. names_len (public_key_of one.host_key)) chain ≤ most_names)
 room_is host_key chain room =
     let named = and_parts _ _ room in

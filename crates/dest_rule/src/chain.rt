@@ -3,9 +3,8 @@
 ghost use Rattle.std.specs.Prelude.{◌≡◌, ◌≤◌, true, [], length, IfOk, OnOk, OnErr, IsOk};
 ghost use Rattle.std.specs.List.{sum_by};
 ghost use Rattle.std.specs.Option.{option_copied};
-ghost use Rattle.wire_text.specs.Bounds.{longest_body};
 ghost use Rattle.key_blob.specs.PublicKeys.{public_key_of};
-ghost use Rattle.dest_rule.specs.Chains.{IsChain, New, has_room, most_names, names_len, is_session, newest, find_session, is_open, judge, bound, no_chain};
+ghost use Rattle.dest_rule.specs.Chains.{IsChain, New, has_room, most_keys, most_names, names_len, is_session, newest, find_session, is_open, judge, bound, no_chain};
 
 use crate::binding::Binding;
 use crate::fault::{ChainFault, Next};
@@ -18,7 +17,7 @@ use std::marker::Model;
 const MOST_BINDINGS: usize = 16;
 
 /// The most bytes of all host keys of a connection's bindings.
-const MOST_KEY_BYTES: usize = 262_144;
+const MOST_KEY_BYTES: usize = 65_536;
 
 /// The most bytes of principals of all host keys of a connection's bindings.
 const MOST_NAMES: usize = 1024;
@@ -77,7 +76,7 @@ fn find_session<'a>(bindings: &'a [Binding], session: &[u8]) -> Option<&'a Bindi
 
 /// How many bytes the host keys of these have in all.
 fn host_keys_len(bindings: &[Binding]) -> usize
-    requires { sum_by (λ one. length one.host_key) bindings.now ≤ longest_body }
+    requires { sum_by (λ one. length one.host_key) bindings.now ≤ most_keys }
     ensures { result ≡ sum_by (λ one. length one.host_key) bindings.now }
 {
     let mut len = 0;
@@ -206,7 +205,7 @@ impl Chain {
         Ok(())
     }
 
-    /// The bindings, lent: at most 16, with at most 262144 bytes of host keys and 1024 of principals in all.
+    /// The bindings, lent: at most 16, with at most 65536 bytes of host keys and 1024 of principals in all.
     pub(crate) fn bindings(&self) -> &[Binding]
         ensures value { result.now ≡ self.now.bindings }
         ensures chain { IsChain self.now.bindings }

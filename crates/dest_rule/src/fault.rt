@@ -7,7 +7,7 @@ pub enum ChainFault {
     AuthBound,
     /// The session is bound already, to another host key.
     OtherKey,
-    /// The chain has 16 bindings, or its host keys would have more than 262144 bytes in all, or their
+    /// The chain has 16 bindings, or its host keys would have more than 65536 bytes in all, or their
     /// certificates more than 1024 bytes of principals.
     ChainFull,
     /// The session identifier is empty or has more than 128 bytes.

@@ -70,7 +70,7 @@ pub fn a_login_is_to_the_newest_host()
         (login_as (replicate 4096 7) (5 ∷ []) None) 0 ≡ None }
 {}
 
-/// Sessions have 1 to 128 bytes, a chain has 16 bindings at most, 262144 bytes of host keys and 1024 of
+/// Sessions have 1 to 128 bytes, a chain has 16 bindings at most, 65536 bytes of host keys and 1024 of
 /// principals, and nothing follows a login.
 pub fn bindings_are_judged_in_order()
     ensures new { judge (key 2) (replicate 128 7) [] ≡ New }
@@ -83,10 +83,10 @@ pub fn bindings_are_judged_in_order()
     ensures full { judge (key 2) (6 ∷ []) (replicate 16 (passing (key 2) (5 ∷ [])))
         ≡ Refuse ChainFull }
     ensures last { judge (key 2) (6 ∷ []) (replicate 15 (passing (key 2) (5 ∷ []))) ≡ New }
-    ensures heavy { judge (replicate 65 7) (6 ∷ [])
-        (replicate 15 (passing (replicate 17472 7) (5 ∷ []))) ≡ Refuse ChainFull }
-    ensures fits { judge (replicate 64 7) (6 ∷ [])
-        (replicate 15 (passing (replicate 17472 7) (5 ∷ []))) ≡ New }
+    ensures heavy { judge (replicate 17 7) (6 ∷ [])
+        (replicate 15 (passing (replicate 4368 7) (5 ∷ []))) ≡ Refuse ChainFull }
+    ensures fits { judge (replicate 16 7) (6 ∷ [])
+        (replicate 15 (passing (replicate 4368 7) (5 ∷ []))) ≡ New }
     ensures named { judge (certificate_for (replicate 509 7)) (6 ∷ [])
         (passing (certificate_for (replicate 508 7)) (5 ∷ []) ∷ []) ≡ Refuse ChainFull }
     ensures names_fit { judge (certificate_for (replicate 508 7)) (6 ∷ [])
