@@ -1,8 +1,8 @@
 -- What a write to scrubbed storage leaves.
-use Rattle.std.proofs.Common.{◌≡◌, ℕ, ◌+◌, ◌-◌, ◌≤◌, List, ◌++◌, length, take, drop, replicate, slice_range, arith, refl, ap, ◌∙◌, length-append, length-take, length-drop, drop-drop, take-take}
+use Rattle.std.proofs.Common.{◌≡◌, ℕ, ◌+◌, ◌-◌, ◌≤◌, List, ◌++◌, length, take, drop, replicate, slice_range, arith, refl, ap, ◌∙◌, length-append, length-take, length-drop, drop-drop, take-take, subst}
 use Rattle.std.proofs.Math.ListN.{length-replicate}
-use Rattle.std.proofs.lemmas.List.{take_at, take-append-le, drop-append-le, drop-take}
-use Rattle.std.proofs.lemmas.List.Elements.{All-append, All-drop, All-replicate}
+use Rattle.std.proofs.lemmas.List.{take_at, take-append-drop, take-append-le, drop-append-le, drop-take}
+use Rattle.std.proofs.lemmas.List.Elements.{All-append, All-drop, All-nil, All-replicate}
 use Rattle.std.proofs.lemmas.Slice.{drop-append-drop}
 use Rattle.secret_buf.specs.Buffers.{Buffer, buffer_of, cleared, overwritten, room_in, IsWiped, IsScrubbed}
 
@@ -32,6 +32,25 @@ module _ (s : List ℕ) (start end : ℕ) (is : IsScrubbed s start end) where
   -- with the live bytes cleared, all bytes are zero
   pub IsWiped-cleared : IsWiped (cleared s start end)
   IsWiped-cleared = wiped_both _ _ (wiped_and_zeros _ _ is.before) is.after
+
+  -- without live bytes all bytes are zero
+  IsWiped-empty : end ≤ start → IsWiped s
+  IsWiped-empty empty =
+      let same : end ≡ start = omega (arith, empty, is.ordered) in
+      subst IsWiped (take-append-drop start s)
+      (wiped_both _ _ is.before (subst (λ n. IsWiped (drop n s)) same is.after))
+
+  -- and it is scrubbed from its front on
+  pub IsScrubbed-empty : end ≤ start → IsScrubbed s 0 (0 + (end - start))
+  IsScrubbed-empty empty =
+      let none : 0 + (end - start) ≡ 0 = omega (arith, empty) in
+      rw none (record {
+        ordered = omega arith;
+        within = omega arith;
+        roomy = omega arith;
+        before = All-nil (λ byte. byte ≡ 0);
+        after = IsWiped-empty empty;
+      })
 
   module _ (to : ℕ) (from_start : start ≤ to) (to_end : to ≤ end) where
     length-front : length (take start s ++ replicate (to - start) 0) ≡ to

@@ -8,7 +8,10 @@ use std::alloc::{AllocError, Global};
 use std::marker::Model;
 use std::mem;
 
-// From this size on, in bytes, storage grows by less than its own size.
+// The least size of storage, in bytes: many short pieces are pushed and consumed before any is moved.
+const LEAST: usize = 512;
+
+// From this size on storage grows by less than its own size.
 const LONG: usize = 16384;
 
 /// Bytes that are pushed behind and consumed in front, in storage that is zero outside them.
@@ -179,7 +182,10 @@ fn make_tail(storage: &mut Storage, start: usize, end: usize, more: usize) -> us
     if more <= storage.len() - end {
         return start;
     }
-    storage.move_to_front(start, end);
+    // Of an empty buffer all storage is zero already.
+    if start < end {
+        storage.move_to_front(start, end);
+    }
     0
 }
 
@@ -200,5 +206,5 @@ fn grown_size(size: usize, live: usize, more: usize) -> Option<usize>
     let wanted = live.checked_add(more)?;
     let least = wanted.checked_add(wanted / 15)?;
     let step = size.min((size / 8).max(LONG));
-    Some(size.checked_add(step)?.max(least))
+    Some(size.checked_add(step)?.max(least).max(LEAST))
 }
