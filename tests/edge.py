@@ -1126,7 +1126,7 @@ def fill_all(agent, helper, is_recorded):
 
 
 # The most memory of an agent, in MiB, and of one that makes a record.
-MOST_OF_ALL, MOST_RECORDED = 300, 440
+MOST_OF_ALL, MOST_RECORDED = 112, 160
 
 
 @check

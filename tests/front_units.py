@@ -165,7 +165,7 @@ def at_work(manager, prefix, own, enable):
         manager.run("systemctl --user stop mortarleek-agent")
         assert manager.run(f"systemctl --user --no-block start mortarleek-agent; {behind}", 1) == "The agent has no identities.\n"
     limits = manager.run("systemctl --user show mortarleek-agent -p Type,MemoryMax,TasksMax,LimitNOFILE,LimitCORE")
-    for line in ("Type=notify", "MemoryMax=536870912", "TasksMax=256", "LimitNOFILE=512", "LimitCORE=0"):
+    for line in ("Type=notify", "MemoryMax=268435456", "TasksMax=256", "LimitNOFILE=512", "LimitCORE=0"):
         assert line in limits.splitlines(), limits
     # A key is held and signs.
     key = f"{manager.home}/key"
