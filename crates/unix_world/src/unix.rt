@@ -47,8 +47,9 @@ const CLIENTS: Token = Token(usize::MAX);
 ///
 /// A connection is registered for reading; for writing only once a write found no room. Between two polls each port is
 /// read once and written 16 times, or once where these take 10 milliseconds; the listener gives a bounded number of
-/// connections. What that may leave is told of by the next poll, which doesn't wait. The clocks are read at the first look
-/// behind a poll, and again after 64 looks or 10 milliseconds, which is looked at with every other one.
+/// connections. What that may leave is told of by the next poll, which doesn't wait. The clocks are looked at behind a
+/// poll, and again after 64 looks or 10 milliseconds, which is looked at with every other one; they are read where the
+/// kernel's tick has moved on since, which takes some milliseconds at the most.
 ///
 /// A child process's standard input is its connection, the other end of which is there to be accepted from its start on;
 /// nothing else connects at the children's door. Where the connection ends before the hello, or brings anything else, or
@@ -182,7 +183,7 @@ impl<R: Files<File = File> + Net + Processes + RandomSource + Clock + Eprint> Un
         WorldFault::Failed
     }
 
-    // Reads both clocks. The monotonic one counts as never falling.
+    // Reads both clocks, unless the kernel's tick is that of the last reading. The monotonic one counts as never falling.
     fn read_clocks(&mut self)
         ensures faults { self.new.faults ≡ self.old.faults }
         ensures ports { self.new.last_port ≡ self.old.last_port }
@@ -194,6 +195,9 @@ impl<R: Files<File = File> + Net + Processes + RandomSource + Clock + Eprint> Un
             self.began_at = tick;
         }
         self.looks = 0;
+        if tick.is_some() && tick == self.dated_at {
+            return;
+        }
         self.dated_at = tick;
         if let Some(mono) = seconds(self.rt) {
             self.moment.mono = self.moment.mono.max(mono);
