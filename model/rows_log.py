@@ -55,6 +55,21 @@ row(
     [f"{ZERO}  {ABC}  {KEY1}  refused, the helper was lost"],
 )
 row(
+    "the helper refused, and then was lost",
+    [*RECORD, *helper(2), REFUSED, "end 2"],
+    [f"{ZERO}  {ABC}  {KEY1}  refused by the helper"],
+)
+row(
+    "the helper refused, and was lost by the same bytes",
+    [*RECORD, *helper(2), REFUSED + "00000000"],
+    [f"{ZERO}  {ABC}  {KEY1}  refused, the helper was lost"],
+)
+row(
+    "the helper refused, and was lost before the client took that",
+    [*RECORD, *helper(2), "hold 1", REFUSED, "end 2", "free 1"],
+    [f"{ZERO}  {ABC}  {KEY1}  refused, the helper was lost"],
+)
+row(
     "a helper that didn't start",
     [*RECORD, "failed 1"],
     [f"{ZERO}  {ABC}  {KEY1}  refused, the helper was lost"],
