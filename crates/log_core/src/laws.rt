@@ -6,7 +6,7 @@ ghost use Rattle.agent_model.specs.Runs.{history};
 ghost use Rattle.agent_model.specs.State.{Settings, first_state};
 ghost use Rattle.log_core.specs.Logs.{requests_of, sights_of};
 ghost use Rattle.log_core.specs.Lines.{whole_lines};
-ghost use Rattle.log_laws.specs.Ends.{TellsEnds};
+ghost use Rattle.log_laws.specs.Tellings.{TellsEnds};
 ghost use Rattle.log_laws.specs.Reads.{reads_of, told_of_client};
 ghost use Rattle.log_laws.specs.Sights.{run_sights, told_in};
 ghost use Rattle.log_laws.specs.Whys.{PutsWhatWasRead};
@@ -17,9 +17,9 @@ ghost use Rattle.replay_run.specs.Replay.{events_of, settings_of};
 /// helper, and those about which the user is seen to be asked, are those of the run's history. And of each client the
 /// requests of the log are the requests for signatures that the history says were read of it, each once and in their
 /// order, with the second, the key and the message. And they stand in the order of the run's events: of each event
-/// those that it ends, with what came of them by the history (signed, refused before it was put to the helper or behind
-/// that, or left by the client) and whether the user was asked, and behind them those that wait. What was put for a
-/// client since its last request is what that request asks for, behind each front of the run.
+/// those that it ends, with what came of them by the history (signed, refused before it was put to the helper, by the
+/// helper or where that was lost, or left by the client) and whether the user was asked, and behind them those that
+/// wait. What was put for a client since its last request is what that request asks for, behind each front of the run.
 pub fn a_log_is_of_the_records_run()
     ensures seen { (settings : Settings) (text : List ℕ) → sights_of settings text
         ≡ run_sights (first_state (settings_of settings text)) (events_of settings text) }

@@ -10,9 +10,11 @@ use Rattle.log_book.specs.Books.{Book, new_book, open_in, see_all}
 use Rattle.log_book.specs.Peers.{Peer}
 use Rattle.log_book.specs.declared.sight.Sight.{Sight}
 use Rattle.log_book.specs.declared.told.Asked.TheVariants as asks
-use Rattle.log_laws.specs.Ends.{TellsEnds, TellsWhatCame, is_busy, last_request, readings_of, waits_at, waits_with, went_by}
+use Rattle.log_laws.specs.Ends.{is_busy, last_request, readings_of, waits_at, waits_with, went_by}
 use Rattle.log_laws.specs.Ends as law
+use Rattle.log_laws.specs.Refusals.{AreCounted}
 use Rattle.log_laws.specs.Sights.{event_sights, run_sights}
+use Rattle.log_laws.specs.Tellings.{TellsEnds, TellsWhatCame}
 use Rattle.log_laws.proofs.AgreeLemmas.{Matches, nobody, somebody}
 use Rattle.log_laws.proofs.BookLemmas.{at_port, claim_by, claim_of, peer_or}
 use Rattle.log_laws.proofs.CameLemmas.{busy-is, idle-not, waits-child, waits-none}
@@ -21,6 +23,7 @@ use Rattle.log_laws.proofs.EndLemmas.{ends, ends-open, went_at}
 use Rattle.log_laws.proofs.FineLemmas.{Ends, Fine, claim-or, event-ends}
 use Rattle.log_laws.proofs.ShortLemmas.{always-brief}
 use Rattle.log_laws.proofs.SightsLemmas.{book-append, told-append}
+use Rattle.log_laws.proofs.TallyLemmas.{Counts, Tallies, counts-after, counts-first, reasons-event, tallied-after}
 use Rattle.log_laws.proofs.WentLemmas.{went_or}
 
 module _ (number : ℕ) where
@@ -64,11 +67,12 @@ module _ (number : ℕ) where
 -- ---- a run
 
 ends-run : (events : List Timed) (past : List Stamped) (state : State) (book : Book) → IsTied state → AllFit state events
-    → AreBrief state events → ((number : ℕ) → Fine number past state book)
+    → AreBrief state events → ((number : ℕ) → Fine number past state book) → Counts past state
+    → ((number : ℕ) → AreCounted past → Tallies number past (peer_or number (at_port number book)))
     → TellsEnds past state events ((see_all (run_sights state events) book).told ++ open_in (see_all (run_sights state events) book).book)
 unfolding see_all
-ends-run [] past state book tied fits brief fine = λ port. waits-are port past state book (fine port)
-ends-run (timed ∷ later) past state book tied fits brief fine =
+ends-run [] past state book tied fits brief fine counts tallied = λ port. waits-are port past state book (fine port)
+ends-run (timed ∷ later) past state book tied fits brief fine counts tallied =
     let outcome = step state timed.moment timed.event in
     let next : Book = (see_all (event_sights state timed) book).book in
     let sights : List Sight = run_sights outcome.state later in
@@ -80,7 +84,10 @@ ends-run (timed ∷ later) past state book tied fits brief fine =
           ∙ ap (λ b. ((see_all (event_sights state timed) book).told ++ (see_all sights next).told) ++ open_in b) (book-append 0 (event_sights state timed) sights book)
           ∙ append_assoc (see_all (event_sights state timed) book).told (see_all sights next).told (open_in (see_all sights next).book),
       λ number. (each number).ends_are,
-      ends-run later (past ++ stamped outcome) outcome.state next (step-fated state timed.moment timed.event tied).tied fits.1 brief.2 (λ number. (each number).fine_after),
+      λ number few. reasons-event number past state timed.moment timed.event tied book (fine number) fits.0 brief.0 brief.1 (each number) counts (tallied number) few,
+      ends-run later (past ++ stamped outcome) outcome.state next (step-fated state timed.moment timed.event tied).tied fits.1 brief.2 (λ number. (each number).fine_after)
+          (counts-after past state timed counts)
+          (λ number few. tallied-after number past state timed.moment timed.event tied book (fine number) fits.0 brief.0 brief.1 (each number) counts (tallied number) few),
     )
 
 -- from the agent's start on
@@ -88,3 +95,4 @@ pub tells-what-came : (settings : Settings) (events : List Timed) → TellsWhatC
 tells-what-came settings events fits =
     ends-run events [] (first_state settings) new_book (first-tied settings) fits (always-brief settings events)
     (λ number. record { alone = tt; matches = nobody (λ port found. absurd (cc)); fares = λ port found door busy. absurd (busy refl); goes = λ port found door busy. absurd (busy refl) })
+    (counts-first settings) (λ number few busy. absurd (busy refl))

@@ -11,7 +11,7 @@ use Rattle.agent_model.specs.Step.{took_some}
 use Rattle.agent_model.proofs.MakeLemmas.{IsOf, takes}
 use Rattle.log_book.specs.Peers.{Peer}
 use Rattle.log_book.specs.declared.told.Asked.TheVariants as asks
-use Rattle.log_laws.specs.Ends.{Came, End, Left, Request, TellsEnds, TellsWhatCame, Went, ask_in, came_at, came_by, ended_at, ends_at, ends_with, is_busy, last_request, readings_of, waits_at, waits_with, went_by}
+use Rattle.log_laws.specs.Ends.{Came, End, Left, Request, Went, ask_in, came_at, came_by, ended_at, ends_at, ends_with, is_busy, last_request, readings_of, waits_at, waits_with, went_by}
 use Rattle.log_laws.specs.Ends as law
 use Rattle.log_laws.proofs.BookLemmas.{AreAlike, both, claim-alike, claim_of, neither, peer_or}
 use Rattle.log_laws.proofs.ClientLemmas.{Client, idle, taking, waiting}

@@ -15,14 +15,17 @@ use Rattle.agent_model.specs.Sound.{IsTied}
 use Rattle.agent_model.specs.State.{Fits, Port, State, find_port, is_client, owed_as, owed_by, owed_of, role_of}
 use Rattle.agent_model.specs.Step.{handle, step, took_some}
 use Rattle.agent_model.specs.Time.{at_moment, time_passes}
+use Rattle.agent_model.proofs.ActionLemmas.{Each, each-append}
 use Rattle.agent_model.proofs.FatedLemmas.{step-fated}
 use Rattle.agent_model.proofs.MakeLemmas.{Change, IsOf, hears, takes}
 use Rattle.agent_model.proofs.TimeKeptLemmas.{keeps_time-handle}
 use Rattle.agent_model.proofs.TimeLemmas.{AreEnds, time_passes-ends}
 use Rattle.log_book.specs.Books.{Book, ends_at as ends_in, see_all}
-use Rattle.log_book.specs.Peers.{Peer, answered, ended_by, looked, sent_more}
+use Rattle.log_book.specs.Peers.{Peer, answered, answered_by, ended_by, looked, looked_by, read_next, sent_more}
+use Rattle.log_book.specs.Requests.{next_in}
 use Rattle.log_book.specs.declared.sight.Sight.{Sight}
 use Rattle.log_book.specs.declared.sight.What.TheVariants as what
+use Rattle.log_book.specs.declared.told.Asked.{Asked}
 use Rattle.log_book.specs.declared.told.Asked.TheVariants as asks
 use Rattle.log_laws.specs.Ends.{Came, End, Left, Request, Went, ask_in, came_at, came_by, ended_at, ends_at, ends_with, is_busy, last_request, readings_of, went_by, went_told}
 use Rattle.log_laws.specs.Ends as law
@@ -37,12 +40,43 @@ use Rattle.log_laws.proofs.FareLemmas.{Fared, Fares, goes}
 use Rattle.log_laws.proofs.LookLemmas.{claim}
 use Rattle.log_laws.proofs.OwnLemmas.{Looks, heard-looks, took-takes}
 use Rattle.log_laws.proofs.PastLemmas.{last-more, more_done, others-step, stamps}
+use Rattle.log_laws.proofs.ReadLemmas.{IsOther, ends-others}
 use Rattle.log_laws.proofs.SightsLemmas.{book-append, brings-one}
 use Rattle.log_laws.proofs.StayLemmas.{ended-gone}
 use Rattle.log_laws.proofs.TellLemmas.{step-wall, told-event}
 use Rattle.log_laws.proofs.TurnLemmas.{Turns, gets, leaves, rests, time-turns}
-use Rattle.log_laws.proofs.WentLemmas.{GoesSo, asked-alike, book-one, goes-append, goes_on, peer-went, unmarked, unmarked-ends, went-append, went-came, went-given, went-over, went-sent, went_or, wents}
+use Rattle.log_laws.proofs.WentLemmas.{GoesSo, asked-alike, at-given, at-over, at-sent, book-one, goes-append, goes_on, peer-went, unmarked, unmarked-ends, went-append, went-came, went_or, wents}
 use Rattle.log_laws.proofs.WhyLemmas.{unmarked-gone}
+
+-- ---- a client that waits yet for an answer to what was put
+
+abbrev IsSame : (old new : Peer) → Type 0
+IsSame old new = (before : ℕ) → new.course.put ≡ Some before → new.asked ≢ asks.Nothing
+    → (new.course ≡ old.course) × (old.asked ≢ asks.Nothing)
+
+looked-same : (wall : ℕ) (peer : Peer) → IsSame peer (looked wall peer)
+unfolding looked
+looked-same wall peer = by_asked peer.asked refl
+  where
+    by_next : (next : Option (List ℕ × List ℕ)) → peer.asked ≡ asks.Nothing → IsSame peer (read_next wall next peer)
+    by_next None none before put busy = absurd (busy none)
+    by_next (Some next) none before put busy = let no : None ≡ Some before = put in absurd (cc)
+
+    by_asked : (asked : Asked) → peer.asked ≡ asked → IsSame peer (looked_by wall asked peer)
+    by_asked asks.Nothing is before put busy = by_next (next_in peer.sent) is before put busy
+    by_asked (asks.Signing blob message) is before put busy = (refl, busy)
+    by_asked (asks.Adding blob comment) is before put busy = (refl, busy)
+    by_asked asks.Other is before put busy = (refl, busy)
+
+answered-same : (wall : ℕ) (bytes : List ℕ) (peer : Peer) → IsSame peer (answered wall bytes peer)
+unfolding answered
+answered-same wall bytes peer = by_next (next_in (peer.given ++ bytes))
+  where
+    by_next : (next : Option (List ℕ × List ℕ)) → IsSame peer (answered_by wall (peer.given ++ bytes) next peer)
+    by_next None before put busy = (refl, busy)
+    by_next (Some next) before put busy =
+        let freed : Peer = record peer { given = next.1; asked = asks.Nothing } in
+        absurd ((looked-same wall freed before put busy).1 refl)
 
 module _ (number : ℕ) where
   -- what a book and a past have of a client is what the agent has
@@ -86,9 +120,16 @@ module _ (number : ℕ) where
     abbrev peer : Peer
     peer = peer_or number (at_port number book)
 
+    -- a client that waits, behind the bytes that go over its socket, for an answer to what was put did so before, and
+    -- the event reads no request of it
+    abbrev pub Keeps : Option Peer → Type 0
+    Keeps found = (before : ℕ) → (peer_or number found).course.put ≡ Some before → (peer_or number found).asked ≢ asks.Nothing
+        → ((peer_or number found).course ≡ peer.course) × (peer.asked ≢ asks.Nothing) × Each (IsOther number) outcome.actions
+
     pub record Ends : Type 0 where
       pub ends_are : ends number (see_all (event_sights state timed) book).told ≡ ends_at number past state timed
       pub fine_after : Fine past_after outcome.state book_after
+      pub keeps : Keeps (at_port number (see_all over book).book)
 
     -- how far the request of a client goes by the event
     abbrev goes_to : Option Peer → Option Went
@@ -96,18 +137,18 @@ module _ (number : ℕ) where
 
     -- by what the bytes tell that go over the client's socket, and what they leave
     finish : (first : List Reading) (found : Option Peer) (now : List End) → Brings number first found (see_all over book)
-        → wents (at_port number (see_all over book).book) ≡ wents found
+        → at_port number (see_all over book).book ≡ found
         → ends number (see_all over book).told ≡ now
         → now ++ left_ends wall (is_among number outcome.closes) (went_or (goes_to found)) found ≡ ends_at number past state timed
         → ((port : Port) → find_port number outcome.state.ports ≡ Some port → port.door ≡ Clients → Fares number past_after port (peer_or number found))
         → ((port : Port) → find_port number outcome.state.ports ≡ Some port → port.door ≡ Clients
         → (peer_or number found).asked ≢ asks.Nothing → (request : Request) → last_request number past_after ≡ Some request
         → goes_to found ≡ Some (went_by number request.later))
-        → Ends
-    finish first found now bytes exact tells total fares goes =
+        → Keeps found → Ends
+    finish first found now bytes exact tells total fares goes keeps =
         let told = told-event number state moment event tied book fine.alone brief_then brief_after fine.matches fits in
         record {
-          ends_are = ends-event number wall over outcome book found bytes.alone bytes.found exact
+          ends_are = ends-event number wall over outcome book found bytes.alone bytes.found (ap wents exact)
               ∙ ap (λ (l : List End). l ++ left_ends wall (is_among number outcome.closes) (went_or (goes_to found)) found) tells
               ∙ total;
           fine_after = record {
@@ -117,9 +158,10 @@ module _ (number : ℕ) where
             goes = λ port there door busy request last.
                 ap (λ b. wents (at_port number b)) (book-append number over (came_of wall outcome) book)
                 ∙ went-came number wall outcome (see_all over book).book (open-after number state moment event tied port there)
-                ∙ ap (option_map (goes_on number outcome.actions)) exact
+                ∙ ap (option_map (goes_on number outcome.actions)) (ap wents exact)
                 ∙ goes port there door (asked-alike number (alike port there) busy) request last;
           };
+          keeps = subst Keeps (sym exact) keeps;
         }
       where
         alike : (port : Port) → find_port number outcome.state.ports ≡ Some port → AreAlike found (at_port number book_after)
@@ -134,12 +176,13 @@ module _ (number : ℕ) where
     nobody-ends there none =
         finish [] None []
         (subst (λ o. Brings number [] o (see_all over book)) none (bytes-apart number state moment event tied book fine.alone (λ of. silent)))
-        (ap wents (went-over number moment state event book (λ piece is. silent) (λ count is. silent) ∙ none))
+        (at-over number moment state event book (λ piece is. silent) (λ count is. silent) ∙ none)
         (ends-over number moment state event book (λ count is. silent))
         (left-none wall (is_among number outcome.closes) (went_or (goes_to None)) None refl
         ∙ sym (ends-child number timed (find_port number state.ports) (last_request number past) there))
         (λ port found door busy. absurd (busy refl))
         (λ port found door busy. absurd (busy refl))
+        (λ before put busy. absurd (busy refl))
       where
         by_found : (found : Option Port) → ((port : Port) → found ≡ Some port → port.door ≡ Children) → is_of_client found ≡ false
         by_found None child = refl
@@ -220,9 +263,12 @@ module _ (number : ℕ) where
         tells : ends number (see_all over book).told ≡ []
         tells = ends-over number moment state event book (λ count is. absurd (foreign (took_some count, takes count is)))
 
-        exact : wents (at_port number (see_all over book).book) ≡ wents (at_port number book)
-        exact = ap wents (went-over number moment state event book
-            (λ piece is. absurd (foreign (heard_more piece, hears piece is))) (λ count is. absurd (foreign (took_some count, takes count is))))
+        exact : at_port number (see_all over book).book ≡ at_port number book
+        exact = at-over number moment state event book
+            (λ piece is. absurd (foreign (heard_more piece, hears piece is))) (λ count is. absurd (foreign (took_some count, takes count is)))
+
+        keeps : Keeps (at_port number book)
+        keeps before put busy = (refl, busy, others-step number state moment event tied foreign)
 
         idle-ends : is_busy port.waits port.owed ≡ false → peer.asked ≡ asks.Nothing → claim peer ≡ [] → Ends
         idle-ends idle_port none unclaimed =
@@ -231,6 +277,7 @@ module _ (number : ℕ) where
             ∙ sym (ends-is ∙ ends-none number timed port (last_request number past) (came-idle number port event foreign idle_port)))
             (λ other there client_there busy. absurd (busy none))
             (λ other there client_there busy. absurd (busy none))
+            keeps
 
         left-ends : event ≡ Ended number → peer.asked ≢ asks.Nothing → Ends
         left-ends is busy =
@@ -253,6 +300,7 @@ module _ (number : ℕ) where
             ∙ sym (ends-is ∙ ap (ends_with number timed (Some port)) fared.last ∙ ends-some number timed port fared.request Left door came))
             (λ other there client_there. let no : None ≡ Some other = sym gone ∙ there in absurd (cc))
             (λ other there client_there. let no : None ≡ Some other = sym gone ∙ there in absurd (cc))
+            keeps
 
         goes-ends : event ≢ Ended number → peer.asked ≢ asks.Nothing → Ends
         goes-ends open_yet busy =
@@ -274,6 +322,7 @@ module _ (number : ℕ) where
             ap (option_map (goes_on number outcome.actions)) (fine.goes port found door busy fared.request fared.last)
             ∙ ap Some (sym (went-append number fared.request.later outcome.actions))
             ∙ ap (λ (r : Request). Some (went_by number r.later)) same)
+            keeps
 
         busy-ends : peer.asked ≢ asks.Nothing → (event ≡ Ended number) ⊎ (event ≢ Ended number) → Ends
         busy-ends busy (inl is) = left-ends is busy
@@ -314,6 +363,19 @@ module _ (number : ℕ) where
           ap Some (goes-append number (handle event opened).actions (went_told new.course) (time_passes-ends moment state)
           ∙ looks.goes busy request (sym (ap (last_request number) past-is) ∙ last))
 
+      -- what is left of a client behind a look
+      looked-keeps : (new : Peer) → Looks number wall past_then outcome.state.moment (step-wall state moment event) new (handle event opened)
+          → ((before : ℕ) → new.course.put ≡ Some before → new.asked ≢ asks.Nothing → (new.course ≡ peer.course) × (peer.asked ≢ asks.Nothing))
+          → Keeps (Some new)
+      looked-keeps new looks same before put busy =
+          let was = same before put busy in (
+            was.0,
+            was.1,
+            each-append (IsOther number) (time_passes moment state).actions (handle event opened).actions
+                (ends-others number (time_passes-ends moment state))
+                (subst (Each (IsOther number)) (sym (looks.unread before put busy)) tt),
+          )
+
       heard-ends : (piece : List ℕ) → event ≡ Heard number piece → Ends
       heard-ends piece is =
           finish [] (Some new) [] bytes exact
@@ -321,17 +383,18 @@ module _ (number : ℕ) where
           (looked-total new looks ∙ sym (ends-is ∙ ends-none number timed port (last_request number past) (λ later. ap (came_at number port later) is)))
           (looked-fares new looks)
           (looked-goes new looks)
+          (looked-keeps new looks (looked-same wall (sent_more piece peer)))
         where
           new : Peer
           new = looked wall (sent_more piece peer)
 
-          exact : wents (at_port number (see_all over book).book) ≡ wents (Some new)
+          exact : at_port number (see_all over book).book ≡ Some new
           exact =
               let sight : Sight = seen_at wall state.under_way.link.faults (what.Sent number piece) in
-              ap (λ e. wents (at_port number (see_all (goes_over moment state e) book).book)) is
-              ∙ ap (λ b. wents (at_port number (see_all (of_client b sight) book).book)) is-client
-              ∙ ap (λ b. wents (at_port number b)) (book-one number sight book)
-              ∙ went-sent number wall state.under_way.link.faults book piece
+              ap (λ e. at_port number (see_all (goes_over moment state e) book).book) is
+              ∙ ap (λ b. at_port number (see_all (of_client b sight) book).book) is-client
+              ∙ ap (at_port number) (book-one number sight book)
+              ∙ at-sent number wall state.under_way.link.faults book piece
 
           bytes : Brings number [] (Some new) (see_all over book)
           bytes =
@@ -371,7 +434,7 @@ module _ (number : ℕ) where
           by_peer : (who : Option Peer) → at_port number book ≡ who → peer.asked ≢ asks.Nothing
               → Brings number (ended_claim (ended_by given peer)) (Some (answered wall given peer)) (see_all over book)
               × (ends number (see_all over book).told ≡ ended_ends wall (ended_by given peer))
-              × (wents (at_port number (see_all over book).book) ≡ wents (Some (answered wall given peer)))
+              × (at_port number (see_all over book).book ≡ Some (answered wall given peer))
           by_peer None who busy = absurd (busy (ap (λ o. (peer_or number o).asked) who))
           by_peer (Some one) who busy =
               let same : peer ≡ one = ap (peer_or number) who in
@@ -385,9 +448,10 @@ module _ (number : ℕ) where
                     ∙ ends-one number sight book
                     ∙ ends-given number wall state.under_way.link.faults book given
                     ∙ ap (ended_ends wall) in_book,
-                ap (λ l. wents (at_port number (see_all l book).book)) over-is
-                    ∙ ap (λ b. wents (at_port number b)) (book-one number sight book)
-                    ∙ ap wents (went-given number wall state.under_way.link.faults book given ∙ left),
+                ap (λ l. at_port number (see_all l book).book) over-is
+                    ∙ ap (at_port number) (book-one number sight book)
+                    ∙ at-given number wall state.under_way.link.faults book given
+                    ∙ left,
               )
 
           by_client : Client port peer → Ends
@@ -451,6 +515,7 @@ module _ (number : ℕ) where
                   ∙ sym (ends-is ∙ ap (ends_with number timed (Some port)) fared.last))
                   (looked-fares (answered wall given peer) looks)
                   (looked-goes (answered wall given peer) looks)
+                  (looked-keeps (answered wall given peer) looks (answered-same wall given peer))
 
       client-ends : Ends
       client-ends = by_event_of event refl fits

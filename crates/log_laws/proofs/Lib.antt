@@ -11,10 +11,12 @@ pub mod LookLemmas
 pub mod OwnLemmas
 pub mod PastLemmas
 pub mod ReadLemmas
+pub mod RefusalLemmas
 pub mod SeenLemmas
 pub mod ShortLemmas
 pub mod SightsLemmas
 pub mod StayLemmas
+pub mod TallyLemmas
 pub mod TellLemmas
 pub mod TurnLemmas
 pub mod WentLemmas

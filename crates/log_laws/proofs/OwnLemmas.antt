@@ -99,6 +99,8 @@ module _ (number wall : ℕ) (past : List Stamped) (at_once : Moment) (same_wall
         → Fares number (past ++ stamps at_once outcome.actions) port new
     pub gone : find_port number outcome.state.ports ≡ None → claim new ≡ []
     pub goes : GoesSo number (past ++ stamps at_once outcome.actions) outcome.actions new
+    -- where it waits for an answer to what was put, it has read nothing
+    pub unread : (before : ℕ) → new.course.put ≡ Some before → new.asked ≢ asks.Nothing → outcome.actions ≡ []
 
   module _ (state : State) (port : Port) (found : find_port number state.ports ≡ Some port) where
     -- nothing is looked at
@@ -113,6 +115,7 @@ module _ (number wall : ℕ) (past : List Stamped) (at_once : Moment) (same_wall
               subst (λ p. Fared number (past ++ []) p peer) is (subst (λ l. Fared number l port peer) (sym (append-nil past)) (fares busy));
           gone = λ none. let no : Some port ≡ None = sym found ∙ none in absurd (cc);
           goes = λ busy request last. goes busy request (sym (ap (last_request number) (append-nil past)) ∙ last);
+          unread = λ before put busy. refl;
         })
 
     module _ (peer : Peer) (nothing : port.waits ≡ Nothing) (unowed : port.owed ≡ []) (sent : peer.sent ≡ port.heard) (given : peer.given ≡ []) (none : peer.asked ≡ asks.Nothing) where
@@ -121,6 +124,7 @@ module _ (number wall : ℕ) (past : List Stamped) (at_once : Moment) (same_wall
         fares = λ other there short busy. absurd (busy none);
         gone = λ gone. ap (λ a. claim_by a peer.course.since) none;
         goes = λ busy. absurd (busy none);
+        unread = λ before put busy. absurd (busy none);
       }
 
       same_number : port.number ≡ number
@@ -140,6 +144,7 @@ module _ (number wall : ℕ) (past : List Stamped) (at_once : Moment) (same_wall
             let both : Some own_request ≡ Some request = sym last-request ∙ last in
             let it : own_request ≡ request = cc in
             ap (λ (r : Request). went_by number r.later) it;
+        unread = λ before put busy. let no : None ≡ Some before = put in absurd (cc);
       }
         where
           body : List ℕ

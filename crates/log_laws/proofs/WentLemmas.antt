@@ -159,97 +159,101 @@ module _ (number : ℕ) where
   its_number : (number == number) ≡ true
   its_number = grind (arith, nat_tests)
 
-  abbrev went_where : (Went → Went) → Bool → Option Went → Option Went
-  went_where g is found = option_map (λ (went : Went). if is then g went else went) found
+  -- the client is changed by f where this is so
+  abbrev pub marked_by : (Peer → Peer) → Bool → Option Peer → Option Peer
+  marked_by f is found = option_map (λ (peer : Peer). if is then f peer else peer) found
 
-  where-not : (g : Went → Went) (found : Option Went) → went_where g false found ≡ found
-  where-not g None = refl
-  where-not g (Some went) = refl
+  by-not : (f : Peer → Peer) (found : Option Peer) → marked_by f false found ≡ found
+  by-not f None = refl
+  by-not f (Some peer) = refl
 
-  changed : (port : ℕ) (f : Peer → Peer) (g : Went → Went) → ((p : Peer) → (f p).port ≡ p.port)
-      → ((p : Peer) → went_told (f p).course ≡ g (went_told p.course)) → (peers : List Peer)
-      → wents (find_peer number (change_peer port f peers)) ≡ went_where g (number == port) (wents (find_peer number peers))
-  changed port f g keeps goes peers = elim (cases_eq number port) [
+  changed : (port : ℕ) (f : Peer → Peer) → ((p : Peer) → (f p).port ≡ p.port) → (peers : List Peer)
+      → find_peer number (change_peer port f peers) ≡ marked_by f (number == port) (find_peer number peers)
+  changed port f keeps peers = elim (cases_eq number port) [
     | inl equal ↦
         (let is : (number == port) ≡ true = grind (arith, nat_tests) in
-        ap (λ n. wents (find_peer number (change_peer n f peers))) (sym equal)
-        ∙ ap wents (find_by-change port_of number f peers keeps)
+        ap (λ n. find_peer number (change_peer n f peers)) (sym equal)
+        ∙ find_by-change port_of number f peers keeps
         ∙ by_found (find_peer number peers)
-        ∙ sym (ap (λ b. went_where g b (wents (find_peer number peers))) is))
+        ∙ sym (ap (λ b. marked_by f b (find_peer number peers)) is))
     | inr other ↦
         (let is : (number == port) ≡ false = grind (arith, nat_tests) in
-        ap wents (find_by-change_apart port_of number port f peers keeps other)
-        ∙ sym (ap (λ b. went_where g b (wents (find_peer number peers))) is ∙ where-not g (wents (find_peer number peers))))
+        find_by-change_apart port_of number port f peers keeps other
+        ∙ sym (ap (λ b. marked_by f b (find_peer number peers)) is ∙ by-not f (find_peer number peers)))
   ]
     where
-      by_found : (found : Option Peer) → wents (option_map f found) ≡ went_where g true (wents found)
+      by_found : (found : Option Peer) → option_map f found ≡ marked_by f true found
       by_found None = refl
-      by_found (Some peer) = ap Some (goes peer)
-
-  abbrev raise : Went → Went
-  raise went = record went { raised = true }
-
-  abbrev puts : Went → Went
-  puts went = record went { put = true }
+      by_found (Some peer) = refl
 
   raise-one : (wall faults port : ℕ) (book : Book)
-      → wents (at_port number (see (raised_sight wall faults port) book).book) ≡ went_where raise (number == port) (wents (at_port number book))
+      → at_port number (see (raised_sight wall faults port) book).book ≡ marked_by raised_at (number == port) (at_port number book)
   unfolding see
-  raise-one wall faults port book = changed port raised_at raise (λ p. refl) (λ p. refl) book.peers
+  raise-one wall faults port book = changed port raised_at (λ p. refl) book.peers
 
   put-one : (wall faults port : ℕ) (book : Book)
-      → wents (at_port number (see (put_sight wall faults port) book).book) ≡ went_where puts (number == port) (wents (at_port number book))
+      → at_port number (see (put_sight wall faults port) book).book ≡ marked_by (put_at faults) (number == port) (at_port number book)
   unfolding see
-  put-one wall faults port book = changed port (put_at faults) puts (λ p. refl) (λ p. refl) book.peers
+  put-one wall faults port book = changed port (put_at faults) (λ p. refl) book.peers
 
-  both-where : (g : Went → Went) → ((went : Went) → g (g went) ≡ g went) → (a b : Bool) (found : Option Went)
-      → went_where g b (went_where g a found) ≡ went_where g (a || b) found
-  both-where g same a b None = refl
-  both-where g same true true (Some went) = ap Some (same went)
-  both-where g same true false (Some went) = refl
-  both-where g same false true (Some went) = refl
-  both-where g same false false (Some went) = refl
+  both-marked : (f : Peer → Peer) → ((p : Peer) → f (f p) ≡ f p) → (a b : Bool) (found : Option Peer)
+      → marked_by f b (marked_by f a found) ≡ marked_by f (a || b) found
+  both-marked f same a b None = refl
+  both-marked f same true true (Some peer) = ap Some (same peer)
+  both-marked f same true false (Some peer) = refl
+  both-marked f same false true (Some peer) = refl
+  both-marked f same false false (Some peer) = refl
 
-  marks : (f : ℕ → Sight) (g : Went → Went) → ((went : Went) → g (g went) ≡ g went)
-      → ((port : ℕ) (book : Book) → wents (at_port number (see (f port) book).book) ≡ went_where g (number == port) (wents (at_port number book)))
+  marks : (g : ℕ → Sight) (f : Peer → Peer) → ((p : Peer) → f (f p) ≡ f p)
+      → ((port : ℕ) (book : Book) → at_port number (see (g port) book).book ≡ marked_by f (number == port) (at_port number book))
       → (ports : List ℕ) (book : Book)
-      → wents (at_port number (see_all (map f ports) book).book) ≡ went_where g (is_among number ports) (wents (at_port number book))
+      → at_port number (see_all (map g ports) book).book ≡ marked_by f (is_among number ports) (at_port number book)
   unfolding see_all
-  marks f g same one [] book = sym (where-not g (wents (at_port number book)))
-  marks f g same one (port ∷ ports) book =
-      marks f g same one ports (see (f port) book).book
-      ∙ ap (went_where g (is_among number ports)) (one port book)
-      ∙ both-where g same (number == port) (is_among number ports) (wents (at_port number book))
+  marks g f same one [] book = sym (by-not f (at_port number book))
+  marks g f same one (port ∷ ports) book =
+      marks g f same one ports (see (g port) book).book
+      ∙ ap (marked_by f (is_among number ports)) (one port book)
+      ∙ both-marked f same (number == port) (is_among number ports) (at_port number book)
 
   -- questions and requests that are put
   abbrev pub marked : ℕ → ℕ → List Action → Book → Book
   marked wall faults actions book = (see_all (map (put_sight wall faults) (put_in actions))
       (see_all (map (raised_sight wall faults) (raised_in actions)) book).book).book
 
+  -- the client behind them
+  abbrev pub marked_at : ℕ → List Action → Option Peer → Option Peer
+  marked_at faults actions found =
+      marked_by (put_at faults) (is_among number (put_in actions)) (marked_by raised_at (is_among number (raised_in actions)) found)
+
+  at-marked : (wall faults : ℕ) (actions : List Action) (book : Book)
+      → at_port number (marked wall faults actions book) ≡ marked_at faults actions (at_port number book)
+  at-marked wall faults actions book =
+      marks (put_sight wall faults) (put_at faults) (λ p. refl) (put-one wall faults) (put_in actions) (see_all (map (raised_sight wall faults) (raised_in actions)) book).book
+      ∙ ap (marked_by (put_at faults) (is_among number (put_in actions)))
+      (marks (raised_sight wall faults) raised_at (λ p. refl) (raise-one wall faults) (raised_in actions) book)
+
   pub went-marked : (wall faults : ℕ) (actions : List Action) (book : Book)
       → wents (at_port number (marked wall faults actions book)) ≡ option_map (goes_on actions) (wents (at_port number book))
   went-marked wall faults actions book =
-      marks (put_sight wall faults) puts (λ went. refl) (put-one wall faults) (put_in actions) (see_all (map (raised_sight wall faults) (raised_in actions)) book).book
-      ∙ ap (went_where puts (is_among number (put_in actions)))
-      (marks (raised_sight wall faults) raise (λ went. refl) (raise-one wall faults) (raised_in actions) book)
-      ∙ by_marks (is_among number (raised_in actions)) (is_among number (put_in actions)) (wents (at_port number book))
+      ap wents (at-marked wall faults actions book)
+      ∙ by_marks (is_among number (raised_in actions)) (is_among number (put_in actions)) (at_port number book)
     where
-      by_marks : (a b : Bool) (found : Option Went)
-          → went_where puts b (went_where raise a found)
-          ≡ option_map (λ (went : Went). let other : Went = record { raised = went.raised || a; put = went.put || b } in other) found
+      by_marks : (a b : Bool) (found : Option Peer)
+          → wents (marked_by (put_at faults) b (marked_by raised_at a found))
+          ≡ option_map (λ (went : Went). let other : Went = record { raised = went.raised || a; put = went.put || b } in other) (wents found)
       by_marks a b None = refl
-      by_marks true true (Some went) =
-          sym (ap (λ r. let other : Went = record { raised = r; put = went.put || true } in Some other) (or-true went.raised)
-          ∙ ap (λ p. let other : Went = record { raised = true; put = p } in Some other) (or-true went.put))
-      by_marks true false (Some went) =
-          sym (ap (λ r. let other : Went = record { raised = r; put = went.put || false } in Some other) (or-true went.raised)
-          ∙ ap (λ p. let other : Went = record { raised = true; put = p } in Some other) (or-false went.put))
-      by_marks false true (Some went) =
-          sym (ap (λ r. let other : Went = record { raised = r; put = went.put || true } in Some other) (or-false went.raised)
-          ∙ ap (λ p. let other : Went = record { raised = went.raised; put = p } in Some other) (or-true went.put))
-      by_marks false false (Some went) =
-          sym (ap (λ r. let other : Went = record { raised = r; put = went.put || false } in Some other) (or-false went.raised)
-          ∙ ap (λ p. let other : Went = record { raised = went.raised; put = p } in Some other) (or-false went.put))
+      by_marks true true (Some peer) =
+          sym (ap (λ r. let other : Went = record { raised = r; put = (went_told peer.course).put || true } in Some other) (or-true peer.course.raised)
+          ∙ ap (λ p. let other : Went = record { raised = true; put = p } in Some other) (or-true (went_told peer.course).put))
+      by_marks true false (Some peer) =
+          sym (ap (λ r. let other : Went = record { raised = r; put = (went_told peer.course).put || false } in Some other) (or-true peer.course.raised)
+          ∙ ap (λ p. let other : Went = record { raised = true; put = p } in Some other) (or-false (went_told peer.course).put))
+      by_marks false true (Some peer) =
+          sym (ap (λ r. let other : Went = record { raised = r; put = (went_told peer.course).put || true } in Some other) (or-false peer.course.raised)
+          ∙ ap (λ p. let other : Went = record { raised = peer.course.raised; put = p } in Some other) (or-true (went_told peer.course).put))
+      by_marks false false (Some peer) =
+          sym (ap (λ r. let other : Went = record { raised = r; put = (went_told peer.course).put || false } in Some other) (or-false peer.course.raised)
+          ∙ ap (λ p. let other : Went = record { raised = peer.course.raised; put = p } in Some other) (or-false (went_told peer.course).put))
 
   -- ---- ports of others are closed
 
@@ -274,26 +278,37 @@ module _ (number : ℕ) where
           rest some ∙ closed-same wall faults port book apart
 
   -- what came of an event that leaves its port open
-  pub went-came : (wall : ℕ) (outcome : Outcome) (book : Book) → is_among number outcome.closes ≡ false
-      → wents (at_port number (see_all (came_of wall outcome) book).book) ≡ option_map (goes_on outcome.actions) (wents (at_port number book))
-  went-came wall outcome book open_yet =
+  came-marked : (wall : ℕ) (outcome : Outcome) (book : Book) → is_among number outcome.closes ≡ false
+      → at_port number (see_all (came_of wall outcome) book).book
+      ≡ at_port number (marked wall outcome.state.under_way.link.faults outcome.actions book)
+  came-marked wall outcome book open_yet =
       let faults = outcome.state.under_way.link.faults in
       let raises = map (raised_sight wall faults) (raised_in outcome.actions) in
       let put = map (put_sight wall faults) (put_in outcome.actions) in
       let closes = map (closed_sight wall faults) outcome.closes in
-      ap (λ b. wents (at_port number b)) (book-append number raises (put ++ closes) book ∙ book-append number put closes (see_all raises book).book)
-      ∙ ap wents (closed-others wall faults outcome.closes (marked wall faults outcome.actions book) open_yet)
-      ∙ went-marked wall faults outcome.actions book
+      ap (at_port number) (book-append number raises (put ++ closes) book ∙ book-append number put closes (see_all raises book).book)
+      ∙ closed-others wall faults outcome.closes (marked wall faults outcome.actions book) open_yet
+
+  pub at-came : (wall : ℕ) (outcome : Outcome) (book : Book) → is_among number outcome.closes ≡ false
+      → at_port number (see_all (came_of wall outcome) book).book
+      ≡ marked_at outcome.state.under_way.link.faults outcome.actions (at_port number book)
+  at-came wall outcome book open_yet =
+      came-marked wall outcome book open_yet ∙ at-marked wall outcome.state.under_way.link.faults outcome.actions book
+
+  pub went-came : (wall : ℕ) (outcome : Outcome) (book : Book) → is_among number outcome.closes ≡ false
+      → wents (at_port number (see_all (came_of wall outcome) book).book) ≡ option_map (goes_on outcome.actions) (wents (at_port number book))
+  went-came wall outcome book open_yet =
+      ap wents (came-marked wall outcome book open_yet) ∙ went-marked wall outcome.state.under_way.link.faults outcome.actions book
 
   -- ---- bytes
 
   module _ (wall faults : ℕ) (book : Book) where
     -- a client sends
-    pub went-sent : (piece : List ℕ)
-        → wents (at_port number (see (seen_at wall faults (what.Sent number piece)) book).book)
-        ≡ wents (Some (looked wall (sent_more piece (peer_or number (at_port number book)))))
+    pub at-sent : (piece : List ℕ)
+        → at_port number (see (seen_at wall faults (what.Sent number piece)) book).book
+        ≡ Some (looked wall (sent_more piece (peer_or number (at_port number book))))
     unfolding see
-    went-sent piece = by_found (at_port number book) refl
+    at-sent piece = by_found (at_port number book) refl
       where
         f : Peer → Peer
         f peer = looked wall (sent_more piece peer)
@@ -302,17 +317,17 @@ module _ (number : ℕ) where
         keeps peer = port-looked wall (sent_more piece peer)
 
         by_found : (found : Option Peer) → at_port number book ≡ found
-            → wents (find_peer number (sends_by f number (at_port number book) book.peers)) ≡ wents (Some (f (peer_or number found)))
+            → find_peer number (sends_by f number (at_port number book) book.peers) ≡ Some (f (peer_or number found))
         by_found None is =
-            ap (λ o. wents (find_peer number (sends_by f number o book.peers))) is
-            ∙ ap wents (find-append (has_key port_of number) book.peers (f (new_peer number) ∷ []))
-            ∙ ap (λ o. wents (option_or o (cond (has_key port_of number (f (new_peer number))) (Some (f (new_peer number))) None))) is
-            ∙ ap (λ n. wents (cond (n == number) (Some (f (new_peer number))) None)) (keeps (new_peer number))
-            ∙ ap (λ b. wents (cond b (Some (f (new_peer number))) None)) its_number
+            ap (λ o. find_peer number (sends_by f number o book.peers)) is
+            ∙ find-append (has_key port_of number) book.peers (f (new_peer number) ∷ [])
+            ∙ ap (λ o. option_or o (cond (has_key port_of number (f (new_peer number))) (Some (f (new_peer number))) None)) is
+            ∙ ap (λ n. cond (n == number) (Some (f (new_peer number))) None) (keeps (new_peer number))
+            ∙ ap (λ b. cond b (Some (f (new_peer number))) None) its_number
         by_found (Some peer) is =
-            ap (λ o. wents (find_peer number (sends_by f number o book.peers))) is
-            ∙ ap wents (find_by-change port_of number f book.peers keeps)
-            ∙ ap (λ o. wents (option_map f o)) is
+            ap (λ o. find_peer number (sends_by f number o book.peers)) is
+            ∙ find_by-change port_of number f book.peers keeps
+            ∙ ap (option_map f) is
 
     sent-apart : (port : ℕ) (piece : List ℕ) → number ≢ port
         → at_port number (see (seen_at wall faults (what.Sent port piece)) book).book ≡ at_port number book
@@ -346,10 +361,10 @@ module _ (number : ℕ) where
     gift port bytes None = refl
     gift port bytes (Some ended) = refl
 
-    pub went-given : (bytes : List ℕ)
+    pub at-given : (bytes : List ℕ)
         → at_port number (see (seen_at wall faults (what.Given number bytes)) book).book ≡ option_map (answered wall bytes) (at_port number book)
     unfolding see
-    went-given bytes =
+    at-given bytes =
         gift number bytes (ends_at bytes (at_port number book))
         ∙ find_by-change port_of number (answered wall bytes) book.peers (port-answered wall bytes)
 
@@ -370,11 +385,11 @@ module _ (number : ℕ) where
   book-none book = refl
 
   -- the bytes that go over other sockets leave it
-  pub went-over : (moment : Moment) (state : State) (event : Happening) (book : Book)
+  pub at-over : (moment : Moment) (state : State) (event : Happening) (book : Book)
       → ((piece : List ℕ) → event ≡ Heard number piece → is_of_client (find_port number state.ports) ≡ false)
       → ((count : ℕ) → event ≡ Took number count → is_of_client (find_port number state.ports) ≡ false)
       → at_port number (see_all (goes_over moment state event) book).book ≡ at_port number book
-  went-over moment state event book unheard untaken = by_event_of event refl
+  at-over moment state event book unheard untaken = by_event_of event refl
     where
       by_client : (sight : Sight) (is : Bool) → at_port number (see sight book).book ≡ at_port number book
           → at_port number (see_all (of_client is sight) book).book ≡ at_port number book

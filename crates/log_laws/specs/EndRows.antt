@@ -9,6 +9,7 @@ use Rattle.agent_model.specs.Verdicts.{Awaits}
 use Rattle.log_book.specs.Rows.{ask}
 use Rattle.log_laws.specs.Ends.{Came, Request, Went, ask_in, came_by, went_by}
 use Rattle.log_laws.specs.Reads.{Reading}
+use Rattle.log_laws.specs.Refusals.{Reason, reason_for}
 
 -- at this second of the wall clock
 abbrev pub at : ℕ → Action → Stamped
@@ -68,6 +69,10 @@ refuses number = Answered (record { ask = number; asker = 1; answer = answer.Ref
 -- what came of the client's request behind which this was done, where it takes a reply
 abbrev pub came : List Action → Came
 came later = came_by (went_by 1 later).put (ask_in 1 later)
+
+-- whether the helper answered the ask that was put for it, or was lost
+abbrev pub reason : List Action → Option Reason
+reason later = reason_for (ask_in 1 later)
 
 -- it went so far
 abbrev pub went : Bool → Bool → Went

@@ -1,6 +1,6 @@
--- Each line is told by the event at which its request ended, with what came of that: by the run's history (ours). The
--- file is read from its end.
-use Rattle.std.specs.Prelude.{◌≡◌, ℕ, ◌==◌, ◌&&◌, List, [], ◌∷◌, ◌++◌, map, length, Bool, true, false, Option, None, Some, is_some, if◌then◌else◌}
+-- What came of a client's requests for signatures, and at which event: by the run's history, and as it is told (ours).
+-- The file is read from its end.
+use Rattle.std.specs.Prelude.{ℕ, ◌==◌, ◌&&◌, List, [], ◌∷◌, map, length, Bool, true, false, Option, None, Some, is_some, if◌then◌else◌}
 use Rattle.std.specs.List.{cons_option, filter_map}
 use Rattle.std.specs.Option.{option_map, option_or}
 use Rattle.helper_link.specs.declared.answer.Answer.TheVariants as answer
@@ -10,15 +10,14 @@ use Rattle.agent_model.specs.Binds.{agent_request_of}
 use Rattle.agent_model.specs.Events.{Happening, Timed, Joined, Heard, Ended, Took, Started, StartFailed, Tick}
 use Rattle.agent_model.specs.Fates as fates
 use Rattle.agent_model.specs.Fates.{Fate, fate_of}
-use Rattle.agent_model.specs.Runs.{AllFit, Stamped, stamped}
-use Rattle.agent_model.specs.State.{Nothing, OnAsk, OnConfirmation, Port, Settings, State, Waits, find_port, first_state, is_client, is_some_bytes}
-use Rattle.agent_model.specs.Step.{step}
+use Rattle.agent_model.specs.Runs.{Stamped}
+use Rattle.agent_model.specs.State.{Nothing, OnAsk, OnConfirmation, Port, State, Waits, find_port, is_client, is_some_bytes}
 use Rattle.log_book.specs.declared.told.Course.{Course}
 use Rattle.log_book.specs.declared.told.Fate.{Fate as ToldFate}
 use Rattle.log_book.specs.declared.told.Fate.TheVariants as told
 use Rattle.log_book.specs.declared.told.Told.{Told}
 use Rattle.log_laws.specs.Reads.{Reading, asked_by, read_at}
-use Rattle.log_laws.specs.Sights.{put_in, raised_in, told_in}
+use Rattle.log_laws.specs.Sights.{put_in, raised_in}
 
 -- what came of a request for a signature: the client took one, or it took a refusal and the request was never put to
 -- the helper, or was put to it, or the client left before it had taken either, or it waits
@@ -205,18 +204,3 @@ end_told port one = if one.port == port then Some (record {
 -- those of the client at this port, in their order
 abbrev pub ends_told : ℕ → List Told → List End
 ends_told port told = filter_map (end_told port) told
-
--- ---- the law
-
--- these are told in the order of the events: of each event the requests that it ends, of each client and no other, each
--- as the history says that it ended; and behind them those that wait in the end
-abbrev pub TellsEnds : List Stamped → State → List Timed → List Told → Type 0
-TellsEnds past state [] told = (port : ℕ) → ends_told port told ≡ waits_at port past state
-TellsEnds past state (timed ∷ later) told = (now : List Told) × (rest : List Told) × (told ≡ now ++ rest)
-    × ((port : ℕ) → ends_told port now ≡ ends_at port past state timed)
-    × TellsEnds (past ++ stamped (step state timed.moment timed.event)) (step state timed.moment timed.event).state later rest
-
--- so of each run from the agent's start on, where each event may come
-abbrev pub TellsWhatCame : Settings → List Timed → Type 0
-TellsWhatCame settings events = AllFit (first_state settings) events
-    → TellsEnds [] (first_state settings) events (told_in (first_state settings) events)

@@ -4,5 +4,7 @@ pub mod Raised
 pub mod Puts
 pub mod Reads
 pub mod Ends
+pub mod Refusals
+pub mod Tellings
 pub mod Whys
 pub mod EndRows

@@ -4,7 +4,7 @@ ghost use Rattle.std.specs.Prelude.{List};
 ghost use Rattle.world_ports.specs.declared.Moment.{Moment as AMoment};
 ghost use Rattle.agent_model.specs.Events.{Happening, Timed};
 ghost use Rattle.agent_model.specs.State.{Settings, State};
-ghost use Rattle.log_laws.specs.Ends.{TellsWhatCame};
+ghost use Rattle.log_laws.specs.Tellings.{TellsWhatCame};
 ghost use Rattle.log_laws.specs.Puts.{SeesPuts, SeesRaises};
 ghost use Rattle.log_laws.specs.Raised.{RaisesItsOwn};
 ghost use Rattle.log_laws.specs.Reads.{TellsWhatIsRead};
@@ -44,7 +44,9 @@ pub fn what_is_told_was_read()
 /// ends, of each client and no other, and behind them those that wait in the end. Of each is told what came of it by
 /// the run's history: it was signed where the helper answered its ask with a signature and the client took that,
 /// refused where the client took another reply, and left where its port ended before. A refusal says that the request
-/// was put to the helper exactly where it was; and that the user was asked is told exactly where he was.
+/// was put to the helper exactly where it was; and that the user was asked is told exactly where he was. A refusal of
+/// what was put says that the helper was lost exactly where it was, behind the ask and before the client took the
+/// refusal, whatever it had answered before; else the helper had answered the ask. So far as the agent counts losses.
 pub fn what_is_told_is_what_came()
     ensures { (settings : Settings) (events : List Timed) → TellsWhatCame settings events }
 {}

@@ -11,5 +11,5 @@ pub use laws::{
 };
 pub use rows::{
     a_request_goes_so_far, a_request_is_put_as_it_is, an_event_ends_a_request,
-    the_last_request_counts, what_the_helper_made_of_it,
+    the_helper_refused_or_was_lost, the_last_request_counts, what_the_helper_made_of_it,
 };

@@ -6,8 +6,9 @@ ghost use Rattle.agent_model.specs.Actions.{ForSignature, Granted, Lost, Over};
 ghost use Rattle.agent_model.specs.Binds.{agent_request_of};
 ghost use Rattle.agent_model.specs.Events.{Ended, Heard, Took};
 ghost use Rattle.agent_model.specs.State.{Nothing, OnAsk, OnConfirmation};
-ghost use Rattle.log_laws.specs.EndRows.{asked, asks, at, body, came, owes, puts, raises, reading, refuses, signs, verifies, waits, went};
+ghost use Rattle.log_laws.specs.EndRows.{asked, asks, at, body, came, owes, puts, raises, reading, reason, refuses, signs, verifies, waits, went};
 ghost use Rattle.log_laws.specs.Ends.{Failed, Left, Refused, Signed, came_at, last_request, readings_of, went_by};
+ghost use Rattle.log_laws.specs.Refusals.{Answer, Loss};
 ghost use Rattle.log_laws.specs.Whys.{purpose_by};
 
 /// A request is signed where the helper answered its client's ask with a signature, before it was lost; a refusal says
@@ -21,6 +22,18 @@ pub fn what_the_helper_made_of_it()
     ensures lost_after { came (puts 3 1 ∷ signs 3 ∷ Lost ∷ []) ≡ Signed }
     ensures other_ask { came (puts 3 1 ∷ signs 2 ∷ []) ≡ Failed }
     ensures other_client { came (puts 3 2 ∷ signs 3 ∷ []) ≡ Refused }
+{}
+
+/// A refusal behind an ask is the helper's where it answered that ask and wasn't lost behind it.
+pub fn the_helper_refused_or_was_lost()
+    ensures unasked { reason [] ≡ None }
+    ensures unanswered { reason (puts 3 1 ∷ []) ≡ None }
+    ensures refused { reason (puts 3 1 ∷ refuses 3 ∷ []) ≡ Some Answer }
+    ensures lost { reason (puts 3 1 ∷ Lost ∷ []) ≡ Some Loss }
+    ensures lost_before { reason (Lost ∷ puts 3 1 ∷ refuses 3 ∷ []) ≡ Some Answer }
+    ensures lost_after { reason (puts 3 1 ∷ refuses 3 ∷ Lost ∷ []) ≡ Some Loss }
+    ensures other_ask { reason (puts 3 1 ∷ refuses 2 ∷ []) ≡ None }
+    ensures other_client { reason (puts 3 2 ∷ refuses 3 ∷ []) ≡ None }
 {}
 
 /// How far the request of the client at port 1 went, by what was done behind it.

@@ -1,6 +1,6 @@
 use Rattle.std.proofs.Common.{[], ap, subst, sym, ◌∙◌}
 use Rattle.agent_model.specs.State.{first_state}
-use Rattle.log_laws.specs.Ends.{TellsEnds}
+use Rattle.log_laws.specs.Tellings.{TellsEnds}
 use Rattle.log_laws.specs.Reads.{told_of_client}
 use Rattle.log_laws.proofs.AllEndLemmas.{tells-what-came}
 use Rattle.log_laws.proofs.TellLemmas.{tells-what-is-read}
