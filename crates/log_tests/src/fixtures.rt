@@ -17,6 +17,19 @@ pub const SIGNED: &str = "\
     hear 2 0000001d0100000000000000010000001000000000000000000000000000000000\n\
     hear 2 0000000e6500000000000000010000000173\n";
 
+/// The same, and the helper has not answered yet.
+pub const HELPED: &str = "\
+    join client\n\
+    hear 1 0000006c11000000186b657965642d736861323536406578616d706c652e636f6d000000201111111111111111111\
+    1111111111111111111111111111111111111111111110000002021212121212121212121212121212121212121212121212\
+    12121212121212121000000036f6e65\n\
+    at 5 1796000587\n\
+    hear 1 000000500d00000040000000186b657965642d736861323536406578616d706c652e636f6d0000002011111111111\
+    111111111111111111111111111111111111111111111111111110000000361626300000000\n\
+    started 1 00000000000000000000000000000000\n\
+    join child\n\
+    hear 2 0000001d0100000000000000010000001000000000000000000000000000000000\n";
+
 /// A client adds a key and asks for a signature with it.
 pub const WAITING: &str = "\
     join client\n\
@@ -85,6 +98,16 @@ pub const BAD: &str = "\
 pub const SIGNED_LINE: &str = "\
     2026-11-30T01:03:07Z  other data, 3 bytes  key \"one\" SHA256:K5oOx764lbO1qb8zX9DkSuhuHnCnYS5yXQT+IN\
     X+aXM  signed\n";
+
+/// Where the helper refuses.
+pub const HELPER_REFUSED_LINE: &str = "\
+    2026-11-30T01:03:07Z  other data, 3 bytes  key \"one\" SHA256:K5oOx764lbO1qb8zX9DkSuhuHnCnYS5yXQT+IN\
+    X+aXM  refused by the helper\n";
+
+/// Where it is lost.
+pub const HELPER_LOST_LINE: &str = "\
+    2026-11-30T01:03:07Z  other data, 3 bytes  key \"one\" SHA256:K5oOx764lbO1qb8zX9DkSuhuHnCnYS5yXQT+IN\
+    X+aXM  refused, the helper was lost\n";
 
 /// That of the second one.
 pub const WAITING_LINE: &str = "\

@@ -1,6 +1,6 @@
 //! Logs of records in memory. What owns the input and the output has no exit: at each their drops would be proved once
 //! more.
-use crate::fixtures::{AGREED, ASKED, BAD, LATER, LEFT, SIGNED, WAITING};
+use crate::fixtures::{AGREED, ASKED, BAD, HELPED, LATER, LEFT, SIGNED, WAITING};
 use log_core::{LogStatus, log_main};
 use std::alloc::{AllocError, Global};
 use std::process::Abort;
@@ -31,11 +31,18 @@ pub fn whole<'a>(record: &'a str, words: &'a str) -> Run<'a> {
     }
 }
 
-// The text of a record, and the front of a line behind it.
+// The text of a record, by its front and what stands behind that.
 fn text_of(alloc: Global, record: &str) -> Result<Vec<u8>, AllocError> {
     let (lines, front) = match record {
         "signed" => (SIGNED, ""),
         "cut" => (SIGNED, "at 7 18"),
+        "helper refused" => (HELPED, "hear 2 00000009660000000000000001\nend 2\n"),
+        "helper lost" => (HELPED, "end 2\n"),
+        "lost before it is taken" => (
+            HELPED,
+            "hold 1\nhear 2 00000009660000000000000001\nend 2\nfree 1\n",
+        ),
+        "both at once" => (HELPED, "hear 2 0000000966000000000000000100000000\n"),
         "waiting" => (WAITING, ""),
         "left" => (LEFT, ""),
         "later" => (LATER, ""),

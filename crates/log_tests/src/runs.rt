@@ -1,6 +1,7 @@
 //! Whole logs, whose lines are written out by hand.
 use crate::fixtures::{
-    AGREED_LINE, ASKED_LINE, LEFT_LINE, REFUSED_LINE, SIGNED_LINE, WAITING_LINE,
+    AGREED_LINE, ASKED_LINE, HELPER_LOST_LINE, HELPER_REFUSED_LINE, LEFT_LINE, REFUSED_LINE,
+    SIGNED_LINE, WAITING_LINE,
 };
 use crate::play::{Run, logs, whole};
 use log_core::LogStatus;
@@ -11,6 +12,15 @@ fn each_request_is_a_line_with_its_fate(rt: HostRuntime) {
     let alloc = rt.alloc();
     let cases = [
         ("signed", "", LogStatus::Whole, SIGNED_LINE),
+        ("helper refused", "", LogStatus::Whole, HELPER_REFUSED_LINE),
+        ("helper lost", "", LogStatus::Whole, HELPER_LOST_LINE),
+        ("both at once", "", LogStatus::Whole, HELPER_LOST_LINE),
+        (
+            "lost before it is taken",
+            "",
+            LogStatus::Whole,
+            HELPER_LOST_LINE,
+        ),
         ("waiting", "", LogStatus::Whole, WAITING_LINE),
         ("left", "", LogStatus::Whole, LEFT_LINE),
         ("later", "5", LogStatus::Whole, REFUSED_LINE),
