@@ -14,7 +14,7 @@ use Rattle.filter_model.specs.Pairs.{Pair, empty_half}
 use Rattle.filter_model.specs.Filters.{Numbered, find_pair, put_pair, remove_pair}
 use Rattle.filter_core.specs.declared.slot.Slot.{Slot}
 use Rattle.filter_core.specs.Slots.{IsRising, pairs_of}
-use Rattle.filter_core.specs.Places.{IsPlace}
+use Rattle.filter_core.specs.Places.{IsPlace, StandsAt}
 
 -- ---- rising numbers
 
@@ -186,3 +186,26 @@ searched_pairs slots number high (Err place) within answer rising =
       | inl before ↦ (let less : (get_or slots k no_slot).number < number = ranked _ number _ (sym (parted.0 k no_slot (omega arith) before)) in omega (arith, less, is))
       | inr behind ↦ (let greater : number < (get_or slots k no_slot).number = ranked _ number _ (sym (parted.1 k no_slot behind within_slots)) in omega (arith, greater, is))
     ])
+
+-- ---- a slot that was tried
+
+-- a slot of the number stands there
+pub stands_at : (slots : List Slot) (number place : ℕ) (slot : Slot) → slice_get slots place ≡ Some slot → slot.number ≡ number → StandsAt number (pairs_of slots) place
+stands_at [] number place slot there same = absurd (none-some _ there)
+stands_at (first ∷ slots) number zero slot there same = record {
+  within = omega arith;
+  same = λ one here. ap (λ (n : Numbered). n.number) (sym (same_Some _ _ here)) ∙ ap (λ (s : Slot). s.number) (same_Some _ _ there) ∙ same;
+}
+stands_at (first ∷ slots) number (suc place) slot there same =
+    let rest = stands_at slots number place slot there same in
+    record { within = omega (arith, rest.within); same = rest.same }
+
+numbered_there : (pairs : List Numbered) (i : ℕ) (number : ℕ) → i < length pairs → ((one : Numbered) → slice_get pairs i ≡ Some one → one.number ≡ number) → get_or (numbers pairs) i 0 ≡ number
+numbered_there [] i number within same = absurd (omega arith)
+numbered_there (one ∷ pairs) zero number within same = same one refl
+numbered_there (one ∷ pairs) (suc i) number within same = numbered_there pairs i number (omega arith) same
+
+-- where a pair of the number stands, there it is
+pub is_where_it_stands : (slots : List Slot) (number high place : ℕ) → IsRising 0 high (pairs_of slots) → StandsAt number (pairs_of slots) place → IsPlace number (pairs_of slots) place
+is_where_it_stands slots number high place rising stands =
+    is_place number 0 high (pairs_of slots) place rising stands.within (numbered_there (pairs_of slots) place number stands.within stands.same)

@@ -4,6 +4,11 @@ use Rattle.std.specs.List.{remove}
 use Rattle.filter_model.specs.Pairs.{Pair}
 use Rattle.filter_model.specs.Filters.{Numbered, find_pair, put_pair, remove_pair}
 
+-- at this place stands a pair of this number
+pub record StandsAt (number : ℕ) (pairs : List Numbered) (place : ℕ) : Type 0 where
+  pub within : place < length pairs
+  pub same : (one : Numbered) → slice_get pairs place ≡ Some one → one.number ≡ number
+
 -- the pair of this number is the one at this place, to find, to put and to remove
 pub record IsPlace (number : ℕ) (pairs : List Numbered) (place : ℕ) : Type 0 where
   pub within : place < length pairs
