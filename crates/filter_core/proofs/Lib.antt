@@ -3,3 +3,4 @@ pub mod SlotLemmas
 pub mod CutLemmas
 pub mod LookLemmas
 pub mod IndexLemmas
+pub mod BufferLemmas

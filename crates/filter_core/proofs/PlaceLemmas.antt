@@ -21,20 +21,25 @@ use Rattle.filter_core.specs.Places.{IsPlace, StandsAt}
 abbrev numbers : List Numbered → List ℕ
 numbers pairs = map (λ one. one.number) pairs
 
-pub rising-lower : (low lower high : ℕ) (pairs : List Numbered) → lower ≤ low → IsRising low high pairs → IsRising lower high pairs
+pub rising-lower : (low lower high : ℕ) (pairs : List Numbered) → lower ≤ low
+    → IsRising low high pairs → IsRising lower high pairs
 rising-lower low lower high [] below rising = omega (arith, rising)
 rising-lower low lower high (one ∷ pairs) below rising = (omega (arith, rising.0), rising.1)
 
-pub rising-higher : (low high higher : ℕ) (pairs : List Numbered) → high ≤ higher → IsRising low high pairs → IsRising low higher pairs
+pub rising-higher : (low high higher : ℕ) (pairs : List Numbered) → high ≤ higher
+    → IsRising low high pairs → IsRising low higher pairs
 rising-higher low high higher [] above rising = omega (arith, rising)
 rising-higher low high higher (one ∷ pairs) above rising = (rising.0, rising-higher one.number high higher pairs above rising.1)
 
-pub rising-append : (low high number : ℕ) (pair : Pair) (pairs : List Numbered) → high < number → IsRising low high pairs → IsRising low number (pairs ++ record { number = number; pair = pair } ∷ [])
+pub rising-append : (low high number : ℕ) (pair : Pair) (pairs : List Numbered) → high < number
+    → IsRising low high pairs
+    → IsRising low number (pairs ++ record { number = number; pair = pair } ∷ [])
 rising-append low high number pair [] above rising = (omega (arith, rising), omega arith)
 rising-append low high number pair (one ∷ pairs) above rising = (rising.0, rising-append one.number high number pair pairs above rising.1)
 
 -- each number is above the bound
-number-above : (low high : ℕ) (pairs : List Numbered) (i : ℕ) → IsRising low high pairs → i < length pairs → low < get_or (numbers pairs) i 0
+number-above : (low high : ℕ) (pairs : List Numbered) (i : ℕ) → IsRising low high pairs
+    → i < length pairs → low < get_or (numbers pairs) i 0
 number-above low high [] i rising within = absurd (omega arith)
 number-above low high (one ∷ pairs) zero rising within = rising.0
 number-above low high (one ∷ pairs) (suc i) rising within =
@@ -42,14 +47,16 @@ number-above low high (one ∷ pairs) (suc i) rising within =
     omega (arith, rising.0)
 
 -- a number that isn't above the bound is nobody's
-remove-below : (number low high : ℕ) (pairs : List Numbered) → number ≤ low → IsRising low high pairs → remove_pair number pairs ≡ pairs
+remove-below : (number low high : ℕ) (pairs : List Numbered) → number ≤ low
+    → IsRising low high pairs → remove_pair number pairs ≡ pairs
 remove-below number low high [] below rising = refl
 remove-below number low high (one ∷ pairs) below rising =
     let above : low < one.number = rising.0 in
     let rest : remove_pair number pairs ≡ pairs = remove-below number one.number high pairs (omega (arith, above)) rising.1 in
     grind (arith, nat_tests)
 
-pub rising-remove : (number low high : ℕ) (pairs : List Numbered) → IsRising low high pairs → IsRising low high (remove_pair number pairs)
+pub rising-remove : (number low high : ℕ) (pairs : List Numbered) → IsRising low high pairs
+    → IsRising low high (remove_pair number pairs)
 rising-remove number low high [] rising = rising
 rising-remove number low high (one ∷ pairs) rising = elim (cases_eq number one.number) [
   | inl here ↦
@@ -62,7 +69,8 @@ rising-remove number low high (one ∷ pairs) rising = elim (cases_eq number one
       subst P (sym is) (rising.0, rising-remove number one.number high pairs rising.1))
 ]
 
-pub rising-put : (number low high : ℕ) (pair : Pair) (pairs : List Numbered) → IsRising low high pairs → IsRising low high (put_pair number pair pairs)
+pub rising-put : (number low high : ℕ) (pair : Pair) (pairs : List Numbered)
+    → IsRising low high pairs → IsRising low high (put_pair number pair pairs)
 rising-put number low high pair [] rising = rising
 rising-put number low high pair (one ∷ pairs) rising = elim (cases_eq number one.number) [
   | inl here ↦
@@ -79,7 +87,9 @@ rising-put number low high pair (one ∷ pairs) rising = elim (cases_eq number o
 
 -- ---- a place
 
-found-at : (number low high : ℕ) (pairs : List Numbered) (i : ℕ) → IsRising low high pairs → i < length pairs → get_or (numbers pairs) i 0 ≡ number → (found : Numbered) → slice_get pairs i ≡ Some found → find_pair number pairs ≡ Some found.pair
+found-at : (number low high : ℕ) (pairs : List Numbered) (i : ℕ) → IsRising low high pairs
+    → i < length pairs → get_or (numbers pairs) i 0 ≡ number → (found : Numbered)
+    → slice_get pairs i ≡ Some found → find_pair number pairs ≡ Some found.pair
 found-at number low high [] i rising within is found there = absurd (omega arith)
 found-at number low high (one ∷ pairs) zero rising within is found there =
     let same : one ≡ found = same_Some _ _ there in
@@ -90,12 +100,15 @@ found-at number low high (one ∷ pairs) (suc i) rising within is found there =
     let rest : find_pair number pairs ≡ Some found.pair = found-at number one.number high pairs i rising.1 (omega arith) is found there in
     grind (arith, nat_tests)
 
-numbered-at : (pairs : List Numbered) (i : ℕ) (found : Numbered) → slice_get pairs i ≡ Some found → found.number ≡ get_or (numbers pairs) i 0
+numbered-at : (pairs : List Numbered) (i : ℕ) (found : Numbered) → slice_get pairs i ≡ Some found
+    → found.number ≡ get_or (numbers pairs) i 0
 numbered-at [] i found there = absurd (none-some _ there)
 numbered-at (one ∷ pairs) zero found there = ap (λ (n : Numbered). n.number) (sym (same_Some _ _ there))
 numbered-at (one ∷ pairs) (suc i) found there = numbered-at pairs i found there
 
-put-at : (number low high : ℕ) (pairs : List Numbered) (i : ℕ) → IsRising low high pairs → i < length pairs → get_or (numbers pairs) i 0 ≡ number → (pair : Pair) → put_pair number pair pairs ≡ slice_set pairs i (record { number = number; pair = pair })
+put-at : (number low high : ℕ) (pairs : List Numbered) (i : ℕ) → IsRising low high pairs
+    → i < length pairs → get_or (numbers pairs) i 0 ≡ number → (pair : Pair)
+    → put_pair number pair pairs ≡ slice_set pairs i (record { number = number; pair = pair })
 put-at number low high [] i rising within is pair = absurd (omega arith)
 put-at number low high (one ∷ pairs) zero rising within is pair =
     let here : one.number ≡ number = is in
@@ -105,7 +118,9 @@ put-at number low high (one ∷ pairs) (suc i) rising within is pair =
     let rest : put_pair number pair pairs ≡ slice_set pairs i (record { number = number; pair = pair }) = put-at number one.number high pairs i rising.1 (omega arith) is pair in
     grind (arith, nat_tests)
 
-removed-at : (number low high : ℕ) (pairs : List Numbered) (i : ℕ) → IsRising low high pairs → i < length pairs → get_or (numbers pairs) i 0 ≡ number → remove_pair number pairs ≡ remove pairs i
+removed-at : (number low high : ℕ) (pairs : List Numbered) (i : ℕ) → IsRising low high pairs
+    → i < length pairs → get_or (numbers pairs) i 0 ≡ number
+    → remove_pair number pairs ≡ remove pairs i
 removed-at number low high [] i rising within is = absurd (omega arith)
 removed-at number low high (one ∷ pairs) zero rising within is =
     let here : one.number ≡ number = is in
@@ -117,7 +132,8 @@ removed-at number low high (one ∷ pairs) (suc i) rising within is =
     grind (arith, nat_tests)
 
 -- a place where the number stands is the pair's
-is_place : (number low high : ℕ) (pairs : List Numbered) (i : ℕ) → IsRising low high pairs → i < length pairs → get_or (numbers pairs) i 0 ≡ number → IsPlace number pairs i
+is_place : (number low high : ℕ) (pairs : List Numbered) (i : ℕ) → IsRising low high pairs
+    → i < length pairs → get_or (numbers pairs) i 0 ≡ number → IsPlace number pairs i
 is_place number low high pairs i rising within is = record {
   within = within;
   found = found-at number low high pairs i rising within is;
@@ -127,7 +143,9 @@ is_place number low high pairs i rising within is = record {
 }
 
 -- a number that isn't there is nobody's
-absent : (number : ℕ) (pairs : List Numbered) → ((k : ℕ) → k < length pairs → get_or (numbers pairs) k 0 ≢ number) → find_pair number pairs ≡ None
+absent : (number : ℕ) (pairs : List Numbered)
+    → ((k : ℕ) → k < length pairs → get_or (numbers pairs) k 0 ≢ number)
+    → find_pair number pairs ≡ None
 absent number [] apart = refl
 absent number (one ∷ pairs) apart =
     let here : one.number ≢ number = apart 0 (omega arith) in
@@ -136,7 +154,8 @@ absent number (one ∷ pairs) apart =
 
 -- ---- slots
 
-numbers-pairs_of : (slots : List Slot) (i : ℕ) (d : Slot) → i < length slots → get_or (numbers (pairs_of slots)) i 0 ≡ (get_or slots i d).number
+numbers-pairs_of : (slots : List Slot) (i : ℕ) (d : Slot) → i < length slots
+    → get_or (numbers (pairs_of slots)) i 0 ≡ (get_or slots i d).number
 numbers-pairs_of [] i d within = absurd (omega arith)
 numbers-pairs_of (slot ∷ slots) zero d within = refl
 numbers-pairs_of (slot ∷ slots) (suc i) d within = numbers-pairs_of slots i d (omega arith)
@@ -146,7 +165,8 @@ length-pairs_of [] = refl
 length-pairs_of (slot ∷ slots) = grind (arith, length-pairs_of slots)
 
 -- a rising list doesn't fall
-numbers-ordered : (low high : ℕ) (pairs : List Numbered) (i j : ℕ) → IsRising low high pairs → i ≤ j → j < length pairs → get_or (numbers pairs) i 0 ≤ get_or (numbers pairs) j 0
+numbers-ordered : (low high : ℕ) (pairs : List Numbered) (i j : ℕ) → IsRising low high pairs → i ≤ j
+    → j < length pairs → get_or (numbers pairs) i 0 ≤ get_or (numbers pairs) j 0
 numbers-ordered low high [] i j rising order within = absurd (omega arith)
 numbers-ordered low high (one ∷ pairs) zero zero rising order within = omega arith
 numbers-ordered low high (one ∷ pairs) zero (suc j) rising order within =
@@ -161,7 +181,8 @@ pub no_slot : Slot
 no_slot = record { number = 0; client = empty_half; upstream = empty_half; waits = waits.Nothing; is_linked = false; is_used = false; is_bound = false }
 
 -- the comparisons with a number rise along the slots, as a binary search asks
-comparisons_rise : (slots : List Slot) (number high : ℕ) → IsRising 0 high (pairs_of slots) → IsNonDecreasingBy (λ slot. ordering_index (nat_cmp slot.number number)) slots
+comparisons_rise : (slots : List Slot) (number high : ℕ) → IsRising 0 high (pairs_of slots)
+    → IsNonDecreasingBy (λ slot. ordering_index (nat_cmp slot.number number)) slots
 comparisons_rise slots number high rising =
     IsNonDecreasingBy-from_default (λ slot. ordering_index (nat_cmp slot.number number)) slots no_slot (λ i j order within.
     let inside : j < length (pairs_of slots) = rw (length-pairs_of slots) within in
@@ -172,7 +193,11 @@ comparisons_rise slots number high rising =
     grind (arith, nat_tests, slots_rise))
 
 -- what a binary search by number answers among pairs whose numbers rise
-pub searched_pairs : (slots : List Slot) (number high : ℕ) (r : Result ℕ ℕ) → IsSearchInRange r (length slots) → IsBinarySearchResult (λ slot. nat_cmp slot.number number) slots r → IsRising 0 high (pairs_of slots) → MatchOption (result_ok r) (find_pair number (pairs_of slots) ≡ None) (λ place. IsPlace number (pairs_of slots) place)
+pub searched_pairs : (slots : List Slot) (number high : ℕ) (r : Result ℕ ℕ)
+    → IsSearchInRange r (length slots)
+    → IsBinarySearchResult (λ slot. nat_cmp slot.number number) slots r
+    → IsRising 0 high (pairs_of slots)
+    → MatchOption (result_ok r) (find_pair number (pairs_of slots) ≡ None) (λ place. IsPlace number (pairs_of slots) place)
 searched_pairs slots number high (Ok place) within answer rising =
     let inside : place < length (pairs_of slots) = rw (length-pairs_of slots) within in
     let here : (get_or slots place no_slot).number ≡ number = ranked _ number _ (sym (answer no_slot)) in
@@ -190,7 +215,9 @@ searched_pairs slots number high (Err place) within answer rising =
 -- ---- a slot that was tried
 
 -- a slot of the number stands there
-pub stands_at : (slots : List Slot) (number place : ℕ) (slot : Slot) → slice_get slots place ≡ Some slot → slot.number ≡ number → StandsAt number (pairs_of slots) place
+pub stands_at : (slots : List Slot) (number place : ℕ) (slot : Slot)
+    → slice_get slots place ≡ Some slot → slot.number ≡ number
+    → StandsAt number (pairs_of slots) place
 stands_at [] number place slot there same = absurd (none-some _ there)
 stands_at (first ∷ slots) number zero slot there same = record {
   within = omega arith;
@@ -200,12 +227,16 @@ stands_at (first ∷ slots) number (suc place) slot there same =
     let rest = stands_at slots number place slot there same in
     record { within = omega (arith, rest.within); same = rest.same }
 
-numbered_there : (pairs : List Numbered) (i : ℕ) (number : ℕ) → i < length pairs → ((one : Numbered) → slice_get pairs i ≡ Some one → one.number ≡ number) → get_or (numbers pairs) i 0 ≡ number
+numbered_there : (pairs : List Numbered) (i : ℕ) (number : ℕ) → i < length pairs
+    → ((one : Numbered) → slice_get pairs i ≡ Some one → one.number ≡ number)
+    → get_or (numbers pairs) i 0 ≡ number
 numbered_there [] i number within same = absurd (omega arith)
 numbered_there (one ∷ pairs) zero number within same = same one refl
 numbered_there (one ∷ pairs) (suc i) number within same = numbered_there pairs i number (omega arith) same
 
 -- where a pair of the number stands, there it is
-pub is_where_it_stands : (slots : List Slot) (number high place : ℕ) → IsRising 0 high (pairs_of slots) → StandsAt number (pairs_of slots) place → IsPlace number (pairs_of slots) place
+pub is_where_it_stands : (slots : List Slot) (number high place : ℕ)
+    → IsRising 0 high (pairs_of slots) → StandsAt number (pairs_of slots) place
+    → IsPlace number (pairs_of slots) place
 is_where_it_stands slots number high place rising stands =
     is_place number 0 high (pairs_of slots) place rising stands.within (numbered_there (pairs_of slots) place number stands.within stands.same)

@@ -2,3 +2,4 @@ pub mod Index
 pub mod Slots
 pub mod Places
 pub mod Happenings
+pub mod Cuts

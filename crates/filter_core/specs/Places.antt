@@ -14,5 +14,6 @@ pub record IsPlace (number : ℕ) (pairs : List Numbered) (place : ℕ) : Type 0
   pub within : place < length pairs
   pub found : (one : Numbered) → slice_get pairs place ≡ Some one → find_pair number pairs ≡ Some one.pair
   pub numbered : (one : Numbered) → slice_get pairs place ≡ Some one → one.number ≡ number
-  pub put : (pair : Pair) → put_pair number pair pairs ≡ slice_set pairs place (record { number = number; pair = pair })
+  pub put : (pair : Pair)
+      → put_pair number pair pairs ≡ slice_set pairs place (record { number = number; pair = pair })
   pub removed : remove_pair number pairs ≡ remove pairs place

@@ -1,5 +1,5 @@
 -- The storage of the open pairs as the definition sees it.
-use Rattle.std.specs.Prelude.{◌≡◌, ℕ, ◌+◌, ◌^◌, ◌<◌, ◌≤◌, Bool, ◌&&◌, List, [], ◌∷◌, length, map, Option, Some, None, Vec, option_map}
+use Rattle.std.specs.Prelude.{◌≡◌, ℕ, ◌^◌, ◌<◌, ◌≤◌, Bool, ◌&&◌, List, [], ◌∷◌, length, map, Option, Some, None, Vec, option_map}
 use Rattle.std.specs.declared.alloc.Global.{Global}
 use Rattle.std.specs.BTreeSet.{BTreeSet}
 use Rattle.key_purposes.specs.declared.purpose.Purpose.{Purpose}
@@ -7,7 +7,7 @@ use Rattle.filter_core.specs.declared.listed.Listed as code
 use Rattle.filter_core.specs.declared.slot.Slot.{Slot}
 use Rattle.filter_model.specs.Lists.{Listed}
 use Rattle.filter_model.specs.Pairs.{Half, Pair, half_of, is_none, is_quiet, owes_more}
-use Rattle.filter_model.specs.Looking.{Looked}
+use Rattle.filter_model.specs.Looking.{Looked, without_front}
 use Rattle.filter_model.specs.Filters.{Connected, Ended, Happening, Heard, Joined, Lost, Numbered, Took}
 
 -- the blobs of a set, in order
@@ -55,6 +55,16 @@ pub record IsKept (pairs : List Numbered) (last : ℕ) : Type 0 where
 abbrev pub owes_reply : Option (List ℕ) → Half → Half
 owes_reply None half = half
 owes_reply (Some reply) half = owes_more reply half
+
+-- the frame with a body of this length is taken, where it makes a reply
+abbrev pub taken_for : Option (List ℕ) → ℕ → Half → Half
+taken_for None body_len half = half
+taken_for (Some reply) body_len half = without_front body_len half
+
+-- the upstream's frame is taken and the client is owed the reply, where it makes one
+abbrev pub replied : Option (List ℕ) → ℕ → Pair → Pair
+replied reply body_len pair =
+    record pair { client = owes_reply reply pair.client; upstream = taken_for reply body_len pair.upstream }
 
 -- the client's next request may be taken
 abbrev pub is_free : Pair → Bool

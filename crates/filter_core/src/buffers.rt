@@ -1,8 +1,8 @@
 //! What was heard from a side of a pair, and what the side is owed.
 
-ghost use Rattle.std.specs.Prelude.{◌≡◌, ◌+◌, ◌≤◌, OnOk, length, map};
+ghost use Rattle.std.specs.Prelude.{◌≡◌, ◌+◌, ◌≤◌, [], IsTrue, OnOk, length, map};
 ghost use Rattle.wire_text.specs.Bounds.{longest_body};
-ghost use Rattle.wire_text.specs.Frames.{Whole, front, front_body};
+ghost use Rattle.wire_text.specs.Frames.{Whole, after_front, front, front_body};
 ghost use Rattle.wire_text.specs.Wire.{string};
 ghost use Rattle.frame_core.specs.Looks.{front_of};
 ghost use Rattle.agent_msg.specs.Replies.{entries_length, failure, identities_answer};
@@ -16,6 +16,7 @@ use frame_core::{LONGEST_BODY, Look, front_body, look, put_frame};
 use secret_buf::ScrubBuf;
 use std::alloc::{AllocError, Global};
 use std::marker::Model;
+use std::mem;
 
 /// The storage of longer bodies isn't kept for the next one, in bytes.
 const LONG: usize = 8192;
@@ -150,4 +151,34 @@ impl Buffers {
         self.is_long = self.is_long || self.owed.live().len() > LONG;
         Ok(())
     }
+}
+
+// Whether the frame at the front, with a body of this length, is all that was heard.
+fn is_alone(heard: &[u8], body_len: u32) -> bool
+    requires { front longest_body heard.now ≡ Whole body_len }
+    ensures whole { IsTrue result → heard.now ≡ string (front_body body_len heard.now) }
+    ensures nothing { IsTrue result → after_front body_len heard.now ≡ [] }
+{
+    if heard.len() == 4 + body_len as usize {
+        return true;
+    }
+    false
+}
+
+/// Takes the frame at the front of what was heard from one side, and owes it the other: by its storage, where nothing
+/// else was heard and nothing else is owed, so that no byte moves.
+#[tactic(auto, using(wire_text::proofs::FrontLemmas::whole_within))]
+pub fn hand_on(from: &mut Buffers, to: &mut Buffers, body_len: u32) -> Result<(), AllocError>
+    requires { front longest_body from.old.heard ≡ Whole body_len }
+    ensures taken { OnOk result (from.new ≡ without_front body_len from.old) }
+    ensures owed { OnOk result (to.new ≡ owes_more (string (front_body body_len from.old.heard)) to.old) }
+{
+    if is_alone(from.heard.live(), body_len) && to.owed.live().is_empty() {
+        mem::swap(&mut from.heard, &mut to.owed);
+        to.is_long = to.is_long || body_len as usize > LONG;
+        return Ok(());
+    }
+    to.owe(from.body(body_len))?;
+    from.take(body_len);
+    Ok(())
 }

@@ -9,11 +9,11 @@ ghost use Rattle.filter_model.specs.Pairs.{change_half, half_of, heard_more, fre
 ghost use Rattle.filter_model.specs.Looking.{and_then, answered, client_looked, fate_of, looked, lost, reply_for, taken_as, upstream_looked, without_front};
 ghost use Rattle.filter_model.specs.Filters.{told};
 ghost use Rattle.filter_core.specs.Happenings.{happening};
-ghost use Rattle.filter_core.specs.Slots.{FitsPair, Leaves, is_free, listed_of, numbered_of, owes_reply, pair_of};
+ghost use Rattle.filter_core.specs.Slots.{FitsPair, Leaves, is_free, listed_of, numbered_of, pair_of, replied};
 
 use crate::FilterEvent;
-use crate::buffers::Buffers;
-use crate::cut::owe_cut;
+use crate::buffers::{Buffers, hand_on};
+use crate::cut::hand_list_on;
 use crate::fate::fate_of;
 use crate::listed::Listed;
 use filter_model::Waits;
@@ -120,18 +120,21 @@ fn take(alloc: Global, slot: &mut Slot, listed: &Listed, body_len: u32) -> Resul
         (record (pair_of slot.old) { client = without_front body_len slot.old.client })) }
     ensures number { slot.new.number ≡ slot.old.number }
 {
-    let body = slot.client.body(body_len);
-    let fate = fate_of(alloc, listed, body)?;
+    let fate = fate_of(alloc, listed, slot.client.body(body_len))?;
     match fate {
-        Waits::Nothing => slot.client.owe_failure()?,
-        Waits::OnList | Waits::OnReply => slot.upstream.owe(body)?,
+        Waits::Nothing => {
+            slot.client.owe_failure()?;
+            slot.client.take(body_len);
+        }
+        Waits::OnList | Waits::OnReply => {
+            hand_on(&mut slot.client, &mut slot.upstream, body_len)?;
+        }
         Waits::OnBind => {
-            slot.upstream.owe(body)?;
+            hand_on(&mut slot.client, &mut slot.upstream, body_len)?;
             slot.is_bound = true;
         }
     }
     slot.waits = fate;
-    slot.client.take(body_len);
     Ok(())
 }
 
@@ -182,28 +185,29 @@ fn look_at_client(alloc: Global, slot: &mut Slot, listed: &Listed) -> Result<boo
     }
 }
 
-// Owes the client the reply that this answer of the upstream's makes; tells whether it makes one.
-fn owe_reply(
-    alloc: Global,
-    slot: &mut Slot,
-    listed: &Listed,
-    body_len: u32,
-) -> Result<bool, AllocError>
+// Takes the upstream's answer with a body of this length, and owes the client the reply that it makes; tells whether it
+// makes one.
+fn reply(alloc: Global, slot: &mut Slot, listed: &Listed, body_len: u32) -> Result<bool, AllocError>
     requires { front longest_body slot.old.upstream.heard ≡ Whole body_len }
     ensures is_one { IfOk result (λ is_one. is_one ≡ is_some (reply_for slot.old.waits (listed_of listed.now)
         (front_body body_len slot.old.upstream.heard))) }
-    ensures pair { OnOk result (pair_of slot.new ≡ record (pair_of slot.old) {
-      client = owes_reply (reply_for slot.old.waits (listed_of listed.now)
-          (front_body body_len slot.old.upstream.heard)) slot.old.client;
-    }) }
+    ensures pair { OnOk result (pair_of slot.new ≡ replied (reply_for slot.old.waits (listed_of listed.now)
+        (front_body body_len slot.old.upstream.heard)) body_len (pair_of slot.old)) }
     ensures number { slot.new.number ≡ slot.old.number }
 {
-    let answer = slot.upstream.body(body_len);
     match slot.waits {
         Waits::Nothing => Ok(false),
-        Waits::OnList => owe_cut(alloc, &mut slot.client, &listed.blobs, answer),
+        Waits::OnList => {
+            hand_list_on(
+                alloc,
+                &mut slot.upstream,
+                &mut slot.client,
+                &listed.blobs,
+                body_len,
+            )
+        }
         Waits::OnBind | Waits::OnReply => {
-            slot.client.owe(answer)?;
+            hand_on(&mut slot.upstream, &mut slot.client, body_len)?;
             Ok(true)
         }
     }
@@ -223,10 +227,9 @@ fn take_answer(
         body_len (pair_of slot.old))) }
     ensures number { slot.new.number ≡ slot.old.number }
 {
-    if !owe_reply(alloc, slot, listed, body_len)? {
+    if !reply(alloc, slot, listed, body_len)? {
         return Ok(false);
     }
-    slot.upstream.take(body_len);
     slot.waits = Waits::Nothing;
     Ok(is_none(slot.upstream.heard()))
 }

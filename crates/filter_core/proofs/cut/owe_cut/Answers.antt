@@ -1,10 +1,14 @@
 use Rattle.std.proofs.Common.{◌≡◌, Result, subst, sym}
 use Rattle.std.specs.Prelude.{IfOk, OnOk, is_some}
-use Rattle.agent_msg.specs.ReplyReading.{AgentReply, agent_reply}
+use Rattle.agent_msg.specs.ReplyReading.{AgentReply}
 use Rattle.agent_msg.specs.declared.agent_reply.ReplyFault.{ReplyFault}
 use Rattle.filter_model.specs.Looking.{cut_reply}
 use Rattle.filter_core.specs.Slots.{owes_reply}
+use Rattle.filter_core.proofs.CutLemmas.{short_reply}
 use Rattle.filter_core.proofs.cut.owe_cut.Goals as goal
+
+pub owe_read-requires : goal.owe_read-requires
+owe_read-requires c = short_reply c.args.answer.now _ c.in-Ok.ensures.found c.requires
 
 pub returns-in-Ok-clause-is_one : goal.returns-in-Ok-clause-is_one
 returns-in-Ok-clause-is_one c =
