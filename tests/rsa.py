@@ -371,7 +371,7 @@ VERIFIES = "rsa_verify::verification::opens"
 # both parts, iqmp, p and q. A wrong place shows: memcheck would find nothing in the verification either.
 SECRETS = [
     ("rsa_sign::part::part_of", [("$rsi", 128), ("$rcx", 128), ("$r9", 64)]),
-    ("rsa_sign::joining::set_joined", [("$rsi", 64), ("$rcx", 64), ("$r9", 64), (stacked(8), 64), (stacked(24), 64)]),
+    ("rsa_sign::joining::set_joined", [("$rsi", 64), ("$rcx", 64), ("$r9", 64), (stacked(16), 64), (stacked(32), 64)]),
 ]
 
 
