@@ -200,7 +200,7 @@ class Schedule(ChildMoves):
     def large_host_keys(self) -> None:
         """Host keys of a connection with as many bytes as they may have, one less or one more."""
         port, more = self.client(fresh=1), self.random.choice([-1, 0, 0, 1, 1])
-        for place, size in enumerate([65536, 65536, 65536, 65536 + more]):
+        for place, size in enumerate([16384, 16384, 16384, 16384 + more]):
             host_key = string(b"ssh-rsa") + string(b"\x03") + string(b"\x01" * (size - 20))
             self.bind(port, host_key, b"large %d" % place, forwarding=1)
 
