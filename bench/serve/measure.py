@@ -274,7 +274,7 @@ def tell_instructions():
     (WORK / "ssh-agent").chmod(0o755)
 
     def theirs(before):
-        path = WORK / "t.sock"
+        path = str(WORK / "t.sock")
         words = [*before, WORK / "ssh-agent", "-D", "-a", path]
         process = subprocess.Popen(words, stdout=subprocess.DEVNULL, stderr=subprocess.DEVNULL)
         until(lambda: rig.listens(path, True), 60, "ssh-agent under valgrind")
