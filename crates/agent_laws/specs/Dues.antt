@@ -31,14 +31,10 @@ without_ask number (other ∷ others) =
 
 -- an action's part in the open asks
 abbrev pub open_by : Action → List (ℕ × ℕ) → List (ℕ × ℕ)
-open_by (Requested requesting) before = before
 open_by (Asked asking) before = before ++ (asking.ask, asking.size) ∷ []
 open_by (Answered settled) before = without_ask settled.ask before
-open_by (Proved proving) before = before
-open_by (Raised raising) before = before
-open_by (Granted job) before = before
-open_by (Over job) before = before
 open_by Lost before = []
+open_by other before = before
 
 -- the asks since the last loss of the helper that it hasn't answered, each with the size of its body
 abbrev pub open_asks : List Stamped → List (ℕ × ℕ)
@@ -64,16 +60,15 @@ claim_of_request (Ok (Sign signing)) port =
     Some (record { port = port; addition = None; signing = signing })
 claim_of_request other port = None
 
--- a consent claims what the user was asked for, of the very addition
-abbrev pub claim_of_raising : Option Raising → Option Claim
-claim_of_raising None = None
-claim_of_raising (Some raising) = Some (record { port = raising.port; addition = Some raising.addition; signing = raising.signing })
-
--- what an action claims
+-- what an action claims: a consent what the user was asked for, of the very addition
 abbrev pub claim_of : Action → List Stamped → Option Claim
 claim_of (Requested requesting) before =
     claim_of_request (agent_request_of requesting.body) requesting.port
-claim_of (Granted job) before = claim_of_raising (raised_at job before)
+claim_of (Granted job) before = option_map (λ (raising : Raising). record {
+  port = raising.port;
+  addition = Some raising.addition;
+  signing = raising.signing;
+}) (raised_at job before)
 claim_of other before = None
 
 -- ---- which claims are met
@@ -82,11 +77,6 @@ claim_of other before = None
 abbrev pub is_consented : Option ℕ → PastAddition → Bool
 is_consented None past = not past.addition.terms.confirm
 is_consented (Some addition) past = past.number == addition
-
--- no denial
-abbrev pub is_permitted : Option Denial → Bool
-is_permitted None = true
-is_permitted (Some denial) = false
 
 -- there is a place for one more ask: fewer than 256 are open, whose bodies have less than 8 MiB together
 abbrev pub is_place : List (ℕ × ℕ) → Bool
@@ -98,7 +88,7 @@ abbrev pub is_met : Option PastAddition → Claim → List Binding → ℕ → L
 is_met None claim chain wall asks locked = false
 is_met (Some past) claim chain wall asks locked = is_consented claim.addition past
     && (let_sign past.addition.terms.purposes claim.signing.message claim.signing.blob
-    && (is_permitted (denial_under past.addition.terms.rules claim.signing.blob
+    && (is_none (denial_under past.addition.terms.rules claim.signing.blob
     chain claim.signing.message wall)
     && (is_place asks && not locked)))
 

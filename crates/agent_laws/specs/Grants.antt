@@ -17,14 +17,10 @@ use Rattle.agent_model.specs.State.{Port, State, find_port}
 -- what an action leaves of the confirmation of this job: what was raised, until the user agrees or
 -- it ends otherwise
 abbrev pub pending_by : ℕ → Action → Option Raising → Option Raising
-pending_by job (Requested requesting) before = before
-pending_by job (Asked asking) before = before
-pending_by job (Answered one) before = before
-pending_by job (Proved proving) before = before
 pending_by job (Raised raising) before = if raising.job == job then Some raising else before
 pending_by job (Granted other) before = if other == job then None else before
 pending_by job (Over other) before = if other == job then None else before
-pending_by job Lost before = before
+pending_by job action before = before
 
 -- what actions, the oldest first, leave of what the user is asked for by this job
 abbrev pub pending_after : ℕ → List Action → Option Raising → Option Raising
@@ -66,25 +62,14 @@ noted job confirmations = option_map wanted_of (find_job job confirmations)
 
 -- whether an action ends the confirmation of this job, by consent or without, as 1 or 0
 abbrev pub ends_by : ℕ → Action → ℕ
-ends_by job (Requested requesting) = 0
-ends_by job (Asked asking) = 0
-ends_by job (Answered one) = 0
-ends_by job (Proved proving) = 0
-ends_by job (Raised raising) = 0
 ends_by job (Granted other) = if other == job then 1 else 0
 ends_by job (Over other) = if other == job then 1 else 0
-ends_by job Lost = 0
+ends_by job action = 0
 
 -- whether an action raises a confirmation under this job, as 1 or 0
 abbrev pub raises_by : ℕ → Action → ℕ
-raises_by job (Requested requesting) = 0
-raises_by job (Asked asking) = 0
-raises_by job (Answered one) = 0
-raises_by job (Proved proving) = 0
 raises_by job (Raised raising) = if raising.job == job then 1 else 0
-raises_by job (Granted other) = 0
-raises_by job (Over other) = 0
-raises_by job Lost = 0
+raises_by job action = 0
 
 -- how often the confirmation of this job ends, and how often one is raised under it
 abbrev pub times_ended : ℕ → List Action → ℕ

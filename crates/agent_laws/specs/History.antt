@@ -42,14 +42,8 @@ IsPutWhereDue (ForBinding binding) port due = Unit {0}
 
 -- an action puts a signature where it is due, if it puts one
 abbrev pub StandsWhereDue : Action → Option Claim → Type 0
-StandsWhereDue (Requested requesting) due = Unit {0}
 StandsWhereDue (Asked asking) due = IsPutWhereDue asking.purpose asking.port due
-StandsWhereDue (Answered settled) due = Unit {0}
-StandsWhereDue (Proved proving) due = Unit {0}
-StandsWhereDue (Raised raising) due = Unit {0}
-StandsWhereDue (Granted job) due = Unit {0}
-StandsWhereDue (Over job) due = Unit {0}
-StandsWhereDue Lost due = Unit {0}
+StandsWhereDue other due = Unit {0}
 
 -- of each of these, the oldest first, behind those of the past, the newest first
 abbrev pub ArePutWhereDue : Option ℕ → List Stamped → List Stamped → Type 0

@@ -24,31 +24,14 @@ pub data Done : Type 0 where
   DidUnlock : Done
   DidUse : (blob : List ℕ) → Done
 
--- what a request did, by its reply: one that lists or signs changed nothing
-abbrev pub done_by : Reply → Done → Done
-done_by Success done = done
-done_by (Identities identities) done = DidNothing
-done_by (Signature signature) done = DidNothing
-
--- what a request did, by its verdict: one that wasn't answered with success did nothing
-abbrev pub done_if : Verdict → Done → Done
-done_if (Replies reply) done = done_by reply done
-done_if (Refuses cause) done = DidNothing
-done_if (Awaits waits) done = DidNothing
-
--- what a request with this verdict did to what is held
+-- what a request with this verdict did to what is held: one that wasn't answered with success did nothing
 abbrev pub done_of_request : Result ClientRequest MsgFault → Verdict → Done
-done_of_request (Err fault) verdict = DidNothing
-done_of_request (Ok ListIdentities) verdict = DidNothing
-done_of_request (Ok (Sign signing)) verdict = DidNothing
-done_of_request (Ok (Add addition)) verdict = done_if verdict (DidAdd addition)
-done_of_request (Ok (Remove blob)) verdict = done_if verdict (DidRemove blob)
-done_of_request (Ok RemoveAll) verdict = done_if verdict DidRemoveAll
-done_of_request (Ok (Lock passphrase)) verdict = done_if verdict DidLock
-done_of_request (Ok (Unlock passphrase)) verdict = done_if verdict DidUnlock
-done_of_request (Ok (Bind bind)) verdict = DidNothing
-done_of_request (Ok (OtherExtension name)) verdict = DidNothing
-done_of_request (Ok (Unsupported number)) verdict = DidNothing
+done_of_request (Ok (Add addition)) (Replies Success) = DidAdd addition
+done_of_request (Ok (Remove blob)) (Replies Success) = DidRemove blob
+done_of_request (Ok RemoveAll) (Replies Success) = DidRemoveAll
+done_of_request (Ok (Lock passphrase)) (Replies Success) = DidLock
+done_of_request (Ok (Unlock passphrase)) (Replies Success) = DidUnlock
+done_of_request read verdict = DidNothing
 
 -- what an ask did that was put to the helper: one for a signature used its key
 abbrev pub done_by_ask : Purpose → Done
@@ -60,24 +43,15 @@ abbrev pub done_of : Action → Done
 done_of (Requested requesting) =
     done_of_request (agent_request_of requesting.body) requesting.verdict
 done_of (Asked asking) = done_by_ask asking.purpose
-done_of (Answered settled) = DidNothing
-done_of (Proved proving) = DidNothing
-done_of (Raised raising) = DidNothing
-done_of (Granted job) = DidNothing
-done_of (Over job) = DidNothing
-done_of Lost = DidNothing
+done_of other = DidNothing
 
 -- ---- the lock
 
 -- whether the agent is locked behind something done, by whether it was before
 abbrev pub locked_by : Done → Bool → Bool
-locked_by DidNothing before = before
-locked_by (DidAdd addition) before = before
-locked_by (DidRemove blob) before = before
-locked_by DidRemoveAll before = before
 locked_by DidLock before = true
 locked_by DidUnlock before = false
-locked_by (DidUse blob) before = before
+locked_by done before = before
 
 -- of the locks and unlocks that succeeded, the last is a lock
 abbrev pub was_locked : List Stamped → Bool
@@ -88,13 +62,8 @@ was_locked (one ∷ before) = locked_by (done_of one.action) (was_locked before)
 
 -- one more where it is an addition
 abbrev pub counted_by : Done → ℕ → ℕ
-counted_by DidNothing before = before
 counted_by (DidAdd addition) before = before + 1
-counted_by (DidRemove blob) before = before
-counted_by DidRemoveAll before = before
-counted_by DidLock before = before
-counted_by DidUnlock before = before
-counted_by (DidUse blob) before = before
+counted_by done before = before
 
 -- how many additions succeeded
 abbrev pub addition_count : List Stamped → ℕ
@@ -115,17 +84,15 @@ used_again past = record past { uses = past.uses + 1 }
 
 -- behind something done at this second, of the key of this blob, by what was there before
 abbrev pub added_by : Done → List ℕ → ℕ → ℕ → Option PastAddition → Option PastAddition
-added_by DidNothing blob second number before = before
 added_by (DidAdd addition) blob second number before =
     if bytes_eq addition.key.blob blob
     then Some (record { number = number; second = second; addition = addition; uses = 0 })
     else before
 added_by (DidRemove other) blob second number before = if bytes_eq other blob then None else before
 added_by DidRemoveAll blob second number before = None
-added_by DidLock blob second number before = before
-added_by DidUnlock blob second number before = before
 added_by (DidUse other) blob second number before =
     if bytes_eq other blob then option_map used_again before else before
+added_by done blob second number before = before
 
 -- the last addition of this blob, if nothing removed it later
 abbrev pub last_addition : List ℕ → List Stamped → Option PastAddition

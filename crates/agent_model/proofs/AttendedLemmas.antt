@@ -1,5 +1,5 @@
 -- Who asks the user and who waits for it are open.
-use Rattle.std.proofs.Common.{◌≡◌, ◌≢◌, ℕ, suc, ◌+◌, ◌<◌, List, [], ◌∷◌, length, not, nat_lt, refl, ap, arith, sym, ◌∙◌, Option, Some, None, IsSome, Bool, true, false}
+use Rattle.std.proofs.Common.{◌≡◌, ◌≢◌, ℕ, suc, ◌+◌, ◌<◌, List, [], ◌∷◌, length, not, nat_lt, refl, ap, arith, sym, ◌∙◌, Option, Some, None, IsSome, Bool, true, false, if◌then◌else◌}
 use Rattle.std.proofs.lemmas.Bool.Decides.{nat_tests}
 use Rattle.world_ports.specs.declared.Door.{Door}
 use Rattle.world_ports.specs.declared.Door.TheVariants.{Clients, Children}
@@ -19,7 +19,7 @@ use Rattle.agent_model.specs.Asking.{AreAttended, IsAttended}
 use Rattle.agent_model.specs.Children.{changed, closed, unheard}
 use Rattle.agent_model.specs.Consents.{close_confirmer, grant_concluded, over_if, without_confirmation}
 use Rattle.agent_model.specs.Dispatch.{Served, host_for}
-use Rattle.agent_model.specs.Errands.{begun_by, held_for, raise_fault, raise_fault_by}
+use Rattle.agent_model.specs.Errands.{begun_by, held_for, raise_fault, spent_jobs}
 use Rattle.agent_model.specs.Events.{Happening, Joined, Heard, Ended, Took, Started, StartFailed, Tick, Timed}
 use Rattle.agent_model.specs.Limits.{most_confirmations}
 use Rattle.agent_model.specs.Runs.{run}
@@ -27,7 +27,7 @@ use Rattle.agent_model.specs.Sound.{IsTied}
 use Rattle.agent_model.specs.State.{Client, Confirmer, Helper, Nothing, OnAsk, OnConfirmation, Port, Role, Settings, State, UnderWay, Unnamed, change_port, find_port, first_state, role_of}
 use Rattle.agent_model.specs.Step.{admitted, asker_at, attempts, concluded, ended_at, ended_by_role, handle, has_room, step, take_frame}
 use Rattle.agent_model.specs.Time.{at_moment}
-use Rattle.agent_model.specs.Verdicts.{Awaits, HelperLost, NoLongerAllowed, NotConfirmed, Refuses, Replies, Verdict, tell}
+use Rattle.agent_model.specs.Verdicts.{Awaits, HelperLost, NoLongerAllowed, NotConfirmed, Refuses, Replies, Verdict, tell, TooManyConfirmations}
 use Rattle.agent_model.proofs.FatedLemmas.{step-fated}
 use Rattle.agent_model.proofs.FatedMakeLemmas.{fated-makes, found_still, tied-taken, tied_mid}
 use Rattle.agent_model.proofs.FatedServeLemmas.{linked-begun}
@@ -163,13 +163,13 @@ module _ (state : State) (tied : IsTied state) (attended : IsAttended state) whe
 
 raised_room : (under_way : UnderWay) → raise_fault under_way ≡ None
     → length under_way.confirmations < 16
-raised_room under_way free = by_full (not (nat_lt (length under_way.confirmations) most_confirmations)) refl free
+raised_room under_way free = by_room (nat_lt (length under_way.confirmations) most_confirmations) refl free
   where
-    by_full : (full : Bool)
-        → not (nat_lt (length under_way.confirmations) most_confirmations) ≡ full
-        → raise_fault_by full under_way.last_job ≡ None → length under_way.confirmations < 16
-    by_full true is none = absurd (cc)
-    by_full false is none = grind (arith, nat_tests)
+    by_room : (room : Bool) → nat_lt (length under_way.confirmations) most_confirmations ≡ room
+        → (if room then spent_jobs under_way.last_job else Some TooManyConfirmations) ≡ None
+        → length under_way.confirmations < 16
+    by_room false is none = absurd (cc)
+    by_room true is none = grind (arith, nat_tests)
 
 module _ (body : List ℕ) (take : Port → Port) (keeps : (p : Port) → (take p).number ≡ p.number) (port : Port) (state : State) (found : find_port port.number state.ports ≡ Some port) (tied : IsTied state) (attended : IsAttended state) where
   opens-served : (verdict : Verdict)

@@ -1,5 +1,5 @@
 -- What an event of no client brings in two states, where it brings the same of both: small changes, and then the same end.
-use Rattle.std.proofs.Common.{◌≡◌, ℕ, List, ◌++◌, refl, ap, sym, subst, ◌∙◌, Bool, true, false, Option, Some, None, Result, Ok, Err}
+use Rattle.std.proofs.Common.{◌≡◌, ℕ, List, ◌++◌, refl, ap, sym, subst, ◌∙◌, Bool, true, false, Option, Some, None, Result, Ok, Err, if◌then◌else◌}
 use Rattle.std.specs.Option.{option_map}
 use Rattle.std.specs.Str.{bytes_eq}
 use Rattle.world_ports.specs.declared.Door.{Door}
@@ -15,7 +15,7 @@ use Rattle.confirm_desk.specs.Confirmations.{Confirmation, find_asker, find_job}
 use Rattle.helper_link.specs.declared.state.LinkState.{LinkState}
 use Rattle.agent_model.specs.Actions.{Outcome, stay}
 use Rattle.agent_model.specs.Answers.{helper_heard, lose, lose_where}
-use Rattle.agent_model.specs.Children.{changed, closed, confirmer_goes_on, confirmer_named, failed_by, first_frame, first_message, heard_more, hello_heard, helper_named, is_started_by, job_failed, job_left, named_by, shut, shut_then, start_failed, ticket_shown}
+use Rattle.agent_model.specs.Children.{changed, closed, confirmer_goes_on, confirmer_named, failed_by, first_frame, first_message, heard_more, hello_heard, helper_named, is_started_by, job_left, named_by, shut, shut_then, start_failed}
 use Rattle.agent_model.specs.Consents.{confirmer_heard, find_started, over, over_if}
 use Rattle.agent_model.specs.State.{Client, Confirmer, Helper, Port, Role, StartedJob, State, Unnamed, find_port, find_to_start, role_of}
 use Rattle.agent_model.specs.Step.{confirmer_took, ended_at, ended_by_role, heard_at, heard_by_role, helper_took, took_at, took_by_role}
@@ -113,7 +113,7 @@ module _ (S : State → State → Type 0) (R : Outcome → Outcome → Type 0) (
         (both-goes_on job (find_job job first.under_way.confirmations) rest first second refl after)
 
     both-ticket : (right : Bool) (job : Job) (rest : List ℕ)
-        → InBoth (ticket_shown right job number rest)
+        → InBoth (λ state. if right then named_by job.kind job.number number rest state else shut number state)
     both-ticket true job rest = both-named job.kind job.number rest
     both-ticket false job rest = both-shut
 
@@ -232,7 +232,7 @@ module _ (S : State → State → Type 0) (R : Outcome → Outcome → Type 0) (
   both-start_failed (Some job) one other is = both-failed_by job.kind job.number (job_left job.number one) (job_left job.number other) (alike.leaves job.number one other is)
 
   pub both-failed : (number : ℕ) (one other : State) → S one other
-      → R (job_failed number one) (job_failed number other)
+      → R (start_failed (find_to_start number one.under_way.to_start) one) (start_failed (find_to_start number other.under_way.to_start) other)
   both-failed number one other is =
-      subst (λ jobs. R (job_failed number one) (start_failed (find_to_start number jobs) other)) (sym (alike.way one other is).to_start)
+      subst (λ jobs. R (start_failed (find_to_start number one.under_way.to_start) one) (start_failed (find_to_start number jobs) other)) (sym (alike.way one other is).to_start)
       (both-start_failed (find_to_start number one.under_way.to_start) one other is)

@@ -17,14 +17,14 @@ use Rattle.helper_link.specs.HelperLink.{sendable, sent}
 use Rattle.helper_link.specs.declared.state.LinkState.{LinkState}
 use Rattle.helper_link.specs.declared.state.LinkState.TheVariants as states
 use Rattle.agent_model.specs.Actions.{Outcome}
-use Rattle.agent_model.specs.Budget.{asking_bytes, budget, port_budget, ports_budget}
+use Rattle.agent_model.specs.Budget.{budget, port_budget, ports_budget}
 use Rattle.agent_model.specs.Children.{changed}
 use Rattle.agent_model.specs.Dispatch.{Served}
 use Rattle.agent_model.specs.Events.{Happening, Took}
 use Rattle.wire_text.specs.Bounds.{longest_body}
 use Rattle.agent_model.specs.Looks.{due, due_front, due_by}
 use Rattle.agent_model.specs.Sound.{IsRising, IsSteady}
-use Rattle.agent_model.specs.State.{Client, Confirmer, Helper, Nothing, OnAsk, OnConfirmation, Port, Role, State, UnderWay, Unnamed, Waits, change_port, find_port, is_linked_to, is_some_bytes, owed_as, owed_by, owed_by_port, owed_of, role_of}
+use Rattle.agent_model.specs.State.{Client, Confirmer, Helper, Nothing, OnAsk, OnConfirmation, Port, Role, State, UnderWay, Unnamed, Waits, change_port, find_port, is_linked_to, is_some_bytes, owed_as, owed_by, owed_by_port, owed_of, role_of, is_client}
 use Rattle.agent_model.specs.Step.{asker_at, attempts, handle, looked, step, take_frame, took_at, took_by_role, took_some}
 use Rattle.agent_model.specs.Time.{at_moment}
 use Rattle.agent_model.specs.Verdicts.{tell}
@@ -258,7 +258,7 @@ helper_lowers number port state door linked found some =
     ∙ ap (λ n. ports_budget (paid n uw) state.ports + (length uw.link.asks + length uw.confirmations)) count_is in
     let left : is_some_bytes (owed_by_port port (paid all uw)) ≡ false =
     ap (λ r. is_some_bytes (owed_as r port (paid all uw))) new_role ∙ ap is_some_bytes (nothing_left uw.link.state uw.link.owed) in
-    omega (arith, handled, one_lower number state.ports port uw (paid all uw) (λ p. pays p all uw) found (counts_less (asking_bytes port.door port.heard) (is_some_bytes (owed_by_port port (paid all uw))) (is_some_bytes (owed_by_port port uw)) left some))
+    omega (arith, handled, one_lower number state.ports port uw (paid all uw) (λ p. pays p all uw) found (counts_less (if is_client port.door then length port.heard else 0) (is_some_bytes (owed_by_port port (paid all uw))) (is_some_bytes (owed_by_port port uw)) left some))
 
 -- ---- a confirmer
 
@@ -328,7 +328,7 @@ confirmer_lowers number port state confirmation steady door linked at found some
     let as_many : length new.confirmations ≡ length uw.confirmations = length-change (has_key job_of confirmation.job) (desk.took_some count) uw.confirmations in
     let left : is_some_bytes (owed_by_port port new) ≡ false =
     ap (λ r. is_some_bytes (owed_as r port new)) new_role ∙ ap is_some_bytes (drop-length confirmation.owed) in
-    omega (arith, handled, as_many, one_lower number state.ports port uw new (λ p. served_pays p confirmation.job count uw) found (counts_less (asking_bytes port.door port.heard) (is_some_bytes (owed_by_port port new)) (is_some_bytes (owed_by_port port uw)) left some))
+    omega (arith, handled, as_many, one_lower number state.ports port uw new (λ p. served_pays p confirmation.job count uw) found (counts_less (if is_client port.door then length port.heard else 0) (is_some_bytes (owed_by_port port new)) (is_some_bytes (owed_by_port port uw)) left some))
 
 -- ---- any port
 

@@ -18,7 +18,7 @@ use Rattle.agent_model.proofs.PortsLemmas.{change_port-twice, find_port-change_p
 
 -- a client is looked at by what is to be taken of it
 looked_by_due : (waits : Waits) (owed : List ℕ) (port : Port) (state : State) → port.waits ≡ waits
-    → port.owed ≡ owed → look_waits port.waits port state ≡ look_front (due port) port state
+    → port.owed ≡ owed → look_waits port.waits port.owed port state ≡ look_front (due port) port state
 looked_by_due Nothing [] port state waits owed = rw (waits, owed)
 looked_by_due Nothing (byte ∷ bytes) port state waits owed = rw (waits, owed)
 looked_by_due (OnAsk ask) owed port state waits is = rw waits

@@ -11,9 +11,8 @@ use Rattle.dest_rule.specs.declared.binding.Binding.{Binding}
 use Rattle.identity_table.specs.Identities.{HeldKey, find_number}
 use Rattle.agent_model.specs.Actions.{Outcome, stay}
 use Rattle.agent_model.specs.Asking.{IsAttended}
-use Rattle.agent_model.specs.Consents.{close_confirmer, confirmer_heard, consent_by, grant, grant_by, grant_concluded, grant_to, grant_unless, grant_with, grant_work, over, with_heard, without_confirmation}
+use Rattle.agent_model.specs.Consents.{close_confirmer, confirmer_heard, consent_by, grant, grant_by, grant_concluded, grant_to, grant_unless, grant_work, over, with_heard, without_confirmation}
 use Rattle.agent_model.specs.Events.{Heard}
-use Rattle.agent_model.specs.KeyStates.{KeyState}
 use Rattle.agent_model.specs.Sound.{IsTied}
 use Rattle.agent_model.specs.State.{Confirmer, Port, State, UnderWay, change_port, find_port, is_linked_to, role_by_helper, role_of}
 use Rattle.agent_model.specs.Step.{handle, heard_at, heard_by_role, step}
@@ -46,23 +45,19 @@ remove-told : (job : ℕ) (piece : List ℕ) (confirmations : List Confirmation)
 remove-told job piece confirmations =
     remove-change (has_key job_of job) (heard_more piece) confirmations (λ c. refl)
 
-module _ (piece : List ℕ) (confirmation : Confirmation) (chain : List Binding) (wall : ℕ) (held : KeyState) (under_way : UnderWay) where
+module _ (piece : List ℕ) (confirmation : Confirmation) (chain : List Binding) (wall : ℕ) (under_way : UnderWay) where
   unless-alike : (result : Option Cause) (key : HeldKey)
       → grant_unless result key (heard_more piece confirmation) under_way ≡ grant_unless result key confirmation under_way
   unless-alike (Some cause) key = refl
   unless-alike None key = refl
 
-  with-alike : (found : Option HeldKey)
-      → grant_with found chain (heard_more piece confirmation) wall under_way ≡ grant_with found chain confirmation wall under_way
-  with-alike None = refl
-  with-alike (Some key) =
-      unless-alike (objection key key.blob chain confirmation.message wall) key
-
   -- nor what was heard before it is granted
-  granted-alike : (lock : Option (List ℕ))
-      → grant_by lock held chain (heard_more piece confirmation) wall under_way ≡ grant_by lock held chain confirmation wall under_way
-  granted-alike (Some passphrase) = refl
-  granted-alike None = with-alike (find_number confirmation.addition held.table.identities)
+  granted-alike : (lock : Option (List ℕ)) (found : Option HeldKey)
+      → grant_by lock found chain (heard_more piece confirmation) wall under_way ≡ grant_by lock found chain confirmation wall under_way
+  granted-alike (Some passphrase) found = refl
+  granted-alike None None = refl
+  granted-alike None (Some key) =
+      unless-alike (objection key key.blob chain confirmation.message wall) key
 
 -- ---- the confirmer's port
 
@@ -134,8 +129,8 @@ module _ (moment : Moment) (state : State) (number : ℕ) (a b : List ℕ) (port
 
   work_same : grant_work asker.0.chain (heard_more a confirmation) next ≡ grant_work asker.0.chain confirmation state
   work_same =
-      granted-alike a confirmation asker.0.chain state.moment.wall state.held (without_confirmation confirmation.job next.under_way) state.held.lock
-      ∙ ap (λ u. grant_by state.held.lock state.held asker.0.chain confirmation state.moment.wall u) left_same
+      granted-alike a confirmation asker.0.chain state.moment.wall (without_confirmation confirmation.job next.under_way) state.held.lock (find_number confirmation.addition state.held.table.identities)
+      ∙ ap (λ u. grant_by state.held.lock (find_number confirmation.addition state.held.table.identities) asker.0.chain confirmation state.moment.wall u) left_same
 
   granted_next : grant (heard_more a confirmation) next ≡ grant_concluded (grant_work asker.0.chain confirmation state) (heard_more a confirmation) next
   granted_next =

@@ -5,7 +5,7 @@ use Rattle.dest_rule.specs.declared.binding.Binding.{Binding}
 use Rattle.identity_table.specs.Identities.{HeldKey, find_number}
 use Rattle.agent_model.specs.Actions.{Work, settles}
 use Rattle.agent_model.specs.Askable.{HasRoom, IsGrantable, IsRefusedAtGrant}
-use Rattle.agent_model.specs.Consents.{grant_by, grant_unless, grant_with, grant_work, signing_of, without_confirmation}
+use Rattle.agent_model.specs.Consents.{grant_by, grant_unless, grant_work, signing_of, without_confirmation}
 use Rattle.agent_model.specs.Errands.{Signs, ask_fault, put_unless}
 use Rattle.agent_model.specs.KeyStates.{KeyState}
 use Rattle.agent_model.specs.Objections.{objection}
@@ -49,22 +49,22 @@ module _ (chain : List Binding) (confirmation : Confirmation) (wall : ℕ) (held
   ends-unless None key unlocked found is =
       ends-put (ask_fault under_way) key record { unlocked = unlocked; found = found; permitted = is } refl
 
-  ends-with : (found : Option HeldKey) → held.lock ≡ None
+  ends-found : (lock : Option (List ℕ)) (found : Option HeldKey) → held.lock ≡ lock
       → find_number confirmation.addition held.table.identities ≡ found
-      → Ends (grant_with found chain confirmation wall under_way)
-  ends-with None unlocked is =
+      → Ends (grant_by lock found chain confirmation wall under_way)
+  ends-found None None unlocked is =
       disallowed (λ key may. let no : None ≡ Some key = sym is ∙ may.found in absurd (cc))
-  ends-with (Some key) unlocked is =
+  ends-found None (Some key) unlocked is =
       ends-unless (objection key key.blob chain confirmation.message wall) key unlocked is refl
+  ends-found (Some passphrase) found is _ =
+      disallowed (λ key may. let no : Some passphrase ≡ None = sym is ∙ may.unlocked in absurd (cc))
 
   ends-by : (lock : Option (List ℕ)) → held.lock ≡ lock
-      → Ends (grant_by lock held chain confirmation wall under_way)
-  ends-by (Some passphrase) is =
-      disallowed (λ key may. let no : Some passphrase ≡ None = sym is ∙ may.unlocked in absurd (cc))
-  ends-by None is = ends-with (find_number confirmation.addition held.table.identities) is refl
+      → Ends (grant_by lock (find_number confirmation.addition held.table.identities) chain confirmation wall under_way)
+  ends-by lock is = ends-found lock (find_number confirmation.addition held.table.identities) is refl
 
 -- whatever is held by now
-pub granted-ends : (chain : List Binding) (confirmation : Confirmation) (wall : ℕ) (held : KeyState) (under_way : UnderWay) → IsGranted chain confirmation wall held under_way (grant_by held.lock held chain confirmation wall under_way)
+pub granted-ends : (chain : List Binding) (confirmation : Confirmation) (wall : ℕ) (held : KeyState) (under_way : UnderWay) → IsGranted chain confirmation wall held under_way (grant_by held.lock (find_number confirmation.addition held.table.identities) chain confirmation wall under_way)
 granted-ends chain confirmation wall held under_way =
     ends-by chain confirmation wall held under_way held.lock refl
 
@@ -83,10 +83,10 @@ module _ (chain : List Binding) (confirmation : Confirmation) (wall : ℕ) (held
 
   -- what comes of it then
   granted_so : (fault : Option Cause) (key : HeldKey) → May key → ask_fault under_way ≡ fault
-      → grant_by held.lock held chain confirmation wall under_way ≡ put_unless fault (Signs key (signing_of key confirmation)) confirmation.asker under_way
+      → grant_by held.lock (find_number confirmation.addition held.table.identities) chain confirmation wall under_way ≡ put_unless fault (Signs key (signing_of key confirmation)) confirmation.asker under_way
   granted_so fault key may is =
-      ap (λ lock. grant_by lock held chain confirmation wall under_way) may.unlocked
-      ∙ ap (λ found. grant_with found chain confirmation wall under_way) may.found
+      ap (λ lock. grant_by lock (find_number confirmation.addition held.table.identities) chain confirmation wall under_way) may.unlocked
+      ∙ ap (λ found. grant_by None found chain confirmation wall under_way) may.found
       ∙ ap (λ result. grant_unless result key confirmation under_way) may.permitted
       ∙ ap (λ f. put_unless f (Signs key (signing_of key confirmation)) confirmation.asker under_way) is
 
@@ -123,7 +123,7 @@ module _ (chain : List Binding) (confirmation : Confirmation) (wall : ℕ) (held
   never_granted (allowed key may unspent) none = absurd (none key may)
 
   because : (cause : Cause) → IsRefusedAtGrant cause chain confirmation wall held under_way
-      → (grant_by held.lock held chain confirmation wall under_way).verdict ≡ Refuses cause
+      → (grant_by held.lock (find_number confirmation.addition held.table.identities) chain confirmation wall under_way).verdict ≡ Refuses cause
   because NoLongerAllowed why =
       never_granted (ends-by chain confirmation wall held under_way held.lock refl) why
   because TooManyAsks why = ap (λ (w : Work). w.verdict) (granted_so (Some TooManyAsks) why.0 why.1 (room-full under_way why.2))
@@ -132,17 +132,17 @@ module _ (chain : List Binding) (confirmation : Confirmation) (wall : ℕ) (held
   because other why = absurd why
 
   pub granted-exactly : (ask : ℕ)
-      → ((grant_by held.lock held chain confirmation wall under_way).verdict ≡ Awaits (OnAsk ask)) ↔ ((key : HeldKey) × May key × HasRoom under_way × (ask ≡ under_way.link.last + 1))
+      → ((grant_by held.lock (find_number confirmation.addition held.table.identities) chain confirmation wall under_way).verdict ≡ Awaits (OnAsk ask)) ↔ ((key : HeldKey) × May key × HasRoom under_way × (ask ≡ under_way.link.last + 1))
   granted-exactly ask = (
     by_put ask (ends-by chain confirmation wall held under_way held.lock refl),
     λ why. ap (λ (w : Work). w.verdict) (granted_so None why.0 why.1 (room-free under_way why.2)) ∙ ap (λ n. Awaits (OnAsk n)) (sym why.3),
   )
 
   pub ungranted-exactly : (cause : Cause)
-      → ((grant_by held.lock held chain confirmation wall under_way).verdict ≡ Refuses cause) ↔ IsRefusedAtGrant cause chain confirmation wall held under_way
+      → ((grant_by held.lock (find_number confirmation.addition held.table.identities) chain confirmation wall under_way).verdict ≡ Refuses cause) ↔ IsRefusedAtGrant cause chain confirmation wall held under_way
   ungranted-exactly cause = (by_cause cause (ends-by chain confirmation wall held under_way held.lock refl), because cause)
 
   -- what is put is what was asked for
   pub granted-put : (key : HeldKey) → May key → HasRoom under_way
-      → grant_by held.lock held chain confirmation wall under_way ≡ put_unless None (Signs key (signing_of key confirmation)) confirmation.asker under_way
+      → grant_by held.lock (find_number confirmation.addition held.table.identities) chain confirmation wall under_way ≡ put_unless None (Signs key (signing_of key confirmation)) confirmation.asker under_way
   granted-put key may room = granted_so None key may (room-free under_way room)

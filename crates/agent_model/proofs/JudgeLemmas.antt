@@ -22,7 +22,7 @@ use Rattle.helper_link.specs.declared.ask.Ask.{Ask}
 use Rattle.helper_link.specs.declared.ask.AskKind.{AskKind}
 use Rattle.lists.proofs.KeyedLemmas.{differ, find_by-remove_apart}
 use Rattle.helper_link.proofs.OrderLemmas.{find-remove}
-use Rattle.agent_model.specs.Answers.{chain_with, find_verification, remove_verification, ask_number}
+use Rattle.agent_model.specs.Answers.{chain_with, find_verification, remove_verification}
 use Rattle.agent_model.specs.Bindings.{bound_once}
 use Rattle.agent_model.specs.Sound.{AreApart, AreChains, AreJudged, AreNoted, AreTied, IsRight, IsRising, judged}
 use Rattle.agent_model.specs.State.{Port, Verification, change_port, find_port, remove_port}
@@ -34,13 +34,13 @@ use Rattle.agent_model.proofs.TieLemmas.{IsOf, apart, found_after, here, one_ask
 -- what comes first is found
 pub find_verification-append : (ask : ℕ) (some more : List Verification)
     → find_verification ask (some ++ more) ≡ option_or (find_verification ask some) (find_verification ask more)
-find_verification-append ask some more = find-append (has_key ask_number ask) some more
+find_verification-append ask some more = find-append (has_key (λ (one : Verification). one.ask) ask) some more
 
 -- the removal of another leaves one
 pub find_verification-apart : (ask other : ℕ) (all : List Verification) → other ≢ ask
     → find_verification ask (remove_verification other all) ≡ find_verification ask all
 find_verification-apart ask other all differs =
-    find_by-remove_apart ask_number ask other all (λ is. differs (sym is))
+    find_by-remove_apart (λ (one : Verification). one.ask) ask other all (λ is. differs (sym is))
 
 -- one that is found after a removal was there
 pub found_before : (ask other : ℕ) (all : List Verification) (one : Verification)

@@ -1,5 +1,5 @@
 -- What events are made of: a few small changes of the state, one after another.
-use Rattle.std.proofs.Common.{◌≡◌, ◌≢◌, ◌==◌, ℕ, List, [], ◌∷◌, ◌++◌, arith, drop, refl, ap, subst, sym, ◌∙◌, Bool, true, false, Option, Some, None, Result, Ok, Err}
+use Rattle.std.proofs.Common.{◌≡◌, ◌≢◌, ◌==◌, ℕ, List, [], ◌∷◌, ◌++◌, arith, drop, refl, ap, subst, sym, ◌∙◌, Bool, true, false, Option, Some, None, Result, Ok, Err, if◌then◌else◌}
 use Rattle.std.proofs.lemmas.List.{drop_all}
 use Rattle.std.proofs.lemmas.Bool.Decides.{nat_tests}
 use Rattle.helper_link.specs.declared.state.LinkState.{LinkState}
@@ -20,12 +20,12 @@ use Rattle.confirm_desk.specs.Confirmations as desk
 use Rattle.helper_link.specs.Telling.{telling}
 use Rattle.agent_model.specs.Actions.{Outcome, closing, stay}
 use Rattle.agent_model.specs.Answers.{helper_tells, lose, lose_where}
-use Rattle.agent_model.specs.Children.{changed, closed, confirmer_goes_on, confirmer_named, failed_by, start_failed, first_frame, first_message, heard_more, hello_heard, helper_named, is_started_by, job_left, job_started, named_by, shut, ticket_shown, unheard}
-use Rattle.agent_model.specs.Consents.{consent_by, find_started, started_number, grant_concluded, grant_to, grant_work, over, over_if, with_heard}
+use Rattle.agent_model.specs.Children.{changed, closed, confirmer_goes_on, confirmer_named, failed_by, start_failed, first_frame, first_message, heard_more, hello_heard, helper_named, is_started_by, job_left, job_started, named_by, shut, unheard}
+use Rattle.agent_model.specs.Consents.{consent_by, find_started, grant_concluded, grant_to, grant_work, over, over_if, with_heard}
 use Rattle.agent_model.specs.Events.{Happening, Joined, Heard, Ended, Took, Started, StartFailed, Tick}
 use Rattle.wire_text.specs.Bounds.{longest_body}
 use Rattle.agent_model.specs.State.{Client, Confirmer, Helper, Nothing, OnAsk, OnConfirmation, Port, Role, StartedJob, State, UnderWay, Unnamed, Waits, change_port, find_port, find_to_start, is_linked_to, job_number, role_by_helper, role_by_link, role_of}
-use Rattle.agent_model.specs.Step.{confirmer_took, ended_at, ended_by_role, handle, heard_at, heard_by_role, helper_took, join, look_front, look_owed, look_port, look_waits, taken, took_at, took_by_role, took_some}
+use Rattle.agent_model.specs.Step.{confirmer_took, ended_at, ended_by_role, handle, heard_at, heard_by_role, helper_took, join, look_front, look_port, look_waits, taken, took_at, took_by_role, took_some}
 use Rattle.lists.proofs.KeyedLemmas.{find_by-change, found_key}
 use Rattle.agent_model.proofs.JobLemmas.{IsIn, in-by_asker, in-by_job, in-by_port, linked_port}
 use Rattle.agent_model.proofs.PortsLemmas.{find_port-change_port, found_number}
@@ -302,16 +302,12 @@ module _ (event : Happening) where
     makes-front (Bad announced) waits owed = first (closes port.number (idle port found waits owed door)) (stays (closed port.number state))
     makes-front More waits owed = stays state
 
-    makes-owed : (owed : List ℕ) → port.waits ≡ Nothing → port.owed ≡ owed
-        → Makes event state (look_owed owed port state)
-    makes-owed [] waits is = makes-front (front longest_body port.heard) waits is
-    makes-owed (byte ∷ bytes) waits is = stays state
-
-    makes-waits : (waits : Waits) → port.waits ≡ waits
-        → Makes event state (look_waits waits port state)
-    makes-waits Nothing is = makes-owed port.owed is refl
-    makes-waits (OnAsk ask) is = stays state
-    makes-waits (OnConfirmation job) is = stays state
+    makes-waits : (waits : Waits) (owed : List ℕ) → port.waits ≡ waits → port.owed ≡ owed
+        → Makes event state (look_waits waits owed port state)
+    makes-waits Nothing [] waits owed = makes-front (front longest_body port.heard) waits owed
+    makes-waits Nothing (byte ∷ bytes) waits owed = stays state
+    makes-waits (OnAsk ask) owed waits is = stays state
+    makes-waits (OnConfirmation job) owed waits is = stays state
 
   makes-look : (number : ℕ) (found : Option Port) (state : State)
       → find_port number state.ports ≡ found
@@ -319,7 +315,7 @@ module _ (event : Happening) where
       → Makes event state (look_port found state)
   makes-look number None state is client own = stays state
   makes-look number (Some port) state is client own =
-      makes-waits port state (own_number number port state.ports is) (client port refl) (subst (IsOf event) (sym (found_number number state.ports port is)) own) port.waits refl
+      makes-waits port state (own_number number port state.ports is) (client port refl) (subst (IsOf event) (sym (found_number number state.ports port is)) own) port.waits port.owed refl refl
 
   makes-over_if : (found : Option Confirmation) (state : State)
       → ((confirmation : Confirmation) → found ≡ Some confirmation → IsIn confirmation state.under_way.confirmations)
@@ -369,9 +365,9 @@ module _ (event : Happening) where
 
     makes-ticket : (same : Bool) (job : ℕ) (one : StartedJob) (rest : List ℕ)
         → find_started job state.under_way.started ≡ Some one
-        → Makes event state (ticket_shown same one.job number rest state)
+        → Makes event state (if same then named_by one.job.kind one.job.number number rest state else shut number state)
     makes-ticket true job one rest started =
-        makes-named one.job.kind one.job.number one rest (ap (λ j. find_started j state.under_way.started) (found_key started_number job state.under_way.started one started) ∙ started) refl
+        makes-named one.job.kind one.job.number one rest (ap (λ j. find_started j state.under_way.started) (found_key (λ (one : StartedJob). one.job.number) job state.under_way.started one started) ∙ started) refl
     makes-ticket false job one rest started = makes-shut
 
     makes-hello : (job : ℕ) (found_job : Option StartedJob) (ticket rest : List ℕ)

@@ -7,8 +7,8 @@ use Rattle.lists.proofs.KeyedLemmas.{find_by-change}
 use Rattle.world_ports.specs.declared.Door.{Door}
 use Rattle.world_ports.specs.declared.Door.TheVariants.{Clients, Children}
 use Rattle.confirm_desk.specs.Confirmations.{Confirmation, find_linked}
-use Rattle.agent_model.specs.Budget.{asking_bytes, port_budget, ports_budget}
-use Rattle.agent_model.specs.State.{Helper, Port, Role, UnderWay, change_port, find_port, is_linked_to, is_some_bytes, number_of, owed_as, remove_port, role_by_helper, role_by_link, role_of}
+use Rattle.agent_model.specs.Budget.{port_budget, ports_budget}
+use Rattle.agent_model.specs.State.{Helper, Port, Role, UnderWay, change_port, find_port, is_linked_to, is_some_bytes, number_of, owed_as, remove_port, role_by_helper, role_by_link, role_of, is_client}
 
 -- a change of the port of this number changes its part of the budget alone
 pub budget-change : (under_way : UnderWay) (number : ℕ) (f : Port → Port) (ports : List Port) (port : Port)
@@ -47,7 +47,7 @@ found_changed number f ports port keeps found =
 pub client_budget : (under_way : UnderWay) (port : Port) → port.door ≡ Clients
     → port_budget under_way port ≡ length port.heard + (if is_some_bytes port.owed then 1 else 0)
 client_budget under_way port door =
-    ap (λ d. asking_bytes d port.heard + (if is_some_bytes (owed_as (role_of d port.number under_way) port under_way) then 1 else 0)) door
+    ap (λ d. (if is_client d then length port.heard else 0) + (if is_some_bytes (owed_as (role_of d port.number under_way) port under_way) then 1 else 0)) door
 
 pub one_or_none : (b : Bool) → (if b then 1 else 0) ≤ 1
 one_or_none true = omega arith

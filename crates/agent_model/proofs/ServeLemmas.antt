@@ -4,7 +4,7 @@ use Rattle.std.specs.Str.{bytes_eq}
 use Rattle.identity_table.specs.Identities.{HeldKey, find_identity, identities_with, is_full, remove_identity}
 use Rattle.agent_msg.specs.declared.fault.MsgFault.{MsgFault}
 use Rattle.agent_msg.specs.Requests.{Addition, BindRequest, ClientRequest, Signing, ListIdentities, Sign, Add, Remove, RemoveAll, Lock, Unlock, Bind, OtherExtension, Unsupported}
-use Rattle.agent_model.specs.Dispatch.{with_addition, with_identities, Asker, Served, add_by, add_fault, add_seen, add_unless, answers, bind_by, host_for, keeps, lock_by, refuses, remove_by, remove_seen, seen_by, sees, serve, serve_by, serve_locked, serve_unlocked, sign_by, sign_unless, sign_with, unlock_by, unread, uses}
+use Rattle.agent_model.specs.Dispatch.{with_addition, with_identities, Asker, Served, add_by, add_fault, add_seen, add_unless, answers, bind_by, host_for, lock_by, refuses, remove_by, remove_seen, seen_by, sees, serve, serve_by, serve_locked, serve_unlocked, sign_by, sign_unless, unlock_by, unread, uses}
 use Rattle.agent_model.specs.Errands.{Errand, Signs, Verifies, ask_fault, put_unless, raise_fault, raise_unless}
 use Rattle.agent_msg.specs.Reading.{request_of}
 use Rattle.key_blob.specs.PublicKeys.{KeyParts, public_key_of}
@@ -12,7 +12,7 @@ use Rattle.key_blob.specs.declared.fault.KeyFault.{KeyFault}
 use Rattle.dest_rule.specs.Chains.{judge}
 use Rattle.dest_rule.specs.declared.fault.Next.{Next as Judgement}
 use Rattle.dest_rule.specs.declared.fault.Next.TheVariants.{New, Refuse, Same}
-use Rattle.agent_model.specs.Binds.{agent_request_of, and_host_key, bind_with, with_host_key}
+use Rattle.agent_model.specs.Binds.{agent_request_of, and_host_key, bind_with}
 use Rattle.agent_model.specs.KeyStates.{KeyState}
 use Rattle.agent_model.specs.Sound.{judged}
 use Rattle.agent_model.specs.Limits.{last_number}
@@ -60,7 +60,7 @@ pub data Serves (read : Result ClientRequest MsgFault) (asker : Asker) (held : K
       → Serves read asker held under_way (uses held (raise_unless None key (host_for asker key signing) signing asker.port under_way))
   verifies : (bind : BindRequest) (is_new : Bool) → read ≡ Ok (Bind bind)
       → judge bind.host_key bind.session asker.chain ≡ judged is_new → ask_fault under_way ≡ None
-      → Serves read asker held under_way (keeps held (put_unless None (Verifies bind is_new) asker.port under_way))
+      → Serves read asker held under_way (record { held = held; work = put_unless None (Verifies bind is_new) asker.port under_way })
 
 -- where it is a request to bind, its host key is one that is read
 abbrev IsReadable : ClientRequest → Type 0
@@ -76,7 +76,7 @@ readable-bind : (read : Result KeyParts KeyFault) (bind : BindRequest)
 readable-bind (Ok key) bind is = subst IsOk (sym is) refl
 readable-bind (Err fault) bind is = tt
 
-readable-with : (request : ClientRequest) → AreReadable (with_host_key request)
+readable-with : (request : ClientRequest) → AreReadable (and_host_key (Ok request))
 readable-with ListIdentities = tt
 readable-with (Sign signing) = tt
 readable-with (Add addition) = tt
@@ -114,12 +114,12 @@ module _ (read : Result ClientRequest MsgFault) (asker : Asker) (held : KeyState
       serves-raise None fault = confirms signing key is found fault
 
       serves-with : (confirm : Bool) → key.confirm ≡ confirm →
-          Is (uses held (sign_with confirm asker key signing under_way))
+          Is (uses held (sign_unless None confirm asker key signing under_way))
       serves-with true asks = serves-raise (raise_fault under_way) refl
       serves-with false asks = serves-put (ask_fault under_way) refl asks
 
       serves-permitted : (result : Option Cause) →
-          Is (uses held (sign_unless result asker key signing under_way))
+          Is (uses held (sign_unless result key.confirm asker key signing under_way))
       serves-permitted (Some cause) = denies cause
       serves-permitted None = serves-with key.confirm refl
 
@@ -174,13 +174,13 @@ module _ (read : Result ClientRequest MsgFault) (asker : Asker) (held : KeyState
   module _ (bind : BindRequest) (is : read ≡ Ok (Bind bind)) where
     serves-bind_put : (is_new : Bool) (fault : Option Cause) → ask_fault under_way ≡ fault →
         judge bind.host_key bind.session asker.chain ≡ judged is_new →
-        Is (keeps held (put_unless fault (Verifies bind is_new) asker.port under_way))
+        Is (record { held = held; work = put_unless fault (Verifies bind is_new) asker.port under_way })
     serves-bind_put is_new (Some cause) fault stands = denies cause
     serves-bind_put is_new None fault stands = verifies bind is_new is stands fault
 
     serves-bind : (judgement : Judgement)
         → judge bind.host_key bind.session asker.chain ≡ judgement →
-        Is (keeps held (bind_by judgement asker bind under_way))
+        Is (record { held = held; work = bind_by judgement asker bind under_way })
     serves-bind (Refuse fault) stands = denies (BindRefused fault)
     serves-bind Same stands = serves-bind_put false (ask_fault under_way) refl stands
     serves-bind New stands = serves-bind_put true (ask_fault under_way) refl stands

@@ -8,14 +8,15 @@ use Rattle.agent_model.specs.Askable.{HasConfirmationRoom, HasRoom, IsJudgedAs, 
 use Rattle.dest_rule.specs.Rules.{denial_under}
 use Rattle.key_purposes.specs.Messages.{let_sign}
 use Rattle.dest_rule.specs.declared.denial.Denial.{Denial}
-use Rattle.agent_model.specs.Dispatch.{Asker, host_for, serve, serve_by, sign_by, sign_unless, sign_with}
-use Rattle.agent_model.specs.Errands.{Signs, ask_fault, put_unless, raise_fault, raise_fault_by, raise_unless}
+use Rattle.agent_model.specs.Dispatch.{Asker, host_for, serve, serve_by, sign_by, sign_unless}
+use Rattle.agent_model.specs.Errands.{Signs, ask_fault, put_unless, raise_fault, raise_unless, spent_jobs}
 use Rattle.agent_model.specs.KeyStates.{KeyState}
 use Rattle.agent_model.specs.Limits.{last_number, most_confirmations}
-use Rattle.agent_model.specs.Objections.{objection, objection_by}
+use Rattle.agent_model.specs.Objections.{objection}
 use Rattle.agent_model.specs.State.{OnAsk, OnConfirmation, UnderWay}
 use Rattle.agent_model.specs.Verdicts.{AsksSpent, Awaits, Cause, DestinationDenied, JobsSpent, Locked, NotHeld, OtherPurpose, Refuses, TooManyAsks, TooManyConfirmations}
 use Rattle.agent_model.proofs.RoomLemmas.{RoomFor, free, full, no_ask, no_job, room-free, room-full, room-no_ask, room-no_job, room-of}
+use Rattle.std.specs.Option.{option_map}
 
 -- what comes of a signature, and why
 pub data Comes (signing : Signing) (asker : Asker) (held : KeyState) (under_way : UnderWay) : Work → Type 0 where
@@ -35,11 +36,10 @@ module _ (signing : Signing) (asker : Asker) (held : KeyState) (under_way : Unde
     comes-raised false is few =
         raises usable record { few = few; jobs = λ spent. grind (arith, nat_tests) }
 
-    comes-raise : (full : Bool)
-        → not (nat_lt (length under_way.confirmations) most_confirmations) ≡ full
-        → Comes signing asker held under_way (raise_unless (raise_fault_by full under_way.last_job) usable.permitted.key (host_for asker usable.permitted.key signing) signing asker.port under_way)
-    comes-raise true is = refused TooManyConfirmations (usable, grind (arith, nat_tests))
-    comes-raise false is =
+    comes-raise : (room : Bool) → nat_lt (length under_way.confirmations) most_confirmations ≡ room
+        → Comes signing asker held under_way (raise_unless (if room then spent_jobs under_way.last_job else Some TooManyConfirmations) usable.permitted.key (host_for asker usable.permitted.key signing) signing asker.port under_way)
+    comes-raise false is = refused TooManyConfirmations (usable, grind (arith, nat_tests))
+    comes-raise true is =
         comes-raised (under_way.last_job == last_number) refl (grind (arith, nat_tests))
 
   module _ (usable : IsUsable signing false asker held) where
@@ -53,7 +53,7 @@ module _ (signing : Signing) (asker : Asker) (held : KeyState) (under_way : Unde
 
   comes-with : (confirm : Bool) (permitted : IsJudgedAs None signing asker held)
       → permitted.key.confirm ≡ confirm
-      → Comes signing asker held under_way (sign_with confirm asker permitted.key signing under_way)
+      → Comes signing asker held under_way (sign_unless None confirm asker permitted.key signing under_way)
   comes-with true permitted is = comes-raise record { permitted = permitted; confirm = is } _ refl
   comes-with false permitted is =
       comes-put record { permitted = permitted; confirm = is } (room-of under_way)
@@ -61,7 +61,7 @@ module _ (signing : Signing) (asker : Asker) (held : KeyState) (under_way : Unde
   comes-objected : (lets : Bool) (denial : Option Denial) (cause : Cause) (key : HeldKey) → held.lock ≡ None
       → find_identity signing.blob held.table.identities ≡ Some key
       → objection key signing.blob asker.chain signing.message asker.wall ≡ Some cause
-      → objection_by lets denial ≡ Some cause
+      → (if lets then option_map DestinationDenied denial else Some OtherPurpose) ≡ Some cause
       → Comes signing asker held under_way (settles (Refuses cause) under_way)
   comes-objected false denial cause key unlocked found is by =
       let same : OtherPurpose ≡ cause = cc in
@@ -76,7 +76,7 @@ module _ (signing : Signing) (asker : Asker) (held : KeyState) (under_way : Unde
   comes-unless : (result : Option Cause) (key : HeldKey) → held.lock ≡ None
       → find_identity signing.blob held.table.identities ≡ Some key
       → objection key signing.blob asker.chain signing.message asker.wall ≡ result
-      → Comes signing asker held under_way (sign_unless result asker key signing under_way)
+      → Comes signing asker held under_way (sign_unless result key.confirm asker key signing under_way)
   comes-unless (Some cause) key unlocked found is =
       comes-objected (let_sign key.purposes signing.message signing.blob)
       (denial_under key.rules signing.blob asker.chain signing.message asker.wall) cause key unlocked found is is
@@ -126,11 +126,11 @@ module _ (signing : Signing) (asker : Asker) (held : KeyState) (under_way : Unde
 
   -- what the constraints say counts
   judged-work : (result : Option Cause) (why : IsJudgedAs result signing asker held)
-      → (serve (Ok (Sign signing)) asker held under_way).work ≡ sign_unless result asker why.key signing under_way
+      → (serve (Ok (Sign signing)) asker held under_way).work ≡ sign_unless result why.key.confirm asker why.key signing under_way
   judged-work result why =
       ap (λ lock. (serve_by lock (Sign signing) asker held under_way).work) why.unlocked
       ∙ ap (λ found. sign_by found asker signing under_way) why.found
-      ∙ ap (λ result. sign_unless result asker why.key signing under_way) why.judged
+      ∙ ap (λ result. sign_unless result why.key.confirm asker why.key signing under_way) why.judged
 
   -- a usable key's signature is put to the helper, unless something stands against it
   usable-put : (fault : Option Cause) (usable : IsUsable signing false asker held)
@@ -138,7 +138,7 @@ module _ (signing : Signing) (asker : Asker) (held : KeyState) (under_way : Unde
       → (serve (Ok (Sign signing)) asker held under_way).work ≡ put_unless fault (Signs usable.permitted.key signing) asker.port under_way
   usable-put fault usable is =
       judged-work None usable.permitted
-      ∙ ap (λ confirm. sign_with confirm asker usable.permitted.key signing under_way) usable.confirm
+      ∙ ap (λ confirm. sign_unless None confirm asker usable.permitted.key signing under_way) usable.confirm
       ∙ ap (λ f. put_unless f (Signs usable.permitted.key signing) asker.port under_way) is
 
   -- what may be put is
@@ -152,13 +152,12 @@ module _ (signing : Signing) (asker : Asker) (held : KeyState) (under_way : Unde
       → (serve (Ok (Sign signing)) asker held under_way).work ≡ raise_unless fault usable.permitted.key (host_for asker usable.permitted.key signing) signing asker.port under_way
   usable-raise fault usable is =
       judged-work None usable.permitted
-      ∙ ap (λ confirm. sign_with confirm asker usable.permitted.key signing under_way) usable.confirm
+      ∙ ap (λ confirm. sign_unless None confirm asker usable.permitted.key signing under_way) usable.confirm
       ∙ ap (λ f. raise_unless f usable.permitted.key (host_for asker usable.permitted.key signing) signing asker.port under_way) is
 
-  raise_fault_of : (most : Bool)
-      → not (nat_lt (length under_way.confirmations) most_confirmations) ≡ most
-      → raise_fault under_way ≡ raise_fault_by most under_way.last_job
-  raise_fault_of most is = ap (λ b. raise_fault_by b under_way.last_job) is
+  raise_fault_of : (room : Bool) → nat_lt (length under_way.confirmations) most_confirmations ≡ room
+      → raise_fault under_way ≡ (if room then spent_jobs under_way.last_job else Some TooManyConfirmations)
+  raise_fault_of room is = ap (λ b. if b then spent_jobs under_way.last_job else Some TooManyConfirmations) is
 
   -- what the user may be asked for is asked for
   pub raise-usable : (usable : IsUsable signing true asker held) → HasConfirmationRoom under_way
@@ -166,7 +165,7 @@ module _ (signing : Signing) (asker : Asker) (held : KeyState) (under_way : Unde
   raise-usable usable room =
       let apart : under_way.last_job ≢ 2 ^ 64 - 1 = room.jobs in
       let unspent : (under_way.last_job == last_number) ≡ false = grind (arith, nat_tests) in
-      usable-raise None usable (raise_fault_of false (grind (arith, nat_tests, room.few)) ∙ ap (λ b. if b then Some JobsSpent else None) unspent)
+      usable-raise None usable (raise_fault_of true (grind (arith, nat_tests, room.few)) ∙ ap (λ b. if b then Some JobsSpent else None) unspent)
 
   because : (cause : Cause) → IsRefusedFor cause signing asker held under_way
       → (serve (Ok (Sign signing)) asker held under_way).work.verdict ≡ Refuses cause
@@ -179,7 +178,7 @@ module _ (signing : Signing) (asker : Asker) (held : KeyState) (under_way : Unde
           ap (λ l. (serve_by l (Sign signing) asker held under_way).work.verdict) is
   because NotHeld why =
       ap (λ lock. (serve_by lock (Sign signing) asker held under_way).work.verdict) why.0 ∙ ap (λ found. (sign_by found asker signing under_way).verdict) why.1
-  because TooManyConfirmations why = ap (λ (w : Work). w.verdict) (usable-raise (Some TooManyConfirmations) why.0 (raise_fault_of true (grind (arith, nat_tests, why.1))))
+  because TooManyConfirmations why = ap (λ (w : Work). w.verdict) (usable-raise (Some TooManyConfirmations) why.0 (raise_fault_of false (grind (arith, nat_tests, why.1))))
   because OtherPurpose why = ap (λ (w : Work). w.verdict) (judged-work (Some OtherPurpose) why)
   because (DestinationDenied denial) why =
       ap (λ (w : Work). w.verdict) (judged-work (Some (DestinationDenied denial)) why)
@@ -189,7 +188,7 @@ module _ (signing : Signing) (asker : Asker) (held : KeyState) (under_way : Unde
   because JobsSpent (inl why) = ap (λ (w : Work). w.verdict) (usable-put (Some JobsSpent) why.0 (room-no_job under_way why.1 why.2 why.3 why.4))
   because JobsSpent (inr why) =
       let spent : (under_way.last_job == last_number) ≡ true = grind (arith, nat_tests, why.2) in
-      ap (λ (w : Work). w.verdict) (usable-raise (Some JobsSpent) why.0 (raise_fault_of false (grind (arith, nat_tests, why.1)) ∙ ap (λ b. if b then Some JobsSpent else None) spent))
+      ap (λ (w : Work). w.verdict) (usable-raise (Some JobsSpent) why.0 (raise_fault_of true (grind (arith, nat_tests, why.1)) ∙ ap (λ b. if b then Some JobsSpent else None) spent))
   because other why = absurd why
 
 -- exactly where

@@ -15,11 +15,11 @@ use Rattle.helper_link.specs.declared.state.LinkState.{LinkState}
 use Rattle.helper_link.specs.declared.state.LinkState.TheVariants as states
 use Rattle.agent_model.specs.Answers.{close_helper, lose, tell_each}
 use Rattle.agent_model.specs.Asking.{JobsRise}
-use Rattle.agent_model.specs.Budget.{asking_bytes, budget, port_budget, ports_budget}
+use Rattle.agent_model.specs.Budget.{budget, port_budget, ports_budget}
 use Rattle.agent_model.specs.Consents.{close_confirmer, over}
 use Rattle.agent_model.specs.Events.{Tick}
 use Rattle.agent_model.specs.Sound.{IsRising, IsSteady}
-use Rattle.agent_model.specs.State.{Helper, Port, State, UnderWay, change_port, find_port, is_linked_to, is_some_bytes, number_of, owed_as, owed_by_port, remove_port, role_of}
+use Rattle.agent_model.specs.State.{Helper, Port, State, UnderWay, change_port, find_port, is_linked_to, is_some_bytes, number_of, owed_as, owed_by_port, remove_port, role_of, is_client}
 use Rattle.agent_model.specs.Time.{at_moment, taken_in}
 use Rattle.agent_model.specs.Verdicts.{HelperLost, NotConfirmed, Refuses, Verdict, tell}
 use Rattle.agent_model.proofs.JobLemmas.{IsIn, behind, here, in-above, jobs-remove}
@@ -89,7 +89,7 @@ counts_one under_way port some = omega (arith, ap {B = ℕ} (λ b. if b then 1 e
 owed_alike : (port : Port) (old new : UnderWay) → owed_by_port port new ≡ owed_by_port port old
     → port_budget new port ≡ port_budget old port
 owed_alike port old new alike =
-    ap (λ bytes. asking_bytes port.door port.heard + (if is_some_bytes bytes then 1 else 0)) alike
+    ap (λ bytes. (if is_client port.door then length port.heard else 0) + (if is_some_bytes bytes then 1 else 0)) alike
 
 -- the port is left as it was, and owed the same
 abbrev IsSpared : ℕ → Port → List Port → UnderWay → UnderWay → Type 0

@@ -8,11 +8,11 @@ use Rattle.agent_model.specs.Dispatch.{Asker, Served}
 use Rattle.agent_model.specs.KeyStates.{KeyState}
 use Rattle.agent_model.specs.Looks.{due_front}
 use Rattle.agent_model.specs.State.{Nothing, UnderWay}
-use Rattle.agent_model.specs.Verdicts.{Identities, Reply, Signature, Success, reply_text, verdict_text, verdict_waits}
+use Rattle.agent_model.specs.Verdicts.{Identities, Reply, Signature, Success, verdict_text, verdict_waits, Replies}
 use Rattle.agent_model.proofs.ServeLemmas.{IsServed, answered, asked, raised, refused}
 
 -- a reply has bytes
-reply_is_some : (reply : Reply) → 0 < length (reply_text reply)
+reply_is_some : (reply : Reply) → 0 < length (verdict_text (Replies reply))
 reply_is_some Success = omega (arith, length-string (6 ∷ []))
 reply_is_some (Identities identities) =
     omega (arith, length-string (12 ∷ (uint32 (length identities) ++ entries identities)))
@@ -31,7 +31,7 @@ pub told_more : {asker : Asker} {held : KeyState} {under_way : UnderWay} {served
     → IsServed asker held under_way served → (heard : List ℕ)
     → due_front (verdict_waits served.work.verdict) (verdict_text served.work.verdict) heard ≡ More
 told_more (answered reply kept same) heard =
-    owed_more (reply_text reply) heard (reply_is_some reply)
+    owed_more (verdict_text (Replies reply)) heard (reply_is_some reply)
 told_more (refused cause) heard =
     owed_more (string (5 ∷ [])) heard (omega (arith, length-string (5 ∷ [])))
 told_more (asked errand free right) heard = refl

@@ -114,7 +114,7 @@ module _ (asker : Asker) (key : HeldKey) (before after : List HeldKey) (held : K
     where
       by_objection : (result : Option Cause)
           → objection key signing.blob asker.chain signing.message asker.wall ≡ result
-          → IsSameReply (sign_unless result asker key signing under_way) (sign_by None asker signing under_way)
+          → IsSameReply (sign_unless result key.confirm asker key signing under_way) (sign_by None asker signing under_way)
       by_objection None is =
           absurd (unseen-denied key.rules signing.blob asker.chain signing.message asker.wall asker.attempted unseen
           (both_permit (let_sign key.purposes signing.message signing.blob)

@@ -18,31 +18,23 @@ use Rattle.agent_model.specs.Actions.{Action, Answered, Lost, Outcome, Proved, a
 
 -- ---- verifications
 
--- the ask of a verification
-abbrev pub ask_number : Verification → ℕ
-ask_number one = one.ask
-
 -- the verification that this ask is for
 abbrev pub find_verification : ℕ → List Verification → Option Verification
-find_verification ask all = find_by ask_number ask all
+find_verification ask all = find_by (λ (one : Verification). one.ask) ask all
 
 -- the verifications but for the one that this ask is for
 abbrev pub remove_verification : ℕ → List Verification → List Verification
-remove_verification ask all = remove_by ask_number ask all
+remove_verification ask all = remove_by (λ (one : Verification). one.ask) ask all
 
 -- a chain with a binding that is new to it
 abbrev pub chain_with : Bool → Binding → List Binding → List Binding
 chain_with true binding chain = bound binding chain
 chain_with false binding chain = chain
 
--- the connection is bound
-abbrev pub bind_port : Verification → Port → Port
-bind_port verification port =
-    record port { chain = chain_with verification.is_new verification.binding port.chain }
-
--- the client is told that it is
+-- the connection is bound, and its client is told
 abbrev pub prove : Verification → Port → Port
-prove verification port = tell (Replies Success) (bind_port verification port)
+prove verification port = tell (Replies Success)
+    (record port { chain = chain_with verification.is_new verification.binding port.chain })
 
 -- that a binding is right counts where the asker is open
 abbrev pub proved_where_open : Option Port → Verification → List Action
@@ -117,21 +109,18 @@ tell_each verdict (number ∷ others) ports =
 
 -- the ports without the helper's
 abbrev pub close_helper : LinkState → List Port → List Port
-close_helper states.None ports = ports
-close_helper (states.Starting job) ports = ports
 close_helper (states.Linked port) ports = remove_port port ports
+close_helper other ports = ports
 
 -- the port that closes where the helper is lost
 abbrev pub helper_closes : LinkState → List Port → List ℕ
-helper_closes states.None ports = []
-helper_closes (states.Starting job) ports = []
 helper_closes (states.Linked port) ports = closing port ports []
+helper_closes other ports = []
 
 -- the started jobs without the one by which the helper was being started
 abbrev pub forget_helper : LinkState → List StartedJob → List StartedJob
-forget_helper states.None started = started
 forget_helper (states.Starting job) started = remove_started job started
-forget_helper (states.Linked port) started = started
+forget_helper other started = started
 
 -- the helper is lost: its port is closed, each client that waits for an answer of it is told, and no
 -- child process can name the job by which it was being started

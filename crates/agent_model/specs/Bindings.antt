@@ -13,15 +13,9 @@ bound_once binding chain =
 
 -- what an action makes of the bindings of the connection of this port
 abbrev pub bound_by : ℕ → Action → List Binding → List Binding
-bound_by number (Requested requesting) chain = chain
-bound_by number (Asked asking) chain = chain
-bound_by number (Answered one) chain = chain
 bound_by number (Proved proving) chain =
     if proving.port == number then bound_once proving.binding chain else chain
-bound_by number (Raised raising) chain = chain
-bound_by number (Granted job) chain = chain
-bound_by number (Over job) chain = chain
-bound_by number Lost chain = chain
+bound_by number other chain = chain
 
 -- what actions, the oldest first, make of the bindings of this connection
 abbrev pub bound_after : ℕ → List Action → List Binding → List Binding

@@ -6,30 +6,17 @@ use Rattle.key_blob.specs.declared.fault.KeyFault.{KeyFault}
 use Rattle.agent_msg.specs.declared.fault.MsgFault.{MsgFault}
 use Rattle.agent_msg.specs.Faults.{key_fault}
 use Rattle.agent_msg.specs.Reading.{request_of}
-use Rattle.agent_msg.specs.Requests.{BindRequest, ClientRequest, ListIdentities, Sign, Add, Remove, RemoveAll, Lock, Unlock, Bind, OtherExtension, Unsupported}
+use Rattle.agent_msg.specs.Requests.{Bind, BindRequest, ClientRequest}
 
 -- a request to bind, by how its host key reads
 abbrev pub bind_with : BindRequest → Result KeyParts KeyFault → Result ClientRequest MsgFault
 bind_with bind (Ok key) = Ok (Bind bind)
 bind_with bind (Err fault) = Err (key_fault fault)
 
--- a request whose fields were read
-abbrev pub with_host_key : ClientRequest → Result ClientRequest MsgFault
-with_host_key ListIdentities = Ok ListIdentities
-with_host_key (Sign signing) = Ok (Sign signing)
-with_host_key (Add addition) = Ok (Add addition)
-with_host_key (Remove blob) = Ok (Remove blob)
-with_host_key RemoveAll = Ok RemoveAll
-with_host_key (Lock passphrase) = Ok (Lock passphrase)
-with_host_key (Unlock passphrase) = Ok (Unlock passphrase)
-with_host_key (Bind bind) = bind_with bind (public_key_of bind.host_key)
-with_host_key (OtherExtension name) = Ok (OtherExtension name)
-with_host_key (Unsupported number) = Ok (Unsupported number)
-
 -- a request that was read, whose host key, if it has one, is read as a public key too
 abbrev pub and_host_key : Result ClientRequest MsgFault → Result ClientRequest MsgFault
-and_host_key (Ok request) = with_host_key request
-and_host_key (Err fault) = Err fault
+and_host_key (Ok (Bind bind)) = bind_with bind (public_key_of bind.host_key)
+and_host_key read = read
 
 -- the request that a body is, or its first fault
 abbrev pub agent_request_of : List ℕ → Result ClientRequest MsgFault

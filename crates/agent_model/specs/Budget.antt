@@ -1,19 +1,12 @@
 -- How many takings can still follow in a state: what makes settling end (ours).
 use Rattle.std.specs.Prelude.{ℕ, ◌+◌, List, [], ◌∷◌, length, if◌then◌else◌}
-use Rattle.world_ports.specs.declared.Door.{Door}
-use Rattle.world_ports.specs.declared.Door.TheVariants.{Clients, Children}
-use Rattle.agent_model.specs.State.{Port, State, UnderWay, is_some_bytes, owed_by_port}
+use Rattle.agent_model.specs.State.{Port, State, UnderWay, is_some_bytes, owed_by_port, is_client}
 
--- the bytes that requests may yet be taken from: a child process's are none
-abbrev pub asking_bytes : Door → List ℕ → ℕ
-asking_bytes Clients heard = length heard
-asking_bytes Children heard = 0
-
--- the bytes of a client's port that may still ask, and one more where it is owed bytes
+-- the bytes of a client's port that requests may yet be taken from, a child process's being none, and
+-- one more where it is owed bytes
 abbrev pub port_budget : UnderWay → Port → ℕ
-port_budget under_way port =
-    asking_bytes port.door port.heard + (if is_some_bytes (owed_by_port port under_way) then 1
-    else 0)
+port_budget under_way port = (if is_client port.door then length port.heard else 0)
+    + (if is_some_bytes (owed_by_port port under_way) then 1 else 0)
 
 -- the sum of the budgets of these ports
 abbrev pub ports_budget : UnderWay → List Port → ℕ

@@ -1,5 +1,5 @@
 -- Child processes, from the start of their job until they named themselves by its ticket (ours).
-use Rattle.std.specs.Prelude.{ℕ, List, [], ◌∷◌, ◌++◌, Option, Some, None, Bool, true, false, ◌==◌, is_some, Result, Ok, Err}
+use Rattle.std.specs.Prelude.{ℕ, List, [], ◌∷◌, ◌++◌, Option, Some, None, Bool, true, false, ◌==◌, is_some, Result, Ok, Err, if◌then◌else◌}
 use Rattle.std.specs.Str.{bytes_eq}
 use Rattle.lists.specs.Keyed.{remove_by}
 use Rattle.world_ports.specs.declared.Job.{Job}
@@ -7,7 +7,7 @@ use Rattle.world_ports.specs.declared.JobKind.{JobKind}
 use Rattle.world_ports.specs.declared.JobKind.TheVariants as kinds
 use Rattle.wire_text.specs.Bounds.{longest_body}
 use Rattle.wire_text.specs.Frames.{Bad, Front, More, Whole, after_front, front, front_body}
-use Rattle.child_msg.specs.Messages.{Denied, False, FromChildMessage, Granted, Hello, Refused, Signed, True}
+use Rattle.child_msg.specs.Messages.{FromChildMessage, Hello}
 use Rattle.child_msg.specs.Reading.{from_child_of}
 use Rattle.child_msg.specs.declared.fault.ChildFault.{ChildFault}
 use Rattle.helper_link.specs.HelperLink.{linked_to}
@@ -33,25 +33,19 @@ job_left number state = record state {
 
 -- a helper is being started by this job
 abbrev pub is_started_by : ℕ → LinkState → Bool
-is_started_by number states.None = false
 is_started_by number (states.Starting job) = job == number
-is_started_by number (states.Linked port) = false
+is_started_by number other = false
 
 -- the job is still wanted: a helper is being started by it, or its confirmation is waited for
 abbrev pub is_wanted : JobKind → ℕ → UnderWay → Bool
 is_wanted kinds.Helper number under_way = is_started_by number under_way.link.state
 is_wanted kinds.Confirm number under_way = is_some (find_job number under_way.confirmations)
 
--- a job to be named by its child process, if it is wanted
-abbrev pub started_where : Bool → Job → List ℕ → List StartedJob
-started_where false job ticket = []
-started_where true job ticket = record { job = job; ticket = ticket } ∷ []
-
--- the job was started, if it was to be
+-- the job was started, if it was to be: its child process is to name it, if it is wanted
 abbrev pub started_if : Option Job → List ℕ → UnderWay → List StartedJob
 started_if None ticket under_way = []
 started_if (Some job) ticket under_way =
-    started_where (is_wanted job.kind job.number under_way) job ticket
+    if is_wanted job.kind job.number under_way then record { job = job; ticket = ticket } ∷ [] else []
 
 -- the job of this number was started, and its child process has this ticket
 abbrev pub job_started : ℕ → List ℕ → State → State
@@ -74,10 +68,6 @@ failed_by kinds.Confirm number state = over_if (find_job number state.under_way.
 abbrev pub start_failed : Option Job → State → Outcome
 start_failed None state = stay state
 start_failed (Some job) state = failed_by job.kind job.number (job_left job.number state)
-
--- the start of the job of this number failed
-abbrev pub job_failed : ℕ → State → Outcome
-job_failed number state = start_failed (find_to_start number state.under_way.to_start) state
 
 -- ---- how a child process names itself
 
@@ -132,39 +122,26 @@ abbrev pub confirmer_goes_on : Option Confirmation → List ℕ → State → Ou
 confirmer_goes_on None rest state = stay state
 confirmer_goes_on (Some confirmation) rest state = confirmer_heard confirmation rest state
 
--- in a state, the confirmation of a job hears what came behind its child process's name
-abbrev pub confirmer_hears : ℕ → List ℕ → State → Outcome
-confirmer_hears job rest state =
-    confirmer_goes_on (find_job job state.under_way.confirmations) rest state
-
 -- a child process named itself, and what it sent behind its name counts at once
 abbrev pub named_by : JobKind → ℕ → ℕ → List ℕ → State → Outcome
 named_by kinds.Helper job number rest state = helper_heard rest (helper_named job number state)
 named_by kinds.Confirm job number rest state =
-    confirmer_hears job rest (confirmer_named job number state)
+    let named = confirmer_named job number state in
+    confirmer_goes_on (find_job job named.under_way.confirmations) rest named
 
--- a child process named this job, with the job's own ticket or with another: then its port is closed
-abbrev pub ticket_shown : Bool → Job → ℕ → List ℕ → State → Outcome
-ticket_shown true job number rest state = named_by job.kind job.number number rest state
-ticket_shown false job number rest state = shut number state
-
--- a child process named a job, which was started or not: then its port is closed
+-- a child process named a job with this ticket: where no such job was started, or its ticket is
+-- another, the port is closed
 abbrev pub hello_heard : Option StartedJob → List ℕ → ℕ → List ℕ → State → Outcome
 hello_heard None ticket number rest state = shut number state
 hello_heard (Some one) ticket number rest state =
-    ticket_shown (bytes_eq one.ticket ticket) one.job number rest state
+    if bytes_eq one.ticket ticket then named_by one.job.kind one.job.number number rest state
+    else shut number state
 
 -- the first message of a child process: HELLO names it, and any other closes its port
 abbrev pub first_message : Result FromChildMessage ChildFault → ℕ → List ℕ → State → Outcome
 first_message (Ok (Hello job ticket)) number rest state =
     hello_heard (find_started job state.under_way.started) ticket number rest state
-first_message (Ok (Signed ask signature)) number rest state = shut number state
-first_message (Ok (Refused ask)) number rest state = shut number state
-first_message (Ok (True ask)) number rest state = shut number state
-first_message (Ok (False ask)) number rest state = shut number state
-first_message (Ok (Granted job)) number rest state = shut number state
-first_message (Ok (Denied job)) number rest state = shut number state
-first_message (Err fault) number rest state = shut number state
+first_message other number rest state = shut number state
 
 -- what stands at the front of the bytes of a child process that hasn't named itself
 abbrev pub first_frame : Front → ℕ → List ℕ → State → Outcome

@@ -15,17 +15,13 @@ use Rattle.agent_model.specs.Errands.{Signs, put_ask}
 
 -- ---- the end of a confirmation
 
--- the number of a started job
-abbrev pub started_number : StartedJob → ℕ
-started_number one = one.job.number
-
 -- the started job of this number
 abbrev pub find_started : ℕ → List StartedJob → Option StartedJob
-find_started number all = find_by started_number number all
+find_started number all = find_by (λ (one : StartedJob). one.job.number) number all
 
 -- the started jobs but for the one of this number
 abbrev pub remove_started : ℕ → List StartedJob → List StartedJob
-remove_started number all = remove_by started_number number all
+remove_started number all = remove_by (λ (one : StartedJob). one.job.number) number all
 
 -- what is under way without the confirmation of this job: no child process can name the job from
 -- then on
@@ -77,27 +73,19 @@ grant_unless (Some cause) key confirmation under_way = settles (Refuses NoLonger
 grant_unless None key confirmation under_way =
     put_ask (Signs key (signing_of key confirmation)) confirmation.asker under_way
 
--- what comes of a consent, by whether its addition is still held
-abbrev pub grant_with : Option HeldKey → List Binding → Confirmation → ℕ → UnderWay → Work
-grant_with None chain confirmation wall under_way = settles (Refuses NoLongerAllowed) under_way
-grant_with (Some key) chain confirmation wall under_way =
+-- what comes of a consent, by whether the agent is locked by now, and whether its addition is still held
+abbrev pub grant_by : Option (List ℕ) → Option HeldKey → List Binding → Confirmation → ℕ → UnderWay → Work
+grant_by None (Some key) chain confirmation wall under_way =
     grant_unless (objection key key.blob chain confirmation.message wall) key confirmation
     under_way
-
--- what comes of a consent, by whether the agent is locked by now
-abbrev pub grant_by : Option (List ℕ) → KeyState → List Binding → Confirmation → ℕ → UnderWay → Work
-grant_by (Some passphrase) held chain confirmation wall under_way =
-    settles (Refuses NoLongerAllowed) under_way
-grant_by None held chain confirmation wall under_way =
-    grant_with (find_number confirmation.addition held.table.identities)
-    chain confirmation wall under_way
+grant_by lock found chain confirmation wall under_way = settles (Refuses NoLongerAllowed) under_way
 
 -- what comes of the consent for a client with this chain: the agent, the key, its purposes and the destination
 -- are tested again
 abbrev pub grant_work : List Binding → Confirmation → State → Work
 grant_work chain confirmation state =
-    grant_by state.held.lock state.held chain confirmation state.moment.wall
-    (without_confirmation confirmation.job state.under_way)
+    grant_by state.held.lock (find_number confirmation.addition state.held.table.identities) chain
+    confirmation state.moment.wall (without_confirmation confirmation.job state.under_way)
 
 -- the confirmation ends, its child process's port is closed, and the client gets what comes of it;
 -- the identity that was used for it has a use less

@@ -45,10 +45,6 @@ answers reply held under_way = record { held = held; work = settles (Replies rep
 abbrev pub refuses : Cause → KeyState → UnderWay → Served
 refuses cause held under_way = record { held = held; work = settles (Refuses cause) under_way }
 
--- what is held stays, and this comes of the request
-abbrev pub keeps : KeyState → Work → Served
-keeps held work = record { held = held; work = work }
-
 -- this comes of the request, and then the identity that was used for it has a use less
 abbrev pub uses : KeyState → Work → Served
 uses held work = record { held = after_use work.used held; work = work }
@@ -69,23 +65,20 @@ seen_by asker held = map shown (filter (sees asker) held.table.identities)
 abbrev pub host_for : Asker → HeldKey → Signing → Option (List ℕ)
 host_for asker key signing = login_host key.rules key.blob asker.chain signing.message asker.wall
 
--- a signature that is permitted is put to the helper, or the user is asked first
-abbrev pub sign_with : Bool → Asker → HeldKey → Signing → UnderWay → Work
-sign_with true asker key signing under_way =
+-- a request to sign with a key that is held, by what its purposes and its destination constraints say,
+-- and by whether the user is asked first
+abbrev pub sign_unless : Option Cause → (confirm : Bool) → Asker → HeldKey → Signing → UnderWay → Work
+sign_unless (Some cause) confirm asker key signing under_way = settles (Refuses cause) under_way
+sign_unless None true asker key signing under_way =
     ask_user key (host_for asker key signing) signing asker.port under_way
-sign_with false asker key signing under_way = put_ask (Signs key signing) asker.port under_way
-
--- a request to sign with a key that is held, by what its purposes and its destination constraints say
-abbrev pub sign_unless : Option Cause → Asker → HeldKey → Signing → UnderWay → Work
-sign_unless (Some cause) asker key signing under_way = settles (Refuses cause) under_way
-sign_unless None asker key signing under_way = sign_with key.confirm asker key signing under_way
+sign_unless None false asker key signing under_way = put_ask (Signs key signing) asker.port under_way
 
 -- a request to sign, by the identity that has its blob, where one is held
 abbrev pub sign_by : Option HeldKey → Asker → Signing → UnderWay → Work
 sign_by None asker signing under_way = settles (Refuses NotHeld) under_way
 sign_by (Some key) asker signing under_way = sign_unless
     (objection key signing.blob asker.chain signing.message asker.wall)
-    asker key signing under_way
+    key.confirm asker key signing under_way
 
 -- ---- additions
 
@@ -174,23 +167,16 @@ serve_unlocked RemoveAll asker held under_way = answers Success (with_identities
 serve_unlocked (Lock passphrase) asker held under_way = lock_by passphrase held under_way
 serve_unlocked (Unlock passphrase) asker held under_way = refuses NotLocked held under_way
 serve_unlocked (Bind bind) asker held under_way =
-    keeps held (bind_by (judge bind.host_key bind.session asker.chain) asker bind under_way)
+    record { held = held; work = bind_by (judge bind.host_key bind.session asker.chain) asker bind under_way }
 serve_unlocked (OtherExtension name) asker held under_way = refuses Unserved held under_way
 serve_unlocked (Unsupported number) asker held under_way = refuses Unserved held under_way
 
 -- the table of requests of an agent that is locked with this passphrase
 abbrev pub serve_locked : List ℕ → ClientRequest → KeyState → UnderWay → Served
 serve_locked passphrase ListIdentities held under_way = answers (Identities []) held under_way
-serve_locked passphrase (Sign signing) held under_way = refuses Locked held under_way
-serve_locked passphrase (Add addition) held under_way = refuses Locked held under_way
-serve_locked passphrase (Remove blob) held under_way = refuses Locked held under_way
-serve_locked passphrase RemoveAll held under_way = refuses Locked held under_way
-serve_locked passphrase (Lock other) held under_way = refuses Locked held under_way
 serve_locked passphrase (Unlock other) held under_way =
     unlock_by (bytes_eq passphrase other) held under_way
-serve_locked passphrase (Bind bind) held under_way = refuses Locked held under_way
-serve_locked passphrase (OtherExtension name) held under_way = refuses Locked held under_way
-serve_locked passphrase (Unsupported number) held under_way = refuses Locked held under_way
+serve_locked passphrase request held under_way = refuses Locked held under_way
 
 -- the table of requests, by whether the agent is locked
 abbrev pub serve_by : Option (List ℕ) → ClientRequest → Asker → KeyState → UnderWay → Served
@@ -198,20 +184,12 @@ serve_by None request asker held under_way = serve_unlocked request asker held u
 serve_by (Some passphrase) request asker held under_way =
     serve_locked passphrase request held under_way
 
--- constraints that don't read, by the lock: what else doesn't read is malformed even where the
--- agent is locked
-abbrev pub constraint_cause : Option (List ℕ) → TermFault → Cause
-constraint_cause None term_fault = Constraints term_fault
-constraint_cause (Some passphrase) term_fault = Locked
-
--- why a body that doesn't read is refused
+-- why a body that doesn't read is refused, by the lock: what else than constraints doesn't read is
+-- malformed even where the agent is locked
 abbrev pub unread : MsgFault → Option (List ℕ) → Cause
-unread fault.Empty lock = Malformed fault.Empty
-unread fault.Short lock = Malformed fault.Short
-unread fault.Trailing lock = Malformed fault.Trailing
-unread (fault.Key key_fault) lock = Malformed (fault.Key key_fault)
-unread (fault.Terms term_fault) lock = constraint_cause lock term_fault
-unread fault.Memory lock = Malformed fault.Memory
+unread (fault.Terms term_fault) None = Constraints term_fault
+unread (fault.Terms term_fault) (Some passphrase) = Locked
+unread other lock = Malformed other
 
 -- a request, as its body reads
 abbrev pub serve : Result ClientRequest MsgFault → Asker → KeyState → UnderWay → Served

@@ -34,30 +34,22 @@ job_of number kind = record { number = number; kind = kind }
 -- what an ask needs: a helper is to be started where none is there or coming
 abbrev pub helper_fault : LinkState → ℕ → Option Cause
 helper_fault states.None last_job = spent_jobs last_job
-helper_fault (states.Starting job) last_job = None
-helper_fault (states.Linked port) last_job = None
+helper_fault other last_job = None
 
 -- the job that starts it
 abbrev pub helper_jobs : LinkState → ℕ → List Job
 helper_jobs states.None number = job_of number kinds.Helper ∷ []
-helper_jobs (states.Starting job) number = []
-helper_jobs (states.Linked port) number = []
+helper_jobs other number = []
 
 -- the number of the last job, if one is begun for a helper
 abbrev pub last_job_for : LinkState → ℕ → ℕ
 last_job_for states.None last_job = last_job + 1
-last_job_for (states.Starting job) last_job = last_job
-last_job_for (states.Linked port) last_job = last_job
+last_job_for other last_job = last_job
 
 -- how far the link has come then
 abbrev pub begun_by : LinkState → ℕ → LinkState
 begun_by states.None number = states.Starting number
-begun_by (states.Starting job) number = states.Starting job
-begun_by (states.Linked port) number = states.Linked port
-
--- the link, to a helper that this job starts where none is there or coming
-abbrev pub link_begun : ℕ → HelperLink → HelperLink
-link_begun number link = record link { state = begun_by link.state number }
+begun_by other number = other
 
 -- ---- asks
 
@@ -117,7 +109,7 @@ ask_fault under_way =
 abbrev pub with_ask : Errand → ℕ → UnderWay → UnderWay
 with_ask errand asker under_way = record under_way {
   link = submitted (kind_of errand) asker (blob_of errand) (message_of errand) under_way.second
-      (link_begun (under_way.last_job + 1) under_way.link);
+      (record under_way.link { state = begun_by under_way.link.state (under_way.last_job + 1) });
   to_start = under_way.to_start ++ helper_jobs under_way.link.state (under_way.last_job + 1);
   verifications = under_way.verifications ++ noted_verification errand (under_way.link.last + 1);
   last_job = last_job_for under_way.link.state under_way.last_job;
@@ -150,16 +142,11 @@ put_ask errand asker under_way = put_unless (ask_fault under_way) errand asker u
 
 -- ---- confirmations
 
--- why the user can't be asked, by whether as many confirmations are waited for as may be
-abbrev pub raise_fault_by : Bool → ℕ → Option Cause
-raise_fault_by true last_job = Some TooManyConfirmations
-raise_fault_by false last_job = spent_jobs last_job
-
--- why the user can't be asked
+-- why the user can't be asked: as many confirmations are waited for as may be, or no job can be begun
 abbrev pub raise_fault : UnderWay → Option Cause
 raise_fault under_way =
-    raise_fault_by (not (nat_lt (length under_way.confirmations) most_confirmations))
-    under_way.last_job
+    if nat_lt (length under_way.confirmations) most_confirmations then spent_jobs under_way.last_job
+    else Some TooManyConfirmations
 
 -- what is kept of a request while it waits for the user's consent
 abbrev pub held_for : ℕ → HeldKey → Signing → Held

@@ -22,14 +22,9 @@ pub data Fate : Type 0 where
 
 -- what an action is for the ask of this number
 abbrev pub fate_in : ℕ → Action → Fate
-fate_in ask (Requested requesting) = Unanswered
-fate_in ask (Asked asking) = Unanswered
 fate_in ask (Answered one) = if one.ask == ask then Gets one.answer else Unanswered
-fate_in ask (Proved proving) = Unanswered
-fate_in ask (Raised raising) = Unanswered
-fate_in ask (Granted job) = Unanswered
-fate_in ask (Over job) = Unanswered
 fate_in ask Lost = Fails
+fate_in ask other = Unanswered
 
 -- of two fates of an ask the first that isn't open counts
 abbrev pub or_later : Fate → Fate → Fate
@@ -92,25 +87,13 @@ NoneEnds number (timed ∷ later) = (timed.event ≡ Ended number → ⊥) × No
 
 -- whether an action answers the ask of this number, as 1 or 0
 abbrev pub answers_by : ℕ → Action → ℕ
-answers_by ask (Requested requesting) = 0
-answers_by ask (Asked asking) = 0
 answers_by ask (Answered one) = if one.ask == ask then 1 else 0
-answers_by ask (Proved proving) = 0
-answers_by ask (Raised raising) = 0
-answers_by ask (Granted job) = 0
-answers_by ask (Over job) = 0
-answers_by ask Lost = 0
+answers_by ask other = 0
 
 -- whether an action puts an ask under this number, as 1 or 0
 abbrev pub asks_by : ℕ → Action → ℕ
-asks_by ask (Requested requesting) = 0
 asks_by ask (Asked asking) = if asking.ask == ask then 1 else 0
-asks_by ask (Answered one) = 0
-asks_by ask (Proved proving) = 0
-asks_by ask (Raised raising) = 0
-asks_by ask (Granted job) = 0
-asks_by ask (Over job) = 0
-asks_by ask Lost = 0
+asks_by ask other = 0
 
 -- how often the ask of this number is answered, and how often one is put under it
 abbrev pub times_answered : ℕ → List Action → ℕ

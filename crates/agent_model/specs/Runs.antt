@@ -10,12 +10,7 @@ use Rattle.agent_model.specs.Step.{step}
 -- the number of the last port after an event: one more where a port joined
 abbrev pub last_after : Happening → ℕ → ℕ
 last_after (Joined door) last = suc last
-last_after (Heard port piece) last = last
-last_after (Ended port) last = last
-last_after (Took port count) last = last
-last_after (Started job ticket) last = last
-last_after (StartFailed job) last = last
-last_after Tick last = last
+last_after other last = last
 
 -- the state that these events lead to, the first one first
 abbrev pub run : State → List Timed → State

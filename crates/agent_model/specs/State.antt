@@ -173,9 +173,8 @@ role_by_link (Some confirmation) = Confirmer confirmation
 
 -- the helper is at this port
 abbrev pub is_linked_to : ℕ → LinkState → Bool
-is_linked_to number states.None = false
-is_linked_to number (states.Starting job) = false
 is_linked_to number (states.Linked port) = port == number
+is_linked_to number other = false
 
 -- a child process, by whether it is the helper
 abbrev pub role_by_helper : Bool → ℕ → List Confirmation → Role
@@ -201,10 +200,8 @@ client_count (port ∷ ports) =
 
 -- a child process that hasn't named itself
 abbrev pub is_unnamed : Role → Bool
-is_unnamed Client = false
 is_unnamed Unnamed = true
-is_unnamed Helper = false
-is_unnamed (Confirmer confirmation) = false
+is_unnamed other = false
 
 -- how many child processes are open that haven't named themselves
 abbrev pub unnamed_count : UnderWay → List Port → ℕ
@@ -295,9 +292,8 @@ starts state = state.under_way.to_start
 -- the second at which a wait that began then has lasted its limit: one that the clock doesn't come
 -- to counts as never
 abbrev pub limit_from : Option ℕ → Option ℕ → Option ℕ
-limit_from None since = None
-limit_from (Some limit) None = None
 limit_from (Some limit) (Some since) = on_clock (Some (since + limit))
+limit_from limit since = None
 
 -- the second of a job's confirmation
 abbrev pub second_of : ℕ × ℕ → ℕ
@@ -323,18 +319,12 @@ job_number job = job.number
 abbrev pub find_to_start : ℕ → List Job → Option Job
 find_to_start number jobs = find_by job_number number jobs
 
--- the event may come where the last port that joined has this number, these ports are open and this
--- is under way
-abbrev pub FitsAt : Happening → ℕ → List Port → UnderWay → Type 0
-FitsAt (Joined door) last ports under_way = last < 2 ^ 64 - 1
-FitsAt (Heard port piece) last ports under_way = IsSome (find_port port ports) × (0 < length piece)
-FitsAt (Ended port) last ports under_way = IsSome (find_port port ports)
-FitsAt (Took port count) last ports under_way =
-    (0 < count) × (count ≤ length (owed_by (find_port port ports) under_way))
-FitsAt (Started job ticket) last ports under_way = IsSome (find_to_start job under_way.to_start)
-FitsAt (StartFailed job) last ports under_way = IsSome (find_to_start job under_way.to_start)
-FitsAt Tick last ports under_way = Unit {0}
-
 -- the event may come in this state
 abbrev pub Fits : Happening → State → Type 0
-Fits event state = FitsAt event state.last_port state.ports state.under_way
+Fits (Joined door) state = state.last_port < 2 ^ 64 - 1
+Fits (Heard port piece) state = IsSome (find_port port state.ports) × (0 < length piece)
+Fits (Ended port) state = IsSome (find_port port state.ports)
+Fits (Took port count) state = (0 < count) × (count ≤ length (owed_of port state))
+Fits (Started job ticket) state = IsSome (find_to_start job (starts state))
+Fits (StartFailed job) state = IsSome (find_to_start job (starts state))
+Fits Tick state = Unit {0}

@@ -14,11 +14,11 @@ use Rattle.agent_model.specs.Actions.{Outcome, Requested, and_then, stay}
 use Rattle.agent_model.specs.Answers.{helper_heard, lose}
 use Rattle.agent_msg.specs.Requests.{names_bind}
 use Rattle.agent_model.specs.Binds.{agent_request_of}
-use Rattle.agent_model.specs.Children.{changed, heard_more, job_failed, job_started, shut, shut_then, unnamed_heard}
+use Rattle.agent_model.specs.Children.{changed, heard_more, job_started, shut, shut_then, unnamed_heard, start_failed}
 use Rattle.confirm_desk.specs.Confirmations.{find_asker, took}
 use Rattle.agent_model.specs.Consents.{confirmer_heard, over, over_if}
 use Rattle.agent_model.specs.Dispatch.{Asker, Served, serve}
-use Rattle.agent_model.specs.State.{Client, Confirmer, Helper, Nothing, OnAsk, OnConfirmation, Port, Role, State, UnderWay, Unnamed, Waits, change_port, client_count, find_port, new_port, role_of, unnamed_count}
+use Rattle.agent_model.specs.State.{Client, Confirmer, Helper, Nothing, Port, Role, State, UnderWay, Unnamed, Waits, change_port, client_count, find_port, new_port, role_of, unnamed_count, find_to_start}
 use Rattle.agent_model.specs.Time.{time_passes}
 use Rattle.agent_model.specs.Verdicts.{tell}
 
@@ -75,21 +75,15 @@ look_front (Whole body_len) port state = taken body_len (front_body body_len por
 look_front (Bad announced) port state = shut port.number state
 look_front More port state = stay state
 
--- a client's bytes are looked at, unless it is owed bytes
-abbrev pub look_owed : List ℕ → Port → State → Outcome
-look_owed [] port state = look_front (front longest_body port.heard) port state
-look_owed (byte ∷ bytes) port state = stay state
-
--- a client's bytes are looked at, unless it waits
-abbrev pub look_waits : Waits → Port → State → Outcome
-look_waits Nothing port state = look_owed port.owed port state
-look_waits (OnAsk ask) port state = stay state
-look_waits (OnConfirmation job) port state = stay state
+-- a client's bytes are looked at, unless it waits or is owed bytes
+abbrev pub look_waits : Waits → (owed : List ℕ) → Port → State → Outcome
+look_waits Nothing [] port state = look_front (front longest_body port.heard) port state
+look_waits waits owed port state = stay state
 
 -- a client's bytes are looked at, where its port is open
 abbrev pub look_port : Option Port → State → Outcome
 look_port None state = stay state
-look_port (Some port) state = look_waits port.waits port state
+look_port (Some port) state = look_waits port.waits port.owed port state
 
 -- a client that waits for nothing and is owed nothing has its first request taken where that is
 -- whole, and is closed where its length is bad
@@ -200,7 +194,7 @@ handle (Heard port piece) state = heard_at (find_port port state.ports) piece st
 handle (Took port count) state = took_at (find_port port state.ports) count state
 handle (Ended port) state = ended_at (find_port port state.ports) state
 handle (Started job ticket) state = stay (job_started job ticket state)
-handle (StartFailed job) state = job_failed job state
+handle (StartFailed job) state = start_failed (find_to_start job state.under_way.to_start) state
 handle Tick state = stay state
 
 -- an outcome with the ports that it closed in rising order

@@ -15,12 +15,6 @@ pub data Reply : Type 0 where
   Identities : (identities : List (List ℕ × List ℕ)) → Reply
   Signature : (signature : List ℕ) → Reply
 
--- a reply as it is sent
-abbrev pub reply_text : Reply → List ℕ
-reply_text Success = success
-reply_text (Identities identities) = identities_answer identities
-reply_text (Signature signature) = sign_response signature
-
 -- why a client is told SSH_AGENT_FAILURE
 pub data Cause : Type 0 where
   -- at the request: it doesn't read, or the agent is locked, or such a request isn't served
@@ -64,15 +58,16 @@ pub data Verdict : Type 0 where
 
 -- what a verdict lets a client be owed at once: every refusal is told alike
 abbrev pub verdict_text : Verdict → List ℕ
-verdict_text (Replies reply) = reply_text reply
+verdict_text (Replies Success) = success
+verdict_text (Replies (Identities identities)) = identities_answer identities
+verdict_text (Replies (Signature signature)) = sign_response signature
 verdict_text (Refuses cause) = failure
 verdict_text (Awaits waits) = []
 
 -- what a client waits for after a verdict
 abbrev pub verdict_waits : Verdict → Waits
-verdict_waits (Replies reply) = Nothing
-verdict_waits (Refuses cause) = Nothing
 verdict_waits (Awaits waits) = waits
+verdict_waits told = Nothing
 
 -- the client is told
 abbrev pub tell : Verdict → Port → Port

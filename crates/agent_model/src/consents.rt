@@ -4,7 +4,7 @@ ghost use Rattle.std.specs.Prelude.{◌≡◌, ◌≢◌, ◌↔◌, ◌+◌, �
 ghost use Rattle.world_ports.specs.declared.Moment.{Moment};
 ghost use Rattle.confirm_desk.specs.Confirmations.{Confirmation};
 ghost use Rattle.dest_rule.specs.declared.binding.Binding.{Binding};
-ghost use Rattle.identity_table.specs.Identities.{HeldKey};
+ghost use Rattle.identity_table.specs.Identities.{HeldKey, find_number};
 ghost use Rattle.agent_model.specs.Askable.{HasRoom, IsGrantable, IsRefusedAtGrant};
 ghost use Rattle.agent_model.specs.Asking.{IsAsking, IsAttended};
 ghost use Rattle.agent_model.specs.Consents.{grant_by, signing_of};
@@ -55,16 +55,19 @@ pub fn a_client_waits_for_its_own_consent()
 pub fn consent_counts_exactly_where_it_may()
     ensures put { (ask : ℕ) (held : KeyState) (chain : List Binding) (confirmation : Confirmation)
         (wall : ℕ) (under_way : UnderWay)
-        → ((grant_by held.lock held chain confirmation wall under_way).verdict ≡ Awaits (OnAsk ask))
+        → ((grant_by held.lock (find_number confirmation.addition held.table.identities) chain
+        confirmation wall under_way).verdict ≡ Awaits (OnAsk ask))
         ↔ ((key : HeldKey) × IsGrantable key chain confirmation.addition confirmation.message wall
         held × HasRoom under_way × (ask ≡ under_way.link.last + 1)) }
     ensures message { (key : HeldKey) (held : KeyState) (chain : List Binding)
         (confirmation : Confirmation) (wall : ℕ) (under_way : UnderWay)
         → IsGrantable key chain confirmation.addition confirmation.message wall held
-        → HasRoom under_way → grant_by held.lock held chain confirmation wall under_way
+        → HasRoom under_way → grant_by held.lock
+        (find_number confirmation.addition held.table.identities) chain confirmation wall under_way
         ≡ put_unless None (Signs key (signing_of key confirmation)) confirmation.asker under_way }
     ensures refused { (cause : Cause) (held : KeyState) (chain : List Binding)
         (confirmation : Confirmation) (wall : ℕ) (under_way : UnderWay)
-        → ((grant_by held.lock held chain confirmation wall under_way).verdict ≡ Refuses cause)
+        → ((grant_by held.lock (find_number confirmation.addition held.table.identities) chain
+        confirmation wall under_way).verdict ≡ Refuses cause)
         ↔ IsRefusedAtGrant cause chain confirmation wall held under_way }
 {}
