@@ -14,7 +14,7 @@ use Rattle.agent_model.specs.Answers.{helper_heard}
 use Rattle.helper_link.specs.HelperLink.{linked_to}
 use Rattle.wire_text.specs.Bounds.{longest_body}
 use Rattle.wire_text.specs.Frames.{Front, front}
-use Rattle.agent_model.specs.Children.{confirmer_goes_on, confirmer_named, first_frame, first_message, heard_more, hello_heard, helper_named, named_by, ticket_shown, unheard, unnamed_heard}
+use Rattle.agent_model.specs.Children.{confirmer_goes_on, confirmer_named, first_frame, first_message, heard_more, hello_heard, helper_named, named_by, unheard, unnamed_heard, shut}
 use Rattle.agent_model.specs.Consents.{confirmer_heard, find_started, remove_started}
 use Rattle.agent_model.specs.KeyStates.{KeyState}
 use Rattle.agent_model.specs.State.{Port, StartedJob, State, UnderWay, change_port, find_port}
@@ -27,7 +27,7 @@ use Rattle.agent_core.specs.Settlings.{IsNamed, named_job, ticket_of}
 use Rattle.agent_core.specs.Slots.{OpenPorts, heard_in}
 use Rattle.agent_core.proofs.HelperLemmas.{open-change_port}
 
-named_ticket : (same : Bool) (one : StartedJob) (job : Job) (number : ℕ) (rest : List ℕ) (state : State) → (if same then Some one.job else None) ≡ Some job → ticket_shown same one.job number rest state ≡ named_by job.kind job.number number rest state
+named_ticket : (same : Bool) (one : StartedJob) (job : Job) (number : ℕ) (rest : List ℕ) (state : State) → (if same then Some one.job else None) ≡ Some job → (if same then named_by one.job.kind one.job.number number rest state else shut number state) ≡ named_by job.kind job.number number rest state
 named_ticket false one job number rest state some = absurd (cc)
 named_ticket true one job number rest state some =
     let same : one.job ≡ job = cc in

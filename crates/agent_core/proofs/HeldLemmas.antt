@@ -23,10 +23,10 @@ use Rattle.identity_table.proofs.FindLemmas.{found_has}
 use Rattle.identity_table.proofs.NumberLaws.{number_of_found}
 use Rattle.std.specs.Option.{option_map}
 use Rattle.agent_model.specs.Errands.{Signs, put_unless, raise_unless}
-use Rattle.agent_model.specs.Verdicts.{Cause}
+use Rattle.agent_model.specs.Verdicts.{Cause, DestinationDenied, OtherPurpose}
 use Rattle.under_way.specs.Parts.{TellsOf}
-use Rattle.agent_model.specs.Dispatch.{Asker, add_by, add_seen, remove_by, remove_seen, sees, serve, serve_by, sign_by, sign_unless, sign_with, with_identities}
-use Rattle.agent_model.specs.Objections.{objection, objection_by}
+use Rattle.agent_model.specs.Dispatch.{Asker, add_by, add_seen, remove_by, remove_seen, sees, serve, serve_by, sign_by, sign_unless, with_identities}
+use Rattle.agent_model.specs.Objections.{objection}
 use Rattle.dest_rule.specs.declared.denial.Denial.{Denial}
 use Rattle.std.specs.Option.{is_none}
 use Rattle.agent_model.specs.State.{UnderWay}
@@ -150,7 +150,7 @@ served-sign asker signing held under_way = by_lock held.lock
     by_lock (Some passphrase) = refl
 
 -- nothing stands against what the purposes let sign and the constraints don't deny
-pub no_objection : (lets : Bool) (denial : Option Denial) → is_none (objection_by lets denial) ≡ (lets && is_none denial)
+pub no_objection : (lets : Bool) (denial : Option Denial) → is_none (if lets then option_map DestinationDenied denial else Some OtherPurpose) ≡ (lets && is_none denial)
 no_objection true None = refl
 no_objection true (Some denial) = refl
 no_objection false denial = refl
@@ -169,12 +169,12 @@ pub served-signed : (asker : CoreAsker) (key : HeldKey) (signing : Signing) (hel
 served-signed asker key signing held under_way unlocked found permitted =
     let client : Asker = asker_of asker held in
     by_confirm key.confirm
-    ∙ ap (λ blob. sign_with key.confirm client key (record signing { blob = blob }) under_way) (found_has signing.blob held.table.identities key found)
-    ∙ sym (ap (λ result. sign_unless result client key signing under_way) permitted)
+    ∙ ap (λ blob. sign_unless None key.confirm client key (record signing { blob = blob }) under_way) (found_has signing.blob held.table.identities key found)
+    ∙ sym (ap (λ result. sign_unless result key.confirm client key signing under_way) permitted)
     ∙ sym (ap (λ f. sign_by f client signing under_way) found)
     ∙ sym (ap (λ lock. (serve_by lock (Sign signing) client held under_way).work) unlocked)
   where
-    by_confirm : (confirm : Bool) → sign_work confirm asker key signing.message signing.flags under_way ≡ sign_with confirm (asker_of asker held) key (record signing { blob = key.blob }) under_way
+    by_confirm : (confirm : Bool) → sign_work confirm asker key signing.message signing.flags under_way ≡ sign_unless None confirm (asker_of asker held) key (record signing { blob = key.blob }) under_way
     by_confirm true = refl
     by_confirm false = refl
 

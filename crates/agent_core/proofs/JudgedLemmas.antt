@@ -13,7 +13,7 @@ use Rattle.helper_link.specs.declared.ask.Ask.{Ask}
 use Rattle.helper_link.specs.declared.ask.AskKind.{AskKind}
 use Rattle.lists.proofs.KeyedLemmas.{differ, find_by-remove_apart}
 use Rattle.helper_link.proofs.OrderLemmas.{find-remove, remove_rises}
-use Rattle.agent_model.specs.Answers.{find_verification, remove_verification, ask_number}
+use Rattle.agent_model.specs.Answers.{find_verification, remove_verification}
 use Rattle.agent_model.specs.Sound.{AreJudged, AreTied, IsRight}
 use Rattle.agent_model.specs.State.{OnAsk, Port, Verification, change_port, find_port}
 use Rattle.agent_model.proofs.TieLemmas.{IsOf, apart, found_after, here, tied-told}
@@ -32,7 +32,7 @@ waits-told_with answer.False found p ask is = absurd (cc)
 
 -- the verifications of the others are left
 find-left : (ask gone : ℕ) (vs : List Verification) → gone ≢ ask → find_verification ask (remove_verification gone vs) ≡ find_verification ask vs
-find-left ask gone vs differs = find_by-remove_apart ask_number ask gone vs (λ is. differs (sym is))
+find-left ask gone vs differs = find_by-remove_apart (λ (one : Verification). one.ask) ask gone vs (λ is. differs (sym is))
 
 module _ (low last : ℕ) where
   -- and stay judged as they were

@@ -41,7 +41,8 @@ IsShortKey key = length key.private + length key.blob ≤ 524288
 
 -- what comes of the consent for what was held, for a client with this chain
 abbrev pub grant_of : List Binding → Confirmation → ℕ → KeyState → UnderWay → Work
-grant_of chain confirmation wall held under_way = grant_by held.lock held chain confirmation wall under_way
+grant_of chain confirmation wall held under_way =
+    grant_by held.lock (find_number confirmation.addition held.table.identities) chain confirmation wall under_way
 
 -- the same in a state where the confirmation isn't under way any more
 abbrev pub grant_in : List Binding → Confirmation → State → Work

@@ -4,7 +4,7 @@ use Rattle.identity_table.specs.Identities.{HeldKey, TableState}
 use Rattle.dest_rule.specs.Hosts.{login_host}
 use Rattle.agent_msg.specs.Requests.{ClientRequest, ListIdentities, Sign, Add, Remove, RemoveAll, Lock, Unlock, Bind, OtherExtension, Unsupported}
 use Rattle.wire_text.specs.Bounds.{longest_body}
-use Rattle.agent_model.specs.Binds.{agent_request_of, with_host_key}
+use Rattle.agent_model.specs.Binds.{agent_request_of, and_host_key}
 use Rattle.agent_model.specs.Dispatch.{Asker, Served, sees, serve}
 use Rattle.agent_model.specs.KeyStates.{KeyState}
 use Rattle.agent_model.specs.Actions.{Work}
@@ -34,7 +34,7 @@ keys_of table lock = record { table = table; lock = lock }
 
 -- what comes of its request, whose fields were read
 abbrev pub served_by : CoreAsker → ClientRequest → KeyState → UnderWay → Served
-served_by asker request held under_way = serve (with_host_key request) (asker_of asker held) held under_way
+served_by asker request held under_way = serve (and_host_key (Ok request)) (asker_of asker held) held under_way
 
 -- what comes of the request of this body
 abbrev pub served_body : CoreAsker → List ℕ → KeyState → UnderWay → Served

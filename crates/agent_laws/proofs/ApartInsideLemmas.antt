@@ -17,8 +17,8 @@ use Rattle.agent_model.specs.Dispatch.{Asker, Served, add_by, add_seen, add_unle
 use Rattle.agent_model.specs.Events.{Heard, Took}
 use Rattle.agent_model.specs.KeyStates.{KeyState}
 use Rattle.agent_model.specs.Looks.{due}
-use Rattle.agent_model.specs.State.{Nothing, OnAsk, OnConfirmation, Port, State, UnderWay, Waits, change_port, find_port}
-use Rattle.agent_model.specs.Step.{asker_at, attempts, handle, heard_at, look_front, look_owed, look_port, look_waits, looked, step, take_frame, taken, took_at, took_some}
+use Rattle.agent_model.specs.State.{Nothing, Port, State, UnderWay, Waits, change_port, find_port}
+use Rattle.agent_model.specs.Step.{asker_at, attempts, handle, heard_at, look_front, look_port, look_waits, looked, step, take_frame, taken, took_at, took_some}
 use Rattle.agent_model.specs.Time.{at_moment}
 use Rattle.agent_model.specs.Verdicts.{Cause, Verdict, tell}
 use Rattle.agent_model.proofs.PortsLemmas.{find_port-change_port, found_number}
@@ -242,21 +242,14 @@ module _ (who : Insiders) where
     front-own (Bad announced) is well own = absurd (well announced is)
     front-own More is well own = stays
 
-    owed-own : (owed : List ℕ) → port.owed ≡ owed → port.waits ≡ Nothing
+    waits-own : (waits : Waits) (owed : List ℕ) → port.waits ≡ waits → port.owed ≡ owed
         → ((announced : ℕ) → due port ≢ Bad announced)
         → ((body_len : ℕ) (request : ClientRequest) → due port ≡ Whole body_len → agent_request_of (front_body body_len port.heard) ≡ Ok request → IsOwnMatter who request)
-        → AreAlike who start (look_owed owed port state).state
-    owed-own [] is nothing well own =
+        → AreAlike who start (look_waits waits owed port state).state
+    waits-own Nothing [] nothing is well own =
         front-own (front longest_body port.heard)
         (ap (λ (w : Waits). due (record port { waits = w })) nothing ∙ ap (λ (o : List ℕ). due (record port { waits = Nothing; owed = o })) is) well own
-    owed-own (byte ∷ bytes) is nothing well own = stays
-
-    waits-own : (waits : Waits) → port.waits ≡ waits → ((announced : ℕ) → due port ≢ Bad announced)
-        → ((body_len : ℕ) (request : ClientRequest) → due port ≡ Whole body_len → agent_request_of (front_body body_len port.heard) ≡ Ok request → IsOwnMatter who request)
-        → AreAlike who start (look_waits waits port state).state
-    waits-own Nothing is well own = owed-own port.owed refl is well own
-    waits-own (OnAsk ask) is well own = stays
-    waits-own (OnConfirmation job) is well own = stays
+    waits-own waits owed waiting is well own = stays
 
   -- the port was changed so before it is looked at
   module _ (start : State) (alike : AreAlike who start start) (now : start.moment.mono ≡ start.held.table.greatest) (number : ℕ) (port : Port) (found : find_port number start.ports ≡ Some port) (f : Port → Port) (keeps : KeepsPlace f) (inside : IsInside who port (f port)) where
@@ -267,7 +260,7 @@ module _ (who : Insiders) where
         let behind : find_port port.number (change_port port.number f start.ports) ≡ Some (f port) = find_port-change_port port.number f start.ports keeps.number ∙ ap (option_map f) there in
         let it_is : who.is_insider (f port).number ≡ true = ap who.is_insider (keeps.number port) ∙ inside.insider in
         subst (λ (asked : Option Port). AreAlike who start (look_port asked (changed port.number f start)).state) (sym behind)
-        (waits-own start (changed port.number f start) (ports-own port.number f keeps inside.insider start.ports) refl alike now (f port) it_is (f port).waits refl inside.well inside.own)
+        (waits-own start (changed port.number f start) (ports-own port.number f keeps inside.insider start.ports) refl alike now (f port) it_is (f port).waits (f port).owed refl refl inside.well inside.own)
 
   -- ---- events
 

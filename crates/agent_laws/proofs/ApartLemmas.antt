@@ -17,8 +17,8 @@ use Rattle.agent_model.specs.Events.{Happening, Timed, Joined, Heard, Ended, Too
 use Rattle.agent_model.specs.KeyStates.{KeyState}
 use Rattle.agent_model.specs.Looks.{due}
 use Rattle.agent_model.specs.Runs.{run}
-use Rattle.agent_model.specs.State.{Client, Confirmer, Helper, Nothing, OnAsk, OnConfirmation, Port, Role, Settings, State, UnderWay, Unnamed, Waits, change_port, find_port, first_state, new_port, owed_by, owed_of, role_of}
-use Rattle.agent_model.specs.Step.{admitted, asker_at, attempts, confirmer_took, ended_at, ended_by_role, handle, has_room, heard_at, heard_by_role, helper_took, join, look_front, look_owed, look_port, look_waits, looked, step, take_frame, taken, took_at, took_by_role, took_some}
+use Rattle.agent_model.specs.State.{Client, Confirmer, Helper, Nothing, Port, Role, Settings, State, UnderWay, Unnamed, Waits, change_port, find_port, first_state, new_port, owed_by, owed_of, role_of}
+use Rattle.agent_model.specs.Step.{admitted, asker_at, attempts, confirmer_took, ended_at, ended_by_role, handle, has_room, heard_at, heard_by_role, helper_took, join, look_front, look_port, look_waits, looked, step, take_frame, taken, took_at, took_by_role, took_some}
 use Rattle.agent_model.specs.Time.{at_moment, time_passes}
 use Rattle.agent_model.specs.Verdicts.{tell, verdict_text, verdict_waits}
 use Rattle.agent_model.proofs.BothLemmas.{AreAlikeInBoth, IsSameWay, both-ended, both-failed, both-heard_role, both-took_role}
@@ -79,18 +79,12 @@ module _ (who : Insiders) where
       front-alike (Bad announced) is = alike-shut sides port.number
       front-alike More is = alike-stay sides
 
-      owed-alike : (owed : List ℕ) → port.owed ≡ owed → port.waits ≡ Nothing
-          → Same who (look_owed owed port state) (look_owed owed port (other state q k))
-      owed-alike [] is nothing =
+      waits-alike : (waits : Waits) (owed : List ℕ) → port.waits ≡ waits → port.owed ≡ owed
+          → Same who (look_waits waits owed port state) (look_waits waits owed port (other state q k))
+      waits-alike Nothing [] nothing is =
           front-alike (front longest_body port.heard)
           (ap (λ (w : Waits). due (record port { waits = w })) nothing ∙ ap (λ (o : List ℕ). due (record port { waits = Nothing; owed = o })) is)
-      owed-alike (byte ∷ bytes) is nothing = alike-stay sides
-
-      waits-alike : (waits : Waits) → port.waits ≡ waits
-          → Same who (look_waits waits port state) (look_waits waits port (other state q k))
-      waits-alike Nothing is = owed-alike port.owed refl is
-      waits-alike (OnAsk ask) is = alike-stay sides
-      waits-alike (OnConfirmation job) is = alike-stay sides
+      waits-alike waits owed waiting is = alike-stay sides
 
     look-alike : {one two : Option Port} → FindsPorts who one two
         → ((port : Port) → one ≡ Some port → IsQuietAt port)
@@ -98,8 +92,8 @@ module _ (who : Insiders) where
     look-alike neither quiet = alike-stay sides
     look-alike (found one two alike) quiet =
         let at = quiet one refl in
-        subst (λ (p : Port). Same who (look_waits one.waits one state) (look_waits p.waits p (other state q k))) (alike.outsider at.outsider)
-        (waits-alike one at one.waits refl)
+        subst (λ (p : Port). Same who (look_waits one.waits one.owed one state) (look_waits p.waits p.owed p (other state q k))) (alike.outsider at.outsider)
+        (waits-alike one at one.waits one.owed refl refl)
 
     looked-alike : (number : ℕ)
         → ((port : Port) → find_port number state.ports ≡ Some port → IsQuietAt port)

@@ -1,5 +1,5 @@
 -- Lemmas on specs/Apart.antt: what an outsider is replied.
-use Rattle.std.proofs.Common.{◌≡◌, ℕ, List, [], ◌∷◌, refl, ap, sym, subst, ◌∙◌, Option, Some, None, Bool, true, false, Result, Ok, Err, ◌==◌, ◌+◌, nat_lt}
+use Rattle.std.proofs.Common.{◌≡◌, ℕ, List, [], ◌∷◌, refl, ap, sym, subst, ◌∙◌, Option, Some, None, Bool, true, false, Result, Ok, Err, ◌==◌, ◌+◌, nat_lt, if◌then◌else◌}
 use Rattle.std.specs.Option.{IfSome}
 use Rattle.std.specs.Str.{bytes_eq}
 use Rattle.agent_msg.specs.Requests.{Addition, BindRequest, ClientRequest, Signing, ListIdentities, Sign, Add, Remove, RemoveAll, Lock, Unlock, Bind, OtherExtension, Unsupported}
@@ -13,7 +13,7 @@ use Rattle.identity_table.specs.Deaths.{death_of}
 use Rattle.identity_table.specs.Identities.{HeldKey, find_identity, identities_with, identity_of, is_full}
 use Rattle.world_ports.specs.declared.Moment.{Moment}
 use Rattle.agent_model.specs.Actions.{Work, settles}
-use Rattle.agent_model.specs.Dispatch.{Asker, Served, add_by, add_fault, add_seen, add_unless, bind_by, keeps, lock_by, refuses, remove_by, remove_seen, sees, serve, serve_by, serve_locked, serve_unlocked, sign_by, sign_unless, sign_with, unlock_by, uses}
+use Rattle.agent_model.specs.Dispatch.{Asker, Served, add_by, add_fault, add_seen, add_unless, bind_by, refuses, remove_by, remove_seen, sees, serve, serve_by, serve_locked, serve_unlocked, sign_by, sign_unless, uses, answers}
 use Rattle.agent_model.specs.Errands.{Errand, Signs, ask_fault, put_unless}
 use Rattle.agent_model.specs.KeyStates.{KeyState, after_use}
 use Rattle.agent_model.specs.Limits.{last_number}
@@ -21,7 +21,7 @@ use Rattle.agent_model.specs.Objections.{objection}
 use Rattle.agent_model.specs.State.{Port, UnderWay}
 use Rattle.agent_model.specs.Step.{asker_at}
 use Rattle.agent_model.specs.Unseen.{IsSameReply}
-use Rattle.agent_model.specs.Verdicts.{Cause, Identities, NotHeld, Refuses, Replies, verdict_text}
+use Rattle.agent_model.specs.Verdicts.{Cause, Identities, NotHeld, Refuses, Replies, verdict_text, Success, WrongPassphrase}
 use Rattle.agent_model.proofs.ObjectionLemmas.{both_permit}
 use Rattle.agent_model.proofs.UnseenLemmas.{both_fail, same_work, unseen-denied}
 use Rattle.agent_laws.specs.Apart.{AreUnseen, Insiders, IsAlikeHeld, SaysNoMore, none}
@@ -49,7 +49,7 @@ module _ (who : Insiders) (moment : Moment) (port : Port) (one two : KeyState) (
 
   -- what is held stays, and this comes of both
   stays-alike : (work : Work) → work.under_way.confirmations ≡ under_way.confirmations
-      → Alike (keeps one work) (keeps two work)
+      → Alike (record { held = one; work = work }) (record { held = two; work = work })
   stays-alike work calm = record { held = alike; reply = same_work work; calm = calm }
 
   refuses-alike : (cause other : Cause)
@@ -68,7 +68,7 @@ module _ (who : Insiders) (moment : Moment) (port : Port) (one two : KeyState) (
     where
       by_objection : (result : Option Cause)
           → objection key signing.blob port.chain signing.message moment.wall ≡ result
-          → (cause : Cause) × (sign_unless result asker key signing under_way ≡ settles (Refuses cause) under_way)
+          → (cause : Cause) × (sign_unless result key.confirm asker key signing under_way ≡ settles (Refuses cause) under_way)
       by_objection None is = absurd (unseen-denied key.rules signing.blob port.chain signing.message moment.wall port.attempted hidden
           (both_permit (let_sign key.purposes signing.message signing.blob)
           (denial_under key.rules signing.blob port.chain signing.message moment.wall) is).1)
@@ -100,7 +100,7 @@ module _ (who : Insiders) (moment : Moment) (port : Port) (one two : KeyState) (
         → find_identity signing.blob one.table.identities ≡ Some key
         → find_identity signing.blob two.table.identities ≡ Some (renumbered number key)
         → confirm ≡ false
-        → Alike (uses one (sign_with confirm asker key signing under_way)) (uses two (sign_with confirm asker (renumbered number key) signing under_way))
+        → Alike (uses one (sign_unless None confirm asker key signing under_way)) (uses two (sign_unless None confirm asker (renumbered number key) signing under_way))
     signed_with true key number is is_two plain = absurd (cc)
     signed_with false key number is is_two plain = by_fault (ask_fault under_way)
       where
@@ -114,7 +114,7 @@ module _ (who : Insiders) (moment : Moment) (port : Port) (one two : KeyState) (
         → find_identity signing.blob one.table.identities ≡ Some key
         → find_identity signing.blob two.table.identities ≡ Some (renumbered number key)
         → key.confirm ≡ false
-        → Alike (uses one (sign_unless result asker key signing under_way)) (uses two (sign_unless result asker (renumbered number key) signing under_way))
+        → Alike (uses one (sign_unless result key.confirm asker key signing under_way)) (uses two (sign_unless result key.confirm asker (renumbered number key) signing under_way))
     signed_unless (Some cause) key number is is_two plain =
         record { held = alike; reply = both_fail _ _ under_way; calm = refl }
     signed_unless None key number is is_two plain =
@@ -228,7 +228,7 @@ module _ (who : Insiders) (moment : Moment) (port : Port) (one two : KeyState) (
   -- ---- the others
 
   locks-alike : (passphrase : List ℕ)
-      → Alike (lock_by passphrase one under_way) (lock_by passphrase two under_way)
+      → Alike (serve_unlocked (Lock passphrase) asker one under_way) (serve_unlocked (Lock passphrase) asker two under_way)
   locks-alike [] = refuses-alike _ _
   locks-alike (byte ∷ bytes) = record {
     held = record { lock = refl; first_own = alike.first_own; second_own = alike.second_own; life = alike.life; greatest = alike.greatest; keys = alike.keys };
@@ -236,8 +236,12 @@ module _ (who : Insiders) (moment : Moment) (port : Port) (one two : KeyState) (
     calm = refl;
   }
 
-  unlocks-alike : (same : Bool)
-      → Alike (unlock_by same one under_way) (unlock_by same two under_way)
+  -- by whether the passphrase is the one that locked the agent
+  abbrev unlocked_by : Bool → KeyState → Served
+  unlocked_by is_right held =
+      if is_right then answers Success (record held { lock = None }) under_way else refuses WrongPassphrase held under_way
+
+  unlocks-alike : (same : Bool) → Alike (unlocked_by same one) (unlocked_by same two)
   unlocks-alike false = refuses-alike _ _
   unlocks-alike true = record {
     held = record { lock = refl; first_own = alike.first_own; second_own = alike.second_own; life = alike.life; greatest = alike.greatest; keys = alike.keys };

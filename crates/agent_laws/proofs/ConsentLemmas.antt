@@ -8,10 +8,11 @@ use Rattle.agent_model.specs.Binds.{agent_request_of}
 use Rattle.agent_model.specs.Events.{Timed}
 use Rattle.agent_model.specs.Runs.{Stamped, run}
 use Rattle.agent_model.specs.State.{Settings, first_state}
-use Rattle.agent_laws.specs.Dues.{Claim, claim_of, claim_of_raising, claim_of_request, is_consented, raised_at}
+use Rattle.agent_laws.specs.Dues.{Claim, claim_of, claim_of_request, is_consented, raised_at}
 use Rattle.agent_laws.specs.History.{HasNumbers, IsConsented, IsPutBehind, onto}
 use Rattle.agent_laws.specs.Past.{PastAddition, last_addition}
 use Rattle.agent_laws.proofs.ConsequenceLemmas.{claimed}
+use Rattle.std.specs.Option.{option_map}
 
 -- a request claims no addition
 no_addition : (read : Result ClientRequest MsgFault) (port : ℕ) (claim : Claim)
@@ -41,13 +42,16 @@ pub record Consents (action : Action) (rest : List Stamped) (claim : Claim) (add
   pub addition : raising.addition ≡ added.number
   pub what : raising.signing ≡ claim.signing
 
+-- what a consent claims: what the user was asked for, of the very addition
+abbrev pub claimed_by : Raising → Claim
+claimed_by raising = record { port = raising.port; addition = Some raising.addition; signing = raising.signing }
+
 by_raised : (job : ℕ) (rest : List Stamped) (claim : Claim) (added : PastAddition) (raised : Option Raising)
-    → raised_at job rest ≡ raised → claim_of_raising raised ≡ Some claim
+    → raised_at job rest ≡ raised → option_map claimed_by raised ≡ Some claim
     → is_consented claim.addition added ≡ true → Consents (Granted job) rest claim added
 by_raised job rest claim added None is claims consented = absurd (cc)
 by_raised job rest claim added (Some raising) is claims consented =
-    let one : Claim = record { port = raising.port; addition = Some raising.addition; signing = raising.signing } in
-    let same : one ≡ claim = cc in
+    let same : claimed_by raising ≡ claim = cc in
     let test : (added.number == raising.addition) ≡ true = ap (λ (c : Claim). is_consented c.addition added) same ∙ consented in
     record {
       job = job;

@@ -1,7 +1,7 @@
 -- What a signature that is put to the helper tells of the actions before.
 use Rattle.std.proofs.Common.{◌≡◌, ◌≢◌, ℕ, ◌<◌, List, [], ◌∷◌, ◌++◌, length, refl, ap, arith, sym, subst, ◌∙◌, Option, Some, None, IsSomeAnd, Bool, true, false, cond, nat_lt, not, ◌&&◌, inl, inr}
 use Rattle.std.specs.List.{sum_by}
-use Rattle.std.specs.Option.{option_map}
+use Rattle.std.specs.Option.{option_map, is_none}
 use Rattle.std.specs.Str.{bytes_eq}
 use Rattle.std.proofs.lemmas.Bool.Decides.{nat_tests}
 use Rattle.std.proofs.lemmas.Slice.Eq.{bytes_eq-Decides}
@@ -12,7 +12,7 @@ use Rattle.agent_model.specs.Actions.{Action}
 use Rattle.agent_model.specs.Events.{Timed}
 use Rattle.agent_model.specs.Runs.{Stamped, run}
 use Rattle.agent_model.specs.State.{Settings, first_state}
-use Rattle.agent_laws.specs.Dues.{Claim, claim_of, due_signing, is_consented, is_met, is_permitted, met_by, open_asks, proved_of}
+use Rattle.agent_laws.specs.Dues.{Claim, claim_of, due_signing, is_consented, is_met, met_by, open_asks, proved_of}
 use Rattle.agent_laws.specs.History.{HasNumbers, IsDue, IsLawful, IsPutBehind, NoneAdds, NoneUnlocks, Removes, StandsAt, onto}
 use Rattle.agent_laws.specs.Past.{DidAdd, DidLock, DidNothing, DidRemove, DidRemoveAll, DidUnlock, DidUse, Done, PastAddition, added_by, done_of, held_by, last_addition, locked_by, used_again, was_locked}
 use Rattle.agent_laws.proofs.GrantedLemmas.{all_parts, none_if_permitted}
@@ -70,7 +70,7 @@ module _ (life : Option ℕ) (newest : Stamped) (rest : List Stamped) (claim : C
   by_held (Some added) is claims met =
       let few : Bool = nat_lt (length (open_asks whole)) 256 in
       let light : Bool = nat_lt (sum_by (λ (one : ℕ × ℕ). one.1) (open_asks whole)) 8388608 in
-      let parts = five_parts (is_consented claim.addition added) (let_sign added.addition.terms.purposes claim.signing.message claim.signing.blob) (is_permitted (denial_under added.addition.terms.rules claim.signing.blob (proved_of claim.port whole) claim.signing.message newest.moment.wall)) (few && light) (not (was_locked whole)) met in
+      let parts = five_parts (is_consented claim.addition added) (let_sign added.addition.terms.purposes claim.signing.message claim.signing.blob) (is_none (denial_under added.addition.terms.rules claim.signing.blob (proved_of claim.port whole) claim.signing.message newest.moment.wall)) (few && light) (not (was_locked whole)) met in
       let places = both_parts few light parts.3 in
       record {
         newest = newest;

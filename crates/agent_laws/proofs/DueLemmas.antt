@@ -17,13 +17,13 @@ use Rattle.agent_model.specs.Askable.{HasRoom, IsRefusedFor, IsUsable}
 use Rattle.agent_model.specs.Dispatch.{Asker, Served, host_for, serve, unread}
 use Rattle.agent_model.specs.Errands.{Errand, Signs, Verifies, purpose_of, put_unless, raise_unless}
 use Rattle.agent_model.specs.KeyStates.{KeyState}
-use Rattle.agent_model.specs.Objections.{objection, objection_by}
+use Rattle.agent_model.specs.Objections.{objection}
 use Rattle.agent_model.specs.State.{UnderWay}
 use Rattle.agent_model.specs.Verdicts.{AsksSpent, Cause, DestinationDenied, Identities, JobsSpent, Locked, NotHeld, OtherPurpose, Refuses, Replies, Success, TooManyAsks, TooManyConfirmations, Verdict}
 use Rattle.agent_model.proofs.RoomLemmas.{is_full-is, is_full-not}
 use Rattle.agent_model.proofs.SignLemmas.{Comes, comes-of, put, raises, refused}
 use Rattle.agent_model.proofs.ServeLemmas.{Serves, adds, confirms, denies, empties, lists, locks, removes, serves-any, signs, unlocks, verifies}
-use Rattle.agent_laws.specs.Dues.{Claim, claim_of_request, is_consented, is_met, is_permitted, is_place}
+use Rattle.agent_laws.specs.Dues.{Claim, claim_of_request, is_consented, is_met, is_place}
 use Rattle.agent_laws.specs.History.{IsDue}
 use Rattle.agent_laws.specs.Past.{PastAddition, done_of_request, held_by}
 use Rattle.agent_laws.proofs.PlaceLemmas.{parts_of, place-same}
@@ -49,7 +49,8 @@ met_with (Some claim) life second wall facts chains opens =
 -- ---- four tests, of which the second is two
 
 pub as_one : (first lets : Bool) (denial : Option Denial) (rest : Bool)
-    → (first && (lets && (is_permitted denial && rest))) ≡ (first && (is_none (objection_by lets denial) && rest))
+    → (first && (lets && (is_none denial && rest)))
+    ≡ (first && (is_none (if lets then option_map DestinationDenied denial else Some OtherPurpose) && rest))
 as_one first true None rest = refl
 as_one first true (Some denial) rest = refl
 as_one first false denial rest = refl

@@ -29,7 +29,7 @@ use Rattle.agent_model.proofs.GrantLemmas.{IsGranted, allowed, disallowed, unask
 use Rattle.agent_model.proofs.JobLemmas.{IsIn, in-found}
 use Rattle.agent_model.proofs.RoomLemmas.{RoomFor, free, full, is_full-is, is_full-not, no_ask, no_job, room-of}
 use Rattle.agent_model.proofs.SizeLemmas.{size_of}
-use Rattle.agent_laws.specs.Dues.{Claim, claim_of_raising, due_signing, is_met, is_permitted, is_place, met_by, open_asks, proved_of, raised_at}
+use Rattle.agent_laws.specs.Dues.{Claim, due_signing, is_met, is_place, met_by, open_asks, proved_of, raised_at}
 use Rattle.agent_laws.specs.Past.{PastAddition, held_by}
 use Rattle.agent_laws.specs.Puts.{IsMessage, asks, passes}
 use Rattle.agent_laws.specs.Puts as puts
@@ -40,6 +40,7 @@ use Rattle.agent_laws.proofs.PastLemmas.{stamp}
 use Rattle.agent_laws.proofs.RaisedLemmas.{AllRaised, IsRaised, all_raised-kept, all_raised-more, all_raised-over}
 use Rattle.agent_laws.proofs.PlaceLemmas.{parts_of, place-same}
 use Rattle.agent_laws.proofs.StepLemmas.{Agrees, Goes, Opened, due_as, parts-append}
+use Rattle.agent_laws.proofs.ConsentLemmas.{claimed_by}
 
 -- ---- a confirmation ends
 
@@ -69,7 +70,7 @@ all_parts true true false d is = absurd (cc)
 all_parts true false c d is = absurd (cc)
 all_parts false b c d is = absurd (cc)
 
-pub none_if_permitted : (result : Option Denial) → is_permitted result ≡ true → result ≡ None
+pub none_if_permitted : (result : Option Denial) → is_none result ≡ true → result ≡ None
 none_if_permitted None is = refl
 none_if_permitted (Some denial) is = absurd (cc)
 
@@ -204,7 +205,7 @@ module _ {N : Type 0} (life : Option ℕ) (past : List Stamped) (confirmation : 
   due_behind =
       let one : Claim = record { port = raised.raising.port; addition = Some raised.raising.addition; signing = raised.raising.signing } in
       let chain : proved_of raised.raising.port past ≡ port.chain = ap (λ n. proved_of n past) raised.port ∙ opened.chains confirmation.asker port found in
-      ap (λ r. met_by (claim_of_raising r) life state.moment behind) raised.is
+      ap (λ r. met_by (option_map claimed_by r) life state.moment behind) raised.is
       ∙ due_as (Some one) life state.moment behind
       ∙ ap (λ c. met_with (Some one) life state.moment.mono state.moment.wall (facts_of past) (λ n. c) (open_asks past)) chain
 

@@ -4,7 +4,7 @@ use Rattle.std.proofs.lemmas.Bool.{eqb-true}
 use Rattle.world_ports.specs.declared.Moment.{Moment}
 use Rattle.agent_msg.specs.declared.fault.MsgFault.{MsgFault}
 use Rattle.agent_msg.specs.Requests.{Addition, ClientRequest}
-use Rattle.identity_table.specs.Identities.{HaveOwnBlobs, HaveOwnNumbers, HeldKey, TableState, alive_at, find_number, new_identity, remove_identity}
+use Rattle.identity_table.specs.Identities.{HaveOwnBlobs, HaveOwnNumbers, HeldKey, TableState, alive_at, find_number, new_identity, remove_identity, added}
 use Rattle.identity_table.proofs.FindLemmas.{own_blobs-alive, own_blobs-put, own_blobs-remove}
 use Rattle.identity_table.proofs.NumberLaws.{find_number-alive, find_number-put, find_number-remove, unless_blob}
 use Rattle.identity_table.proofs.NumberLemmas.{own_numbers-alive, own_numbers-put, own_numbers-remove}
@@ -15,7 +15,7 @@ use Rattle.helper_link.specs.declared.fault.LinkFault.{LinkFault}
 use Rattle.agent_model.specs.Actions.{Outcome}
 use Rattle.agent_model.specs.Answers.{lose_if}
 use Rattle.agent_model.specs.Binds.{agent_request_of}
-use Rattle.agent_model.specs.Dispatch.{Served, Asker, with_addition}
+use Rattle.agent_model.specs.Dispatch.{Served, Asker}
 use Rattle.agent_model.specs.Consents.{grant_work}
 use Rattle.agent_model.specs.Events.{Happening, Timed}
 use Rattle.agent_laws.specs.Grants.{HaveOwnParts, WasHeld}
@@ -83,7 +83,7 @@ kept-emptied table = record {
 
 -- one comes, under the next number
 pub kept-added : (addition : Addition) (now : ℕ) (table : TableState) → HaveOwnParts table
-    → KeysKept table (with_addition addition now table)
+    → KeysKept table (added table addition.key addition.terms addition.comment now)
 kept-added addition now table own =
     let new : HeldKey = new_identity table addition.key addition.terms addition.comment now in
     record {

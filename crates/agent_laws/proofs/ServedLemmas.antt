@@ -6,12 +6,12 @@ use Rattle.std.proofs.lemmas.Bool.Decides.{nat_tests}
 use Rattle.agent_msg.specs.declared.fault.MsgFault.{MsgFault}
 use Rattle.agent_msg.specs.Requests.{Addition, ClientRequest, Signing, ListIdentities, Sign, Add, Remove, RemoveAll, Lock, Unlock, Bind, OtherExtension, Unsupported}
 use Rattle.identity_table.specs.Deaths.{death_of, lives_at}
-use Rattle.identity_table.specs.Identities.{HeldKey, find_identity, find_number, identity_of, new_identity, remove_identity}
+use Rattle.identity_table.specs.Identities.{HeldKey, find_identity, find_number, identity_of, new_identity, remove_identity, added}
 use Rattle.identity_table.proofs.FindLemmas.{find-put, find-remove, if_alive, own_blobs-put, own_blobs-remove}
 use Rattle.identity_table.proofs.NumberLaws.{find_number-put, find_number-remove, unless_blob}
 use Rattle.identity_table.proofs.NumberLemmas.{own_numbers-put, own_numbers-remove}
 use Rattle.agent_model.specs.Actions.{Action}
-use Rattle.agent_model.specs.Dispatch.{Asker, Served, serve, with_addition, with_identities}
+use Rattle.agent_model.specs.Dispatch.{Asker, Served, serve, with_identities}
 use Rattle.agent_model.specs.KeyStates.{KeyState, after_use}
 use Rattle.agent_model.specs.State.{UnderWay}
 use Rattle.agent_model.specs.Verdicts.{Cause, Refuses, Verdict}
@@ -45,7 +45,7 @@ module _ (life : Option ℕ) (asker : Asker) (facts : Facts) (held : KeyState) (
   -- ---- additions
 
   added_holds : (addition : Addition) → IfSome addition.terms.uses (λ uses. 1 ≤ uses)
-      → Told (DidAdd addition) (record held { table = with_addition addition asker.mono held.table })
+      → Told (DidAdd addition) (record held { table = added held.table addition.key addition.terms addition.comment asker.mono })
   added_holds addition usable = record {
     locked = holds.locked;
     count = ap (λ n. n + 1) holds.count;
@@ -110,7 +110,7 @@ module _ (life : Option ℕ) (asker : Asker) (facts : Facts) (held : KeyState) (
 
   -- numbers are kept by an addition and by removals
   added_done : (addition : Addition) → IfSome addition.terms.uses (λ uses. 1 ≤ uses)
-      → After (DidAdd addition) (record held { table = with_addition addition asker.mono held.table })
+      → After (DidAdd addition) (record held { table = added held.table addition.key addition.terms addition.comment asker.mono })
   added_done addition usable = record {
     holds = added_holds addition usable;
     kept = record {

@@ -1,5 +1,5 @@
 -- An answer of the helper comes of its stream alone: of a piece at its port, or of what stands behind its HELLO.
-use Rattle.std.proofs.Common.{◌≡◌, ◌≢◌, ◌==◌, ℕ, List, [], ◌∷◌, ◌++◌, arith, refl, ap, sym, subst, ◌∙◌, ◌⊎◌, Option, Some, None, Bool, true, false, inl, inr, Result, Ok, Err}
+use Rattle.std.proofs.Common.{◌≡◌, ◌≢◌, ◌==◌, ℕ, List, [], ◌∷◌, ◌++◌, arith, refl, ap, sym, subst, ◌∙◌, ◌⊎◌, Option, Some, None, Bool, true, false, inl, inr, Result, Ok, Err, if◌then◌else◌}
 use Rattle.std.specs.Str.{bytes_eq}
 use Rattle.std.proofs.lemmas.Bool.Decides.{nat_tests}
 use Rattle.std.proofs.lemmas.Slice.Eq.{bytes_eq-Decides}
@@ -23,13 +23,13 @@ use Rattle.helper_link.specs.declared.state.LinkState.{LinkState}
 use Rattle.helper_link.specs.declared.state.LinkState.TheVariants as states
 use Rattle.agent_model.specs.Actions.{Action, Answered, Asked, Granted, Lost, Outcome, Over, Proved, Raised, Requested, Work}
 use Rattle.agent_model.specs.Answers.{Answering, answers_in, helper_tells, lose_if, lose_where, with_answers}
-use Rattle.agent_model.specs.Children.{changed, closed, confirmer_goes_on, confirmer_named, failed_by, first_frame, first_message, heard_more, hello_heard, helper_named, is_started_by, job_left, named_by, shut, start_failed, ticket_shown}
+use Rattle.agent_model.specs.Children.{changed, closed, confirmer_goes_on, confirmer_named, failed_by, first_frame, first_message, heard_more, hello_heard, helper_named, is_started_by, job_left, named_by, shut, start_failed}
 use Rattle.agent_model.specs.Consents.{consent_by, find_started, grant_concluded, grant_to, over_if, without_confirmation}
 use Rattle.agent_model.specs.Dispatch.{Asker, Served}
 use Rattle.agent_model.specs.Events.{Ended, Happening, Heard, Joined, StartFailed, Started, Tick, Took}
 use Rattle.agent_model.specs.Fates.{Fails, Fate, Gets, Unanswered, fate_in, fate_of, fault_fate, or_later, settled_fate}
-use Rattle.agent_model.specs.State.{Client, Confirmer, Helper, Nothing, OnAsk, OnConfirmation, Port, Role, StartedJob, State, UnderWay, Unnamed, Waits, find_port, find_to_start, is_linked_to, role_by_helper, role_by_link, role_of}
-use Rattle.agent_model.specs.Step.{asker_at, ended_at, ended_by_role, handle, heard_at, heard_by_role, look_front, look_owed, look_port, look_waits, step, taken, took_at, took_by_role}
+use Rattle.agent_model.specs.State.{Client, Confirmer, Helper, Nothing, Port, Role, StartedJob, State, UnderWay, Unnamed, Waits, find_port, find_to_start, is_linked_to, role_by_helper, role_by_link, role_of}
+use Rattle.agent_model.specs.Step.{asker_at, ended_at, ended_by_role, handle, heard_at, heard_by_role, look_front, look_port, look_waits, step, taken, took_at, took_by_role}
 use Rattle.agent_model.specs.Time.{at_moment, time_passes}
 use Rattle.agent_model.proofs.ActionLemmas.{Each}
 use Rattle.agent_model.proofs.FateLemmas.{fate-append, settled-fates}
@@ -101,7 +101,7 @@ heard-hello number piece rest port state found door hello =
     ∙ ap (λ f. first_frame f number heard more) hello.whole
     ∙ ap (λ r. first_message r number (after_front hello.body_len heard) more) hello.hello
     ∙ ap (λ f. hello_heard f hello.ticket number (after_front hello.body_len heard) more) hello.started
-    ∙ ap (λ b. ticket_shown b hello.one.job number (after_front hello.body_len heard) more) ((bytes_eq-Decides hello.one.ticket hello.ticket).1 hello.same)
+    ∙ ap (λ b. if b then named_by hello.one.job.kind hello.one.job.number number (after_front hello.body_len heard) more else shut number more) ((bytes_eq-Decides hello.one.ticket hello.ticket).1 hello.same)
     ∙ ap (λ k. named_by k hello.one.job.number number (after_front hello.body_len heard) more) hello.kind
     ∙ ap (λ r. helper_tells (telling r (linked_to number state.under_way.link)) (helper_named hello.one.job.number number more)) (sym hello.behind)
 
@@ -169,18 +169,14 @@ mute-front (Whole body_len) port state =
 mute-front (Bad announced) port state = tt
 mute-front More port state = tt
 
-mute-owed : (owed : List ℕ) (port : Port) (state : State) → AreMute (look_owed owed port state)
-mute-owed [] port state = mute-front (front longest_body port.heard) port state
-mute-owed (byte ∷ bytes) port state = tt
-
-mute-waits : (waits : Waits) (port : Port) (state : State) → AreMute (look_waits waits port state)
-mute-waits Nothing port state = mute-owed port.owed port state
-mute-waits (OnAsk ask) port state = tt
-mute-waits (OnConfirmation job) port state = tt
+mute-waits : (waits : Waits) (owed : List ℕ) (port : Port) (state : State)
+    → AreMute (look_waits waits owed port state)
+mute-waits Nothing [] port state = mute-front (front longest_body port.heard) port state
+mute-waits waits owed port state = tt
 
 mute-look : (found : Option Port) (state : State) → AreMute (look_port found state)
 mute-look None state = tt
-mute-look (Some port) state = mute-waits port.waits port state
+mute-look (Some port) state = mute-waits port.waits port.owed port state
 
 mute-over : (found : Option Confirmation) (state : State) → AreMute (over_if found state)
 mute-over None state = tt
@@ -301,11 +297,11 @@ module _ (ask : ℕ) (answer : Answer) where
       tells-ticket : (job : ℕ) (ticket : List ℕ) (one : StartedJob) (shown : Bool)
           → from_child_of (front_body body_len heard) ≡ Ok (Hello job ticket)
           → find_started job state.under_way.started ≡ Some one → bytes_eq one.ticket ticket ≡ shown
-          → Tells (Heard number piece) state (ticket_shown shown one.job number rest more)
+          → Tells (Heard number piece) state (if shown then named_by one.job.kind one.job.number number rest more else shut number more)
       tells-ticket job ticket one true hello started is =
           tells-named job ticket hello one started ((bytes_eq-Decides one.ticket ticket).0 is) one.job.kind refl
       tells-ticket job ticket one false hello started is =
-          no_answer (Heard number piece) state (ticket_shown false one.job number rest more) tt
+          no_answer (Heard number piece) state (shut number more) tt
 
       tells-hello : (job : ℕ) (ticket : List ℕ) (named : Option StartedJob)
           → from_child_of (front_body body_len heard) ≡ Ok (Hello job ticket)

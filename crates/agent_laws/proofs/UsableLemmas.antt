@@ -23,7 +23,7 @@ use Rattle.constraint_rec.specs.declared.terms.Terms.{Terms}
 use Rattle.agent_msg.specs.declared.fault.MsgFault.{MsgFault}
 use Rattle.agent_msg.specs.Reading.{constrained, ended, extension_by, field_then, key_then, request_of, request_of_number, text_at_end, text_then}
 use Rattle.agent_msg.specs.Requests.{BindRequest, ClientRequest, ListIdentities, Sign, Add, Remove, RemoveAll, Lock, Unlock, Bind, OtherExtension, Unsupported, session_bind}
-use Rattle.agent_model.specs.Binds.{agent_request_of, and_host_key, bind_with, with_host_key}
+use Rattle.agent_model.specs.Binds.{agent_request_of, and_host_key, bind_with}
 
 abbrev pub AreUsable : Terms → Type 0
 AreUsable terms = IfSome terms.uses (λ uses. 1 ≤ uses)
@@ -175,7 +175,7 @@ host_key_read : (bind : BindRequest) (read : Result KeyParts KeyFault) → Is (b
 host_key_read bind (Ok key) = tt
 host_key_read bind (Err fault) = tt
 
-with_read : (request : ClientRequest) → IsUsable request → Is (with_host_key request)
+with_read : (request : ClientRequest) → IsUsable request → Is (and_host_key (Ok request))
 with_read ListIdentities usable = tt
 with_read (Sign signing) usable = tt
 with_read (Add addition) usable = usable

@@ -1,20 +1,20 @@
 -- Over all events a key is used as often as it may be, and no more.
-use Rattle.std.proofs.Common.{◌≡◌, ◌≢◌, ℕ, ◌+◌, ◌-◌, ◌<◌, ◌≤◌, List, [], ◌∷◌, ◌++◌, ◌⊎◌, inl, inr, refl, ap, arith, sym, subst, ◌∙◌, Option, Some, None, Bool, true, false, cond, nat_lt, Result, Ok, Err}
+use Rattle.std.proofs.Common.{◌≡◌, ◌≢◌, ℕ, ◌+◌, ◌-◌, ◌<◌, ◌≤◌, List, [], ◌∷◌, ◌++◌, ◌⊎◌, inl, inr, refl, ap, arith, sym, subst, ◌∙◌, Option, Some, None, Bool, true, false, cond, nat_lt, Result, Ok}
 use Rattle.std.specs.Option.{option_map}
 use Rattle.std.specs.Str.{bytes_eq}
 use Rattle.std.proofs.lemmas.Bool.Decides.{nat_tests}
 use Rattle.std.proofs.lemmas.Slice.Eq.{bytes_eq-Decides}
 use Rattle.agent_msg.specs.declared.fault.MsgFault.{MsgFault}
-use Rattle.agent_msg.specs.Requests.{Addition, ClientRequest, Signing, ListIdentities, Sign, Add, Remove, RemoveAll, Lock, Unlock, Bind, OtherExtension, Unsupported}
+use Rattle.agent_msg.specs.Requests.{Addition, ClientRequest, Signing, Add, Remove, RemoveAll, Lock, Unlock}
 use Rattle.agent_model.specs.Actions.{Action, Answered, Asked, ForBinding, ForSignature, Granted, Lost, Over, Proved, Purpose, Raised, Requested}
 use Rattle.agent_model.specs.Binds.{agent_request_of}
 use Rattle.agent_model.specs.Events.{Timed}
 use Rattle.agent_model.specs.Runs.{Stamped, history, run}
 use Rattle.agent_model.specs.State.{Settings, first_state}
-use Rattle.agent_model.specs.Verdicts.{Awaits, Identities, Refuses, Replies, Signature, Success, Verdict}
+use Rattle.agent_model.specs.Verdicts.{Replies, Success, Verdict}
 use Rattle.agent_laws.specs.Dues.{Claim, due_signing}
 use Rattle.agent_laws.specs.History.{ArePutWhereDue, HasNumbers, IsDue, IsLawful, IsPutBehind, IsPutWhereDue, NoneAdds, StandsAt, StandsWhereDue, onto}
-use Rattle.agent_laws.specs.Past.{DidAdd, DidLock, DidNothing, DidRemove, DidRemoveAll, DidUnlock, DidUse, Done, PastAddition, added_by, addition_count, done_by_ask, done_if, done_of, done_of_request, has_uses, last_addition, used_again}
+use Rattle.agent_laws.specs.Past.{DidAdd, DidLock, DidNothing, DidRemove, DidRemoveAll, DidUnlock, DidUse, Done, PastAddition, added_by, addition_count, done_by_ask, done_of, done_of_request, has_uses, last_addition, used_again}
 use Rattle.agent_laws.specs.Uses.{is_wanted, one_if, times_used, times_wanted, used_in}
 use Rattle.agent_laws.proofs.ConsequenceLemmas.{added-none}
 use Rattle.agent_laws.proofs.HistoryLemmas.{first-lawful, first-only}
@@ -24,31 +24,14 @@ use Rattle.agent_laws.proofs.TimesLemmas.{HasUse, due-has, none-due, none-wanted
 -- ---- a use is what was due
 
 -- a request uses nothing by itself
-not_use_if : (verdict : Verdict) (done : Done) (blob : List ℕ) → (done ≡ DidUse blob → ⊥)
-    → done_if verdict done ≡ DidUse blob → ⊥
-not_use_if (Replies Success) done blob never is = never is
-not_use_if (Replies (Identities identities)) done blob never is = absurd (cc)
-not_use_if (Replies (Signature signature)) done blob never is = absurd (cc)
-not_use_if (Refuses cause) done blob never is = absurd (cc)
-not_use_if (Awaits waits) done blob never is = absurd (cc)
-
 not_use : (read : Result ClientRequest MsgFault) (verdict : Verdict) (blob : List ℕ)
     → done_of_request read verdict ≡ DidUse blob → ⊥
-not_use (Err fault) verdict blob is = absurd (cc)
-not_use (Ok ListIdentities) verdict blob is = absurd (cc)
-not_use (Ok (Sign signing)) verdict blob is = absurd (cc)
-not_use (Ok (Add addition)) verdict blob is =
-    not_use_if verdict (DidAdd addition) blob (λ e. absurd (cc)) is
-not_use (Ok (Remove other)) verdict blob is =
-    not_use_if verdict (DidRemove other) blob (λ e. absurd (cc)) is
-not_use (Ok RemoveAll) verdict blob is = not_use_if verdict DidRemoveAll blob (λ e. absurd (cc)) is
-not_use (Ok (Lock passphrase)) verdict blob is =
-    not_use_if verdict DidLock blob (λ e. absurd (cc)) is
-not_use (Ok (Unlock passphrase)) verdict blob is =
-    not_use_if verdict DidUnlock blob (λ e. absurd (cc)) is
-not_use (Ok (Bind bind)) verdict blob is = absurd (cc)
-not_use (Ok (OtherExtension name)) verdict blob is = absurd (cc)
-not_use (Ok (Unsupported number)) verdict blob is = absurd (cc)
+not_use (Ok (Add addition)) (Replies Success) blob is = absurd (cc)
+not_use (Ok (Remove other)) (Replies Success) blob is = absurd (cc)
+not_use (Ok RemoveAll) (Replies Success) blob is = absurd (cc)
+not_use (Ok (Lock passphrase)) (Replies Success) blob is = absurd (cc)
+not_use (Ok (Unlock passphrase)) (Replies Success) blob is = absurd (cc)
+not_use read verdict blob is = absurd (cc)
 
 -- what is due with the key of this blob
 pub record DueOf (due : Option Claim) (blob : List ℕ) : Type 0 where

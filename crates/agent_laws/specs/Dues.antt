@@ -1,6 +1,6 @@
 -- Which signature is to be put to the helper, by the actions so far: searches in the past, the
 -- newest action first (ours).
-use Rattle.std.specs.Prelude.{ℕ, Bool, true, false, List, [], ◌∷◌, ◌++◌, length, Option, Some, None, Result, Ok, Err, nat_lt, ◌==◌, ◌&&◌, not, if◌then◌else◌}
+use Rattle.std.specs.Prelude.{ℕ, Bool, false, List, [], ◌∷◌, ◌++◌, length, Option, Some, None, Result, Ok, Err, nat_lt, ◌==◌, ◌&&◌, not, if◌then◌else◌, is_none}
 use Rattle.std.specs.List.{sum_by}
 use Rattle.world_ports.specs.declared.Moment.{Moment}
 use Rattle.agent_msg.specs.declared.fault.MsgFault.{MsgFault}
@@ -8,13 +8,13 @@ use Rattle.agent_msg.specs.Requests.{ClientRequest, Signing, ListIdentities, Sig
 use Rattle.key_purposes.specs.Messages.{let_sign}
 use Rattle.dest_rule.specs.Rules.{denial_under}
 use Rattle.dest_rule.specs.declared.binding.Binding.{Binding}
-use Rattle.dest_rule.specs.declared.denial.Denial.{Denial}
-use Rattle.agent_model.specs.Actions.{Action, Answered, Asked, Granted, Lost, Over, Proved, Raised, Raising, Requested}
+use Rattle.agent_model.specs.Actions.{Action, Answered, Asked, Granted, Lost, Raising, Requested}
 use Rattle.agent_model.specs.Bindings.{bound_by}
 use Rattle.agent_model.specs.Binds.{agent_request_of}
 use Rattle.agent_model.specs.Runs.{Stamped}
 use Rattle.agent_laws.specs.Grants.{pending_by}
 use Rattle.agent_laws.specs.Past.{PastAddition, held_by, last_addition, was_locked}
+use Rattle.std.specs.Option.{option_map}
 
 -- ---- bindings, asks and confirmations
 

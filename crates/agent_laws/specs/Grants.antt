@@ -6,7 +6,7 @@ use Rattle.std.specs.Option.{option_map}
 use Rattle.confirm_desk.specs.Confirmations.{Confirmation, find_job}
 use Rattle.identity_table.specs.Identities.{HaveOwnBlobs, HaveOwnNumbers, HeldKey, TableState, find_identity, find_number}
 use Rattle.agent_msg.specs.Requests.{Sign, Signing}
-use Rattle.agent_model.specs.Actions.{Action, Answered, Asked, Asking, Granted, Lost, Over, Proved, Raised, Raising, Requested, Requesting}
+use Rattle.agent_model.specs.Actions.{Action, Asking, Granted, Over, Raised, Raising, Requested, Requesting}
 use Rattle.agent_model.specs.Askable.{IsGrantable}
 use Rattle.agent_model.specs.Binds.{agent_request_of}
 use Rattle.agent_model.specs.Grants.{IsAmong}

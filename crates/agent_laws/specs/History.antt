@@ -9,7 +9,7 @@ use Rattle.dest_rule.specs.Rules.{is_hop}
 use Rattle.dest_rule.specs.declared.binding.Binding.{Binding}
 use Rattle.agent_model.specs.Events.{Timed}
 use Rattle.agent_laws.specs.Past.{DidAdd, DidRemove, DidRemoveAll, DidUnlock, done_of}
-use Rattle.agent_model.specs.Actions.{Action, Answered, Asked, Asking, ForBinding, ForSignature, Granted, Lost, Over, Proved, Purpose, Raised, Raising, Requested}
+use Rattle.agent_model.specs.Actions.{Action, Asked, Asking, ForBinding, ForSignature, Granted, Purpose, Raising}
 use Rattle.agent_model.specs.Runs.{Stamped, history}
 use Rattle.agent_model.specs.State.{Settings, State, first_state}
 use Rattle.agent_laws.specs.Dues.{Claim, due_signing, raised_at}

@@ -1,15 +1,15 @@
 -- What the actions so far tell of the lock and of the keys, without a state: searches in the past,
 -- the newest action first (ours).
-use Rattle.std.specs.Prelude.{ℕ, ◌+◌, Bool, true, false, List, [], ◌∷◌, Option, Some, None, Result, Ok, Err, nat_lt, ◌&&◌, if◌then◌else◌}
+use Rattle.std.specs.Prelude.{ℕ, ◌+◌, Bool, true, false, List, [], ◌∷◌, Option, Some, None, Result, Ok, nat_lt, ◌&&◌, if◌then◌else◌}
 use Rattle.std.specs.Option.{option_map}
 use Rattle.std.specs.Str.{bytes_eq}
 use Rattle.agent_msg.specs.declared.fault.MsgFault.{MsgFault}
-use Rattle.agent_msg.specs.Requests.{Addition, ClientRequest, ListIdentities, Sign, Add, Remove, RemoveAll, Lock, Unlock, Bind, OtherExtension, Unsupported}
+use Rattle.agent_msg.specs.Requests.{Addition, ClientRequest, Add, Remove, RemoveAll, Lock, Unlock}
 use Rattle.identity_table.specs.Deaths.{death_of, lives_at}
-use Rattle.agent_model.specs.Actions.{Action, Answered, Asked, ForBinding, ForSignature, Granted, Lost, Over, Proved, Purpose, Raised, Requested}
+use Rattle.agent_model.specs.Actions.{Action, Asked, ForBinding, ForSignature, Purpose, Requested}
 use Rattle.agent_model.specs.Binds.{agent_request_of}
 use Rattle.agent_model.specs.Runs.{Stamped}
-use Rattle.agent_model.specs.Verdicts.{Awaits, Identities, Refuses, Replies, Reply, Signature, Success, Verdict}
+use Rattle.agent_model.specs.Verdicts.{Replies, Success, Verdict}
 
 -- ---- what requests did
 

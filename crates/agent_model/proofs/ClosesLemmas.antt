@@ -23,7 +23,7 @@ use Rattle.agent_model.specs.Events.{Happening, Tick}
 use Rattle.agent_model.specs.NumberLists.{put_all, without}
 use Rattle.agent_model.specs.Sound.{IsRising}
 use Rattle.agent_model.specs.State.{Port, State, change_port, find_port, new_port, numbers, remove_port, number_of}
-use Rattle.agent_model.specs.Step.{admitted, has_room, step, turned_away}
+use Rattle.agent_model.specs.Step.{admitted, has_room, step}
 use Rattle.agent_model.specs.Time.{at_moment, time_passes}
 use Rattle.agent_model.specs.Verdicts.{HelperLost, NotConfirmed, Refuses, Verdict, tell}
 use Rattle.agent_model.proofs.FateLemmas.{answers_as}
@@ -294,7 +294,7 @@ taken-last number (n ∷ ns) absent =
 -- a port that joins is closed where it isn't admitted
 taken-admitted : (is_in : Bool) (number : ℕ) (door : Door) (ports : List Port) →
     is_among number (numbers ports) ≡ false →
-    TakenOut (turned_away is_in number) (numbers ports ++ number ∷ [])
+    TakenOut (if is_in then [] else number ∷ []) (numbers ports ++ number ∷ [])
     (numbers (admitted is_in number door ports))
 taken-admitted true number door ports absent = numbers-append number door ports
 taken-admitted false number door ports absent = taken-last number (numbers ports) absent
@@ -303,7 +303,7 @@ taken-admitted false number door ports absent = taken-last number (numbers ports
 closed-joined : (old mid : State) (out : List ℕ) (is_in : Bool) (door : Door) →
     IsRising 0 old.last_port old.ports → Follows old mid →
     TakenOut out (numbers old.ports) (numbers mid.ports) →
-    put_all [] (out ++ turned_away is_in (suc mid.last_port))
+    put_all [] (out ++ (if is_in then [] else suc mid.last_port ∷ []))
     ≡ without (numbers old.ports ++ joined_between old.last_port (suc mid.last_port))
     (numbers (admitted is_in (suc mid.last_port) door mid.ports))
 closed-joined old mid out is_in door rising follows taken =
@@ -319,10 +319,10 @@ closed-joined old mid out is_in door rising follows taken =
     among-above new 0 old.last_port mid.ports higher
     (leads-rising 0 old.last_port old.ports follows.ports rising) in
     let above : nat_lt old.last_port new ≡ true = grind (arith, nat_tests) in
-    ap (λ ns. put_all ns (out ++ turned_away is_in new)) (sym (without-all all all (λ x there. there)))
-    ∙ put-taken 0 all (out ++ turned_away is_in new) all left order (rising_list 0 all order)
+    ap (λ ns. put_all ns (out ++ (if is_in then [] else new ∷ []))) (sym (without-all all all (λ x there. there)))
+    ∙ put-taken 0 all (out ++ (if is_in then [] else new ∷ [])) all left order (rising_list 0 all order)
     (λ x there. there)
-    (taken-append out (turned_away is_in new) all (numbers mid.ports ++ new ∷ []) left
+    (taken-append out (if is_in then [] else new ∷ []) all (numbers mid.ports ++ new ∷ []) left
     (taken-with new out (numbers old.ports) (numbers mid.ports) taken)
     (taken-admitted is_in new door mid.ports absent))
     ∙ ap (λ b. without (numbers old.ports ++ (if b then new ∷ [] else [])) left) (sym above)

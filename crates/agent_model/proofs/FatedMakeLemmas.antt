@@ -1,5 +1,5 @@
 -- Who waits for the helper stays tied to the asks at what each event makes, and is told what becomes of its ask.
-use Rattle.std.proofs.Common.{◌≡◌, ◌≢◌, ℕ, suc, ◌+◌, ◌≤◌, List, [], ◌∷◌, ◌++◌, refl, ap, arith, sym, subst, ◌∙◌, ◌==◌, ◌⊎◌, Option, Some, None, Bool, true, false, cond, inl, inr}
+use Rattle.std.proofs.Common.{◌≡◌, ◌≢◌, ℕ, suc, ◌+◌, ◌≤◌, List, [], ◌∷◌, ◌++◌, refl, ap, arith, sym, subst, ◌∙◌, ◌==◌, ◌⊎◌, Option, Some, None, Bool, true, false, cond, inl, inr, if◌then◌else◌}
 use Rattle.std.proofs.lemmas.List.{append-nil}
 use Rattle.lists.specs.Keyed.{has_key}
 use Rattle.lists.proofs.FirstLemmas.{find-before}
@@ -28,7 +28,7 @@ use Rattle.agent_model.specs.Fates.{Fate, Fails, Gets, IsTold, Unanswered, fate_
 use Rattle.agent_model.specs.Sound.{AreTied, IsTied, IsWaiting}
 use Rattle.agent_model.specs.KeyStates.{KeyState, after_use}
 use Rattle.agent_model.specs.State.{Nothing, OnAsk, OnConfirmation, Port, State, UnderWay, change_port, find_port, new_port, number_of}
-use Rattle.agent_model.specs.Step.{admitted, asker_at, attempts, take_frame, turned_away}
+use Rattle.agent_model.specs.Step.{admitted, asker_at, attempts, take_frame}
 use Rattle.agent_model.specs.Time.{taken_in}
 use Rattle.agent_model.specs.Verdicts.{Awaits, NoLongerAllowed, NotConfirmed, Refuses, Verdict, tell, verdict_waits}
 use Rattle.agent_model.proofs.FateLemmas.{answer-waits, fate-answers, fate-append, tied-answers, tied-lost, told-apart, told-lost, waits-lost}
@@ -277,7 +277,7 @@ found_still number port ports more found =
     find-before (has_key number_of number) ports more port found
 
 pub fated-admitted : (event : Happening) (door : Door) (state : State) (room : Bool) → IsTied state
-    → Fated event state (record (stay (record state { ports = admitted room (suc state.last_port) door state.ports; last_port = suc state.last_port })) { closes = turned_away room (suc state.last_port) })
+    → Fated event state (record (stay (record state { ports = admitted room (suc state.last_port) door state.ports; last_port = suc state.last_port })) { closes = if room then [] else suc state.last_port ∷ [] })
 fated-admitted event door state false tied = record {
   tied = record {
     rising =

@@ -1,5 +1,5 @@
 -- Over events, what was judged of bindings stands, and connections are bound to what was proved on them.
-use Rattle.std.proofs.Common.{◌≡◌, ℕ, suc, ◌<◌, ◌≤◌, List, [], ◌∷◌, ◌++◌, refl, ap, arith, sym, subst, ◌∙◌, nat_lt, Option, Some, None, Bool, true, false, inl, inr}
+use Rattle.std.proofs.Common.{◌≡◌, ℕ, suc, ◌<◌, ◌≤◌, List, [], ◌∷◌, ◌++◌, refl, ap, arith, sym, subst, ◌∙◌, nat_lt, Option, Some, None, Bool, true, false, inl, inr, if◌then◌else◌}
 use Rattle.std.proofs.lemmas.Bool.Decides.{nat_tests}
 use Rattle.world_ports.specs.declared.Door.{Door}
 use Rattle.world_ports.specs.declared.Door.TheVariants.{Clients}
@@ -16,7 +16,7 @@ use Rattle.agent_model.specs.Looks.{due}
 use Rattle.agent_model.specs.Runs.{run}
 use Rattle.agent_model.specs.Sound.{AreApart, IsJudged, IsTied}
 use Rattle.agent_model.specs.State.{Port, Settings, State, find_port, first_state}
-use Rattle.agent_model.specs.Step.{admitted, asker_at, handle, has_room, heard_at, look_front, look_port, looked, step, turned_away}
+use Rattle.agent_model.specs.Step.{admitted, asker_at, handle, has_room, heard_at, look_front, look_port, looked, step}
 use Rattle.agent_model.specs.Time.{at_moment, time_passes}
 use Rattle.agent_model.proofs.BindLemmas.{bound_after-append}
 use Rattle.agent_model.proofs.ClientLemmas.{handle-heard, looked-found}
@@ -62,7 +62,7 @@ module _ (door : Door) (state : State) (tied : IsTied state) (judged : IsJudged 
   with_port room = record state { ports = admitted room (suc state.last_port) door state.ports; last_port = suc state.last_port }
 
   goes-admitted : (room : Bool)
-      → Goes state (record (stay (with_port room)) { closes = turned_away room (suc state.last_port) })
+      → Goes state (record (stay (with_port room)) { closes = if room then [] else suc state.last_port ∷ [] })
   goes-admitted false = record {
     judged = record { verified = judged.verified; noted = judged.noted; given = judged.given; chains = judged.chains };
     adds = λ number. record { bound = λ port found. ap chain_of (sym found); silent = λ chain none. refl };

@@ -2,7 +2,7 @@
 use Rattle.std.proofs.Common.{◌≡◌, Bool, true, false, Option, Some, None, refl, ap, ◌∙◌, if◌then◌else◌}
 use Rattle.std.specs.Option.{option_map}
 use Rattle.dest_rule.specs.declared.denial.Denial.{Denial}
-use Rattle.agent_model.specs.Verdicts.{Cause, DestinationDenied, OtherPurpose}
+use Rattle.agent_model.specs.Verdicts.{DestinationDenied, OtherPurpose}
 
 -- both permit it
 pub both_permit : (lets : Bool) (denial : Option Denial) → (if lets then option_map DestinationDenied denial else Some OtherPurpose) ≡ None → (lets ≡ true) × (denial ≡ None)

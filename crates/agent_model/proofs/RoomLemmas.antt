@@ -6,7 +6,7 @@ use Rattle.helper_link.specs.declared.ask.Ask.{Ask}
 use Rattle.helper_link.specs.declared.state.LinkState.{LinkState}
 use Rattle.helper_link.specs.declared.state.LinkState.TheVariants as states
 use Rattle.agent_model.specs.Askable.{HasPlace, HasRoom, IsFull}
-use Rattle.agent_model.specs.Errands.{ask_fault, ask_fault_by, helper_fault}
+use Rattle.agent_model.specs.Errands.{ask_fault, ask_fault_by}
 use Rattle.agent_model.specs.Limits.{last_number}
 use Rattle.agent_model.specs.State.{UnderWay}
 use Rattle.agent_model.specs.Verdicts.{AsksSpent, Cause, JobsSpent, TooManyAsks}
@@ -69,7 +69,7 @@ module _ (under_way : UnderWay) where
       free record { place = place; numbers = numbers; jobs = λ state spent. grind (arith, nat_tests) }
 
   room-helper : (link : LinkState) → under_way.link.state ≡ link → HasPlace under_way.link.asks
-      → under_way.link.last ≢ 2 ^ 64 - 1 → RoomFor under_way (helper_fault link under_way.last_job)
+      → under_way.link.last ≢ 2 ^ 64 - 1 → RoomFor under_way (ask_fault_by false false link under_way.last_job)
   room-helper states.None is place numbers =
       room-job (under_way.last_job == last_number) refl place numbers is
   room-helper (states.Starting job) is place numbers =
@@ -79,7 +79,7 @@ module _ (under_way : UnderWay) where
 
   room-by : (full_up spent : Bool) → is_full under_way.link.asks ≡ full_up
       → (under_way.link.last == last_number) ≡ spent
-      → RoomFor under_way (ask_fault_by full_up spent under_way)
+      → RoomFor under_way (ask_fault_by full_up spent under_way.link.state under_way.last_job)
   room-by true spent more is_spent = full (place-is under_way.link.asks true more)
   room-by false true more is_spent = no_ask (place-is under_way.link.asks false more) (grind (arith, nat_tests))
   room-by false false more is_spent =
@@ -91,10 +91,10 @@ module _ (under_way : UnderWay) where
 
   fault_of : (full_up spent : Bool) → is_full under_way.link.asks ≡ full_up
       → (under_way.link.last == last_number) ≡ spent
-      → ask_fault under_way ≡ ask_fault_by full_up spent under_way
+      → ask_fault under_way ≡ ask_fault_by full_up spent under_way.link.state under_way.last_job
   fault_of full_up spent more is_spent =
-      ap (λ b. ask_fault_by b (under_way.link.last == last_number) under_way) more
-      ∙ ap (λ b. ask_fault_by full_up b under_way) is_spent
+      ap (λ b. ask_fault_by b (under_way.link.last == last_number) under_way.link.state under_way.last_job) more
+      ∙ ap (λ b. ask_fault_by full_up b under_way.link.state under_way.last_job) is_spent
 
   -- ---- the other way round
 
@@ -102,7 +102,7 @@ module _ (under_way : UnderWay) where
   room-free room = fault_of false false (is_full-not under_way.link.asks room.place) (grind (arith, nat_tests, room.numbers)) ∙ by_link under_way.link.state refl
     where
       by_link : (link : LinkState) → under_way.link.state ≡ link
-          → helper_fault link under_way.last_job ≡ None
+          → ask_fault_by false false link under_way.last_job ≡ None
       by_link states.None is =
           let apart : under_way.last_job ≢ 2 ^ 64 - 1 = room.jobs is in
           let unspent : (under_way.last_job == last_number) ≡ false = grind (arith, nat_tests) in
@@ -123,4 +123,4 @@ module _ (under_way : UnderWay) where
   room-no_job place numbers none last =
       let spent : (under_way.last_job == last_number) ≡ true = grind (arith, nat_tests) in
       fault_of false false (is_full-not under_way.link.asks place) (grind (arith, nat_tests))
-      ∙ ap (λ l. helper_fault l under_way.last_job) none ∙ ap (λ b. if b then Some JobsSpent else None) spent
+      ∙ ap (λ l. ask_fault_by false false l under_way.last_job) none ∙ ap (λ b. if b then Some JobsSpent else None) spent

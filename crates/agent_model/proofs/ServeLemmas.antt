@@ -1,10 +1,10 @@
 -- What comes of a request: it is answered, or refused, or waits for the helper, or for the user.
-use Rattle.std.proofs.Common.{◌≡◌, ℕ, List, [], ◌∷◌, refl, subst, sym, IsOk, Bool, true, false, Option, Some, None, Result, Ok, Err, ◌==◌}
+use Rattle.std.proofs.Common.{◌≡◌, ℕ, List, [], ◌∷◌, refl, subst, sym, IsOk, Bool, true, false, Option, Some, None, Result, Ok, Err, ◌==◌, if◌then◌else◌}
 use Rattle.std.specs.Str.{bytes_eq}
-use Rattle.identity_table.specs.Identities.{HeldKey, find_identity, identities_with, is_full, remove_identity}
+use Rattle.identity_table.specs.Identities.{HeldKey, find_identity, identities_with, is_full, remove_identity, added}
 use Rattle.agent_msg.specs.declared.fault.MsgFault.{MsgFault}
 use Rattle.agent_msg.specs.Requests.{Addition, BindRequest, ClientRequest, Signing, ListIdentities, Sign, Add, Remove, RemoveAll, Lock, Unlock, Bind, OtherExtension, Unsupported}
-use Rattle.agent_model.specs.Dispatch.{with_addition, with_identities, Asker, Served, add_by, add_fault, add_seen, add_unless, answers, bind_by, host_for, lock_by, refuses, remove_by, remove_seen, seen_by, sees, serve, serve_by, serve_locked, serve_unlocked, sign_by, sign_unless, unlock_by, unread, uses}
+use Rattle.agent_model.specs.Dispatch.{with_identities, Asker, Served, add_by, add_fault, add_seen, add_unless, answers, bind_by, host_for, refuses, remove_by, remove_seen, seen_by, sees, serve, serve_by, serve_locked, serve_unlocked, sign_by, sign_unless, unread, uses}
 use Rattle.agent_model.specs.Errands.{Errand, Signs, Verifies, ask_fault, put_unless, raise_fault, raise_unless}
 use Rattle.agent_msg.specs.Reading.{request_of}
 use Rattle.key_blob.specs.PublicKeys.{KeyParts, public_key_of}
@@ -42,7 +42,7 @@ pub data Serves (read : Result ClientRequest MsgFault) (asker : Asker) (held : K
   lists : (identities : List (List ℕ × List ℕ)) → read ≡ Ok ListIdentities
       → Serves read asker held under_way (answers (Identities identities) held under_way)
   adds : (addition : Addition) → read ≡ Ok (Add addition)
-      → Serves read asker held under_way (answers Success (record held { table = with_addition addition asker.mono held.table }) under_way)
+      → Serves read asker held under_way (answers Success (record held { table = added held.table addition.key addition.terms addition.comment asker.mono }) under_way)
   removes : (blob : List ℕ) → read ≡ Ok (Remove blob)
       → Serves read asker held under_way (answers Success (with_identities (remove_identity blob held.table.identities) held) under_way)
   empties : read ≡ Ok RemoveAll
@@ -162,12 +162,12 @@ module _ (read : Result ClientRequest MsgFault) (asker : Asker) (held : KeyState
   -- ---- the lock, and bindings
 
   serves-lock : (passphrase : List ℕ) → read ≡ Ok (Lock passphrase)
-      → Is (lock_by passphrase held under_way)
+      → Is (serve_unlocked (Lock passphrase) asker held under_way)
   serves-lock [] is = denies NoPassphrase
   serves-lock (byte ∷ bytes) is = locks (byte ∷ bytes) is
 
   serves-unlock : (passphrase : List ℕ) (same : Bool) → read ≡ Ok (Unlock passphrase) →
-      Is (unlock_by same held under_way)
+      Is (if same then answers Success (record held { lock = None }) under_way else refuses WrongPassphrase held under_way)
   serves-unlock passphrase true is = unlocks passphrase is
   serves-unlock passphrase false is = denies WrongPassphrase
 

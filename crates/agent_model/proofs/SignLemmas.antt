@@ -1,5 +1,5 @@
 -- A signature is put to the helper exactly where it may be, and is refused exactly for its cause.
-use Rattle.std.proofs.Common.{◌≡◌, ◌≢◌, ℕ, ◌+◌, ◌-◌, ◌^◌, ◌<◌, List, length, not, nat_lt, refl, ap, arith, sym, subst, ◌∙◌, ◌==◌, if◌then◌else◌, Option, Some, None, IsSome, Bool, true, false, Ok, inl, inr, ◌↔◌}
+use Rattle.std.proofs.Common.{◌≡◌, ◌≢◌, ℕ, ◌+◌, ◌-◌, ◌^◌, ◌<◌, List, length, nat_lt, refl, ap, arith, sym, subst, ◌∙◌, ◌==◌, if◌then◌else◌, Option, Some, None, IsSome, Bool, true, false, Ok, inl, inr, ◌↔◌}
 use Rattle.std.proofs.lemmas.Bool.Decides.{nat_tests}
 use Rattle.identity_table.specs.Identities.{HeldKey, find_identity}
 use Rattle.agent_msg.specs.Requests.{Sign, Signing}

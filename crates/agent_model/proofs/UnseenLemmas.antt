@@ -1,5 +1,5 @@
 -- A key that the asker doesn't see makes no difference to what it is replied.
-use Rattle.std.proofs.Common.{◌≡◌, ◌≢◌, ℕ, List, [], ◌∷◌, ◌++◌, map, filter, refl, ap, sym, subst, ◌∙◌, Option, Some, None, Bool, true, false, cond, Ok}
+use Rattle.std.proofs.Common.{◌≡◌, ◌≢◌, ℕ, List, [], ◌∷◌, ◌++◌, map, filter, refl, ap, sym, subst, ◌∙◌, Option, Some, None, Bool, true, false, cond, Ok, if◌then◌else◌}
 use Rattle.std.specs.Option.{option_or}
 use Rattle.std.specs.Str.{bytes_eq}
 use Rattle.std.proofs.lemmas.List.Folds.{find-append}
@@ -14,11 +14,11 @@ use Rattle.agent_model.proofs.ObjectionLemmas.{both_permit}
 use Rattle.dest_rule.specs.declared.binding.Binding.{Binding}
 use Rattle.dest_rule.proofs.LawLemmas.{signed_is_visible}
 use Rattle.agent_model.specs.Actions.{Work, settles}
-use Rattle.agent_model.specs.Dispatch.{Asker, lock_by, remove_by, remove_seen, seen_by, sees, serve, serve_by, serve_locked, serve_unlocked, sign_by, sign_unless, unlock_by, with_identities}
+use Rattle.agent_model.specs.Dispatch.{Asker, remove_by, remove_seen, seen_by, sees, serve, serve_by, serve_locked, serve_unlocked, sign_by, sign_unless, with_identities, answers, refuses, Served}
 use Rattle.agent_model.specs.KeyStates.{KeyState, shown}
 use Rattle.agent_model.specs.State.{UnderWay}
 use Rattle.agent_model.specs.Unseen.{IsSameReply}
-use Rattle.agent_model.specs.Verdicts.{Cause, Identities, Refuses, Replies, verdict_text}
+use Rattle.agent_model.specs.Verdicts.{Cause, Identities, Refuses, Replies, verdict_text, WrongPassphrase, Success}
 
 -- ---- lists of keys
 
@@ -137,12 +137,16 @@ module _ (asker : Asker) (key : HeldKey) (before after : List HeldKey) (held : K
   same-removed blob this = subst (λ seen. IsSameReply (remove_seen seen blob with under_way).work (remove_by None asker blob without under_way).work) (sym unseen) (both_fail _ _ under_way)
 
   same-locked_by : (passphrase : List ℕ)
-      → IsSameReply (lock_by passphrase with under_way).work (lock_by passphrase without under_way).work
+      → IsSameReply (serve_unlocked (Lock passphrase) asker with under_way).work (serve_unlocked (Lock passphrase) asker without under_way).work
   same-locked_by [] = same_work _
   same-locked_by (byte ∷ bytes) = same_work _
 
+  abbrev unlocked_by : Bool → KeyState → Served
+  unlocked_by is_right held =
+      if is_right then answers Success (record held { lock = None }) under_way else refuses WrongPassphrase held under_way
+
   same-unlocked_by : (same : Bool)
-      → IsSameReply (unlock_by same with under_way).work (unlock_by same without under_way).work
+      → IsSameReply (unlocked_by same with).work (unlocked_by same without).work
   same-unlocked_by true = same_work _
   same-unlocked_by false = same_work _
 

@@ -3,7 +3,7 @@
 use Rattle.std.specs.Prelude.{ℕ, List, [], ◌∷◌, Option, Some, None, is_some, ◌==◌, if◌then◌else◌}
 use Rattle.dest_rule.specs.Chains.{bound, find_session}
 use Rattle.dest_rule.specs.declared.binding.Binding.{Binding}
-use Rattle.agent_model.specs.Actions.{Action, Answered, Asked, Granted, Lost, Over, Proved, Raised, Requested}
+use Rattle.agent_model.specs.Actions.{Action, Proved}
 use Rattle.agent_model.specs.State.{Port, find_port}
 
 -- a chain with this binding at its end, unless it has one of that session

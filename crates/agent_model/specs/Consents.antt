@@ -3,7 +3,7 @@ use Rattle.std.specs.Prelude.{ℕ, List, [], ◌∷◌, ◌++◌, Option, Some, 
 use Rattle.lists.specs.Keyed.{find_by, remove_by}
 use Rattle.agent_msg.specs.Requests.{Signing}
 use Rattle.identity_table.specs.Identities.{HeldKey, find_number}
-use Rattle.agent_model.specs.KeyStates.{KeyState, after_use}
+use Rattle.agent_model.specs.KeyStates.{after_use}
 use Rattle.dest_rule.specs.declared.binding.Binding.{Binding}
 use Rattle.confirm_desk.specs.Confirmations.{Confirmation, Consent, No, NotYet, Yes, consent, find_asker, told}
 use Rattle.confirm_desk.specs.Confirmations as desk

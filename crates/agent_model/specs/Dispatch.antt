@@ -2,10 +2,9 @@
 -- draft-miller-ssh-agent, "Protocol Messages"; OpenSSH's agent for what isn't served; OpenSSH's
 -- PROTOCOL.agent for the request that binds a connection. Who sees which identity, and who is
 -- asked, is ours.
-use Rattle.std.specs.Prelude.{ℕ, ◌==◌, Bool, true, false, List, [], ◌∷◌, map, filter, Option, Some, None, Result, Ok, Err}
+use Rattle.std.specs.Prelude.{ℕ, ◌==◌, Bool, true, false, List, [], map, filter, Option, Some, None, Result, Ok, Err, if◌then◌else◌}
 use Rattle.std.specs.Str.{bytes_eq}
-use Rattle.constraint_rec.specs.declared.fault.TermFault.{TermFault}
-use Rattle.identity_table.specs.Identities.{HeldKey, TableState, added, find_identity, identities_with, is_full, remove_identity}
+use Rattle.identity_table.specs.Identities.{HeldKey, added, find_identity, identities_with, is_full, remove_identity}
 use Rattle.agent_msg.specs.declared.fault.MsgFault.{MsgFault}
 use Rattle.agent_msg.specs.declared.fault.MsgFault.TheVariants as fault
 use Rattle.agent_msg.specs.Requests.{Addition, BindRequest, ClientRequest, Signing, ListIdentities, Sign, Add, Remove, RemoveAll, Lock, Unlock, Bind, OtherExtension, Unsupported}
@@ -82,10 +81,6 @@ sign_by (Some key) asker signing under_way = sign_unless
 
 -- ---- additions
 
--- the table with one identity more
-abbrev pub with_addition : Addition → ℕ → TableState → TableState
-with_addition addition now table = added table addition.key addition.terms addition.comment now
-
 -- why the table doesn't take it: the identities would be too many, or all numbers were given
 abbrev pub add_fault : Bool → Bool → Option Cause
 add_fault true spent = Some ListFull
@@ -96,7 +91,8 @@ add_fault false false = None
 abbrev pub add_unless : Option Cause → Addition → ℕ → KeyState → UnderWay → Served
 add_unless (Some cause) addition now held under_way = refuses cause held under_way
 add_unless None addition now held under_way =
-    answers Success (record held { table = with_addition addition now held.table }) under_way
+    let table = added held.table addition.key addition.terms addition.comment now in
+    answers Success (record held { table = table }) under_way
 
 -- an addition, by whether its asker sees the identity that it replaces
 abbrev pub add_seen : Bool → Addition → ℕ → KeyState → UnderWay → Served
@@ -130,19 +126,6 @@ abbrev pub remove_by : Option HeldKey → Asker → List ℕ → KeyState → Un
 remove_by None asker blob held under_way = refuses NotHeld held under_way
 remove_by (Some key) asker blob held under_way = remove_seen (sees asker key) blob held under_way
 
--- ---- the lock
-
--- a lock with this passphrase: an empty one is refused
-abbrev pub lock_by : List ℕ → KeyState → UnderWay → Served
-lock_by [] held under_way = refuses NoPassphrase held under_way
-lock_by (byte ∷ bytes) held under_way =
-    answers Success (record held { lock = Some (byte ∷ bytes) }) under_way
-
--- an unlock, by whether its passphrase is the one that locked the agent
-abbrev pub unlock_by : Bool → KeyState → UnderWay → Served
-unlock_by true held under_way = answers Success (record held { lock = None }) under_way
-unlock_by false held under_way = refuses WrongPassphrase held under_way
-
 -- ---- bindings
 
 -- a request to bind, by what the connection's chain says of the binding
@@ -164,7 +147,9 @@ serve_unlocked (Add addition) asker held under_way =
 serve_unlocked (Remove blob) asker held under_way =
     remove_by (find_identity blob held.table.identities) asker blob held under_way
 serve_unlocked RemoveAll asker held under_way = answers Success (with_identities [] held) under_way
-serve_unlocked (Lock passphrase) asker held under_way = lock_by passphrase held under_way
+serve_unlocked (Lock []) asker held under_way = refuses NoPassphrase held under_way
+serve_unlocked (Lock passphrase) asker held under_way =
+    answers Success (record held { lock = Some passphrase }) under_way
 serve_unlocked (Unlock passphrase) asker held under_way = refuses NotLocked held under_way
 serve_unlocked (Bind bind) asker held under_way =
     record { held = held; work = bind_by (judge bind.host_key bind.session asker.chain) asker bind under_way }
@@ -175,7 +160,8 @@ serve_unlocked (Unsupported number) asker held under_way = refuses Unserved held
 abbrev pub serve_locked : List ℕ → ClientRequest → KeyState → UnderWay → Served
 serve_locked passphrase ListIdentities held under_way = answers (Identities []) held under_way
 serve_locked passphrase (Unlock other) held under_way =
-    unlock_by (bytes_eq passphrase other) held under_way
+    if bytes_eq passphrase other then answers Success (record held { lock = None }) under_way
+    else refuses WrongPassphrase held under_way
 serve_locked passphrase request held under_way = refuses Locked held under_way
 
 -- the table of requests, by whether the agent is locked

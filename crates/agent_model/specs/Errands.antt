@@ -1,13 +1,13 @@
 -- Asks that are put to the helper, confirmations that the user is asked for, and the jobs that
 -- these begin (ours).
-use Rattle.std.specs.Prelude.{ℕ, ◌+◌, ◌==◌, nat_lt, not, List, [], ◌∷◌, ◌++◌, length, Option, Some, None, Bool, true, false, if◌then◌else◌}
+use Rattle.std.specs.Prelude.{ℕ, ◌+◌, ◌==◌, nat_lt, List, [], ◌∷◌, ◌++◌, length, Option, Some, None, Bool, true, false, if◌then◌else◌}
 use Rattle.world_ports.specs.declared.Job.{Job}
 use Rattle.world_ports.specs.declared.JobKind.{JobKind}
 use Rattle.world_ports.specs.declared.JobKind.TheVariants as kinds
 use Rattle.agent_msg.specs.Requests.{BindRequest, Signing}
 use Rattle.child_msg.specs.ChildFrames.{to_child_body}
 use Rattle.child_msg.specs.Messages.{ToChildMessage}
-use Rattle.helper_link.specs.HelperLink.{HelperLink, is_full, sign_request, submitted, verify_request}
+use Rattle.helper_link.specs.HelperLink.{is_full, sign_request, submitted, verify_request}
 use Rattle.helper_link.specs.declared.ask.AskKind.{AskKind}
 use Rattle.helper_link.specs.declared.ask.AskKind.TheVariants as asks
 use Rattle.helper_link.specs.declared.state.LinkState.{LinkState}
@@ -31,12 +31,7 @@ spent_jobs last = if last == last_number then Some JobsSpent else None
 abbrev pub job_of : ℕ → JobKind → Job
 job_of number kind = record { number = number; kind = kind }
 
--- what an ask needs: a helper is to be started where none is there or coming
-abbrev pub helper_fault : LinkState → ℕ → Option Cause
-helper_fault states.None last_job = spent_jobs last_job
-helper_fault other last_job = None
-
--- the job that starts it
+-- the job that starts the helper where none is there or coming
 abbrev pub helper_jobs : LinkState → ℕ → List Job
 helper_jobs states.None number = job_of number kinds.Helper ∷ []
 helper_jobs other number = []
@@ -94,16 +89,19 @@ noted_verification (Signs key signing) number = []
 noted_verification (Verifies bind is_new) number =
     record { ask = number; binding = binding_of bind; is_new = is_new } ∷ []
 
--- by whether the places for unanswered asks are full, and whether all numbers were given
-abbrev pub ask_fault_by : Bool → Bool → UnderWay → Option Cause
-ask_fault_by true spent under_way = Some TooManyAsks
-ask_fault_by false true under_way = Some AsksSpent
-ask_fault_by false false under_way = helper_fault under_way.link.state under_way.last_job
+-- by whether the places for unanswered asks are full, whether all numbers were given, and whether a
+-- helper is to be started, by one more job
+abbrev pub ask_fault_by : Bool → Bool → LinkState → (last_job : ℕ) → Option Cause
+ask_fault_by true spent link last_job = Some TooManyAsks
+ask_fault_by false true link last_job = Some AsksSpent
+ask_fault_by false false states.None last_job = spent_jobs last_job
+ask_fault_by false false link last_job = None
 
 -- why nothing can be put to the helper
 abbrev pub ask_fault : UnderWay → Option Cause
 ask_fault under_way =
-    ask_fault_by (is_full under_way.link.asks) (under_way.link.last == last_number) under_way
+    ask_fault_by (is_full under_way.link.asks) (under_way.link.last == last_number)
+    under_way.link.state under_way.last_job
 
 -- what is under way once an ask is put
 abbrev pub with_ask : Errand → ℕ → UnderWay → UnderWay

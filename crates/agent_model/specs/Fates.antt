@@ -6,7 +6,7 @@ use Rattle.helper_link.specs.declared.answer.Answer.{Answer}
 use Rattle.helper_link.specs.declared.answer.Answer.TheVariants as answer
 use Rattle.helper_link.specs.declared.answer.Settled.{Settled}
 use Rattle.helper_link.specs.declared.fault.LinkFault.{LinkFault}
-use Rattle.agent_model.specs.Actions.{Action, Answered, Asked, Granted, Lost, Over, Proved, Raised, Requested}
+use Rattle.agent_model.specs.Actions.{Action, Answered, Asked, Lost}
 use Rattle.agent_model.specs.Events.{Timed, Ended}
 use Rattle.agent_model.specs.State.{OnAsk, Port, State, find_port}
 use Rattle.agent_model.specs.Step.{step}
@@ -29,8 +29,7 @@ fate_in ask other = Unanswered
 -- of two fates of an ask the first that isn't open counts
 abbrev pub or_later : Fate → Fate → Fate
 or_later Unanswered later = later
-or_later (Gets answer) later = Gets answer
-or_later Fails later = Fails
+or_later fate later = fate
 
 -- what actions make of the ask of this number
 abbrev pub fate_of : ℕ → List Action → Fate

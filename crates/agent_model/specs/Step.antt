@@ -1,6 +1,6 @@
 -- One step of the abstract agent: a function of state, moment and event to a state, a list of
 -- actions and the messages that were put to the helper (ours). The file is read from its end.
-use Rattle.std.specs.Prelude.{ℕ, suc, List, [], ◌∷◌, ◌++◌, drop, Option, Some, None, Bool, true, false, nat_lt, ◌||◌}
+use Rattle.std.specs.Prelude.{ℕ, suc, List, [], ◌∷◌, ◌++◌, drop, Option, Some, None, Bool, true, false, nat_lt, ◌||◌, if◌then◌else◌}
 use Rattle.world_ports.specs.declared.Moment.{Moment}
 use Rattle.world_ports.specs.declared.Door.{Door}
 use Rattle.world_ports.specs.declared.Door.TheVariants.{Clients, Children}
@@ -151,11 +151,6 @@ abbrev pub admitted : Bool → ℕ → Door → List Port → List Port
 admitted true number door ports = ports ++ new_port number door ∷ []
 admitted false number door ports = ports
 
--- the port that is closed at once where there is no room for it
-abbrev pub turned_away : Bool → ℕ → List ℕ
-turned_away true number = []
-turned_away false number = number ∷ []
-
 -- a port joined: it has the next number
 abbrev pub joined : Door → State → State
 joined door state = record state {
@@ -167,7 +162,7 @@ joined door state = record state {
 -- a port joins, and where too many are open it is closed at once
 abbrev pub join : Door → State → Outcome
 join door state = record (stay (joined door state)) {
-  closes = turned_away (has_room door state.ports state.under_way) (suc state.last_port);
+  closes = if has_room door state.ports state.under_way then [] else suc state.last_port ∷ [];
 }
 
 -- an open port ended, by who was there: a client's confirmation ends with it

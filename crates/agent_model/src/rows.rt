@@ -5,8 +5,8 @@
 ghost use Rattle.std.specs.Prelude.{◌≡◌, ◌<◌, ◌≤◌, ◌==◌, ℕ, List, [], ◌∷◌, ◌++◌, codes, true, false, None};
 ghost use Rattle.world_ports.specs.declared.Door.TheVariants.{Clients};
 ghost use Rattle.agent_msg.specs.Requests.{Add, Addition};
-ghost use Rattle.identity_table.specs.Identities.{answer_len, find_identity, identities_with, kept_len};
-ghost use Rattle.agent_model.specs.Dispatch.{Asker, Served, answers, refuses, serve_unlocked, with_addition};
+ghost use Rattle.identity_table.specs.Identities.{answer_len, find_identity, identities_with, kept_len, added};
+ghost use Rattle.agent_model.specs.Dispatch.{Asker, Served, answers, refuses, serve_unlocked};
 ghost use Rattle.agent_model.specs.KeyStates.{KeyState};
 ghost use Rattle.agent_model.specs.Limits.{last_number};
 ghost use Rattle.agent_model.specs.State.{UnderWay};
@@ -49,8 +49,9 @@ pub fn an_addition_has_room_or_is_refused()
         asker.mono) ≤ 262144
         → (held.table.last == last_number) ≡ false
         → serve_unlocked (Add addition) asker held under_way
-        ≡ answers Success (record held { table = with_addition addition asker.mono held.table })
-        under_way }
+        ≡ answers Success (record held {
+          table = added held.table addition.key addition.terms addition.comment asker.mono;
+        }) under_way }
 {}
 
 /// What isn't done is answered SSH_AGENT_FAILURE.

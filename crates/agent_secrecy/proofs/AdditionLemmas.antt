@@ -19,7 +19,7 @@ use Rattle.agent_msg.specs.Requests.{BindRequest, ClientRequest, IsRequest, List
 use Rattle.agent_msg.proofs.FoundLemmas.{request_is_found}
 use Rattle.dest_rule.specs.declared.binding.Binding.{Binding}
 use Rattle.confirm_desk.specs.Confirmations.{Confirmation}
-use Rattle.agent_model.specs.Binds.{agent_request_of, and_host_key, bind_with, with_host_key}
+use Rattle.agent_model.specs.Binds.{agent_request_of, and_host_key, bind_with}
 use Rattle.agent_model.specs.Actions.{Work}
 use Rattle.agent_model.specs.Consents.{signing_of}
 use Rattle.agent_model.specs.Dispatch.{Asker, Served, serve}
@@ -126,7 +126,7 @@ with_bind bind (Ok key) = tt
 with_bind bind (Err fault) = tt
 
 adds_key : (body : List ℕ) (request : ClientRequest) → IsRequest body request
-    → AddsWhereRead (with_host_key request)
+    → AddsWhereRead (and_host_key (Ok request))
 adds_key body ListIdentities is = tt
 adds_key body (Sign signing) is = tt
 adds_key body (Add added) is = elim is [

@@ -1,5 +1,5 @@
 -- Events but for what a client sends and takes, with secrets hidden.
-use Rattle.std.proofs.Common.{◌≡◌, ℕ, suc, List, [], ◌++◌, length, refl, sym, ap, subst, ◌∙◌, Option, Some, None}
+use Rattle.std.proofs.Common.{◌≡◌, ℕ, suc, List, [], ◌++◌, length, refl, sym, ap, subst, ◌∙◌, Option, Some, None, if◌then◌else◌}
 use Rattle.world_ports.specs.declared.Door.{Door}
 use Rattle.world_ports.specs.declared.Door.TheVariants.{Clients, Children}
 use Rattle.world_ports.specs.declared.Job.{Job}
@@ -7,10 +7,10 @@ use Rattle.world_ports.specs.declared.JobKind.{JobKind}
 use Rattle.world_ports.specs.declared.JobKind.TheVariants as kinds
 use Rattle.agent_model.specs.Actions.{Outcome, closing, stay}
 use Rattle.agent_model.specs.Answers.{helper_heard, lose}
-use Rattle.agent_model.specs.Children.{changed, closed, confirmer_named, heard_more, helper_named, is_wanted, job_left, job_started, started_if, started_where, unheard}
+use Rattle.agent_model.specs.Children.{changed, closed, confirmer_named, heard_more, helper_named, is_wanted, job_left, job_started, started_if, unheard}
 use Rattle.agent_model.specs.Consents.{confirmer_heard, over}
 use Rattle.agent_model.specs.State.{State, UnderWay, find_to_start, role_of}
-use Rattle.agent_model.specs.Step.{admitted, confirmer_took, has_room, helper_took, join, joined, turned_away}
+use Rattle.agent_model.specs.Step.{admitted, confirmer_took, has_room, helper_took, join, joined}
 use Rattle.agent_model.proofs.BothLemmas.{AreAlikeInBoth, IsChild, IsSameWay}
 use Rattle.agent_secrecy.specs.Hiding.{Seen, bare, hide_ports, hide_state, hide_under_way, seen}
 use Rattle.agent_secrecy.proofs.BlankLemmas.{blank-drop}
@@ -39,7 +39,7 @@ module _ (key : List ℕ → List ℕ) (keeps : (bytes : List ℕ) → length (k
   started_if-hidden : (found : Option Job) (ticket : List ℕ) (under_way : UnderWay)
       → started_if found ticket (hide_under_way under_way) ≡ started_if found ticket under_way
   started_if-hidden None ticket under_way = refl
-  started_if-hidden (Some job) ticket under_way = ap (λ wanted. started_where wanted job ticket) (is_wanted-hidden job.kind job.number under_way)
+  started_if-hidden (Some job) ticket under_way = ap (λ wanted. if wanted then record { job = job; ticket = ticket } ∷ [] else []) (is_wanted-hidden job.kind job.number under_way)
 
   pub job_started-hidden : (number : ℕ) (ticket : List ℕ) (state : State)
       → job_started number ticket (hide state) ≡ hide (job_started number ticket state)
@@ -116,5 +116,5 @@ module _ (key : List ℕ → List ℕ) (keeps : (bytes : List ℕ) → length (k
   pub join-hidden : (door : Door) (state : State) → heard (suc state.last_port) [] ≡ []
       → join door (hide state) ≡ hidden_outcome (join door state)
   join-hidden door state none =
-      ap (λ new. let left : Outcome = record (stay new) { closes = turned_away (has_room door (hide_ports heard state.ports) (hide_under_way state.under_way)) (suc state.last_port) } in left) (joined-hidden door state none)
-      ∙ ap (λ room. let left : Outcome = record (stay (hide (joined door state))) { closes = turned_away room (suc state.last_port) } in left) (has_room-hidden heard door state.ports state.under_way)
+      ap (λ new. let left : Outcome = record (stay new) { closes = if has_room door (hide_ports heard state.ports) (hide_under_way state.under_way) then [] else suc state.last_port ∷ [] } in left) (joined-hidden door state none)
+      ∙ ap (λ room. let left : Outcome = record (stay (hide (joined door state))) { closes = if room then [] else suc state.last_port ∷ [] } in left) (has_room-hidden heard door state.ports state.under_way)

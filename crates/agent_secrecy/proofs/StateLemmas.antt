@@ -14,9 +14,9 @@ use Rattle.confirm_desk.specs.Confirmations.{Confirmation, Consent, No, NotYet, 
 use Rattle.agent_model.specs.Actions.{Action, Answered, Lost, Outcome, Over, Work, acted, and_then, behind, closing, stay}
 use Rattle.agent_model.specs.Answers.{Answering, answer_all, answer_asker, answer_by, answer_true, answers_in, close_helper, find_verification, helper_closes, helper_heard, helper_tells, lose, lose_if, lose_where, proved_where_open, prove, remove_verification, tell_each, with_answers}
 use Rattle.agent_model.specs.Children.{changed, closed, shut, shut_then}
-use Rattle.agent_model.specs.Consents.{close_confirmer, confirmer_closes, confirmer_heard, consent_by, grant, grant_by, grant_concluded, grant_to, grant_unless, grant_with, grant_work, over, over_if, signing_of, with_heard, without_confirmation}
+use Rattle.agent_model.specs.Consents.{close_confirmer, confirmer_closes, confirmer_heard, consent_by, grant, grant_by, grant_concluded, grant_to, grant_unless, grant_work, over, over_if, signing_of, with_heard, without_confirmation}
 use Rattle.agent_model.specs.Errands.{Signs}
-use Rattle.agent_model.specs.KeyStates.{KeyState, after_use}
+use Rattle.agent_model.specs.KeyStates.{after_use}
 use Rattle.agent_model.specs.Objections.{objection}
 use Rattle.agent_model.specs.State.{Port, State, UnderWay, Verification, change_port, find_port}
 use Rattle.agent_model.specs.Verdicts.{Cause, HelperLost, HelperRefused, NoLongerAllowed, NotConfirmed, Refuses, Replies, Signature, SignatureWrong, Success, Verdict, tell}
@@ -192,17 +192,19 @@ module _ (key : List ℕ → List ℕ) (keeps : (bytes : List ℕ) → length (k
       settles-hidden key keeps (Refuses NoLongerAllowed) under_way
   grant_unless-hidden None held confirmation under_way = put_ask-hidden key keeps (Signs held (signing_of held confirmation)) confirmation.asker under_way
 
-  grant_with-hidden : (found : Option HeldKey) (chain : List Binding) (confirmation : Confirmation) (wall : ℕ) (under_way : UnderWay) → work_bare (grant_with (option_map (hide_key key) found) chain confirmation wall (hide_under_way under_way)) ≡ work_seen key (grant_with found chain confirmation wall under_way)
-  grant_with-hidden None chain confirmation wall under_way =
+  grant_by-hidden : (lock : Option (List ℕ)) (found : Option HeldKey) (chain : List Binding) (confirmation : Confirmation) (wall : ℕ) (under_way : UnderWay) → work_bare (grant_by lock (option_map (hide_key key) found) chain confirmation wall (hide_under_way under_way)) ≡ work_seen key (grant_by lock found chain confirmation wall under_way)
+  grant_by-hidden None (Some held) chain confirmation wall under_way = grant_unless-hidden (objection held held.blob chain confirmation.message wall) held confirmation under_way
+  grant_by-hidden None None chain confirmation wall under_way =
       settles-hidden key keeps (Refuses NoLongerAllowed) under_way
-  grant_with-hidden (Some held) chain confirmation wall under_way = grant_unless-hidden (objection held held.blob chain confirmation.message wall) held confirmation under_way
+  grant_by-hidden (Some passphrase) found chain confirmation wall under_way =
+      settles-hidden key keeps (Refuses NoLongerAllowed) under_way
 
-  grant_by-hidden : (lock : Option (List ℕ)) (held : KeyState) (chain : List Binding) (confirmation : Confirmation) (wall : ℕ) (under_way : UnderWay) → work_bare (grant_by lock (hide_held key held) chain confirmation wall (hide_under_way under_way)) ≡ work_seen key (grant_by lock held chain confirmation wall under_way)
-  grant_by-hidden (Some passphrase) held chain confirmation wall under_way =
-      settles-hidden key keeps (Refuses NoLongerAllowed) under_way
-  grant_by-hidden None held chain confirmation wall under_way =
-      ap (λ found. work_bare (grant_with found chain confirmation wall (hide_under_way under_way))) (find_number-hidden key confirmation.addition held.table.identities)
-      ∙ grant_with-hidden (find_number confirmation.addition held.table.identities) chain confirmation wall under_way
+  grant_work-hidden : (chain : List Binding) (confirmation : Confirmation) (state : State)
+      → work_bare (grant_work chain confirmation (hide state)) ≡ work_seen key (grant_work chain confirmation state)
+  grant_work-hidden chain confirmation state =
+      let left : UnderWay = without_confirmation confirmation.job state.under_way in
+      ap (λ found. work_bare (grant_by state.held.lock found chain confirmation state.moment.wall (hide_under_way left))) (find_number-hidden key confirmation.addition state.held.table.identities)
+      ∙ grant_by-hidden state.held.lock (find_number confirmation.addition state.held.table.identities) chain confirmation state.moment.wall left
 
   abbrev granted_with : Confirmation → State → List Port → List ℕ → SeenWork → Seen
   granted_with confirmation state ports closes work = record {
@@ -228,7 +230,7 @@ module _ (key : List ℕ → List ℕ) (keeps : (bytes : List ℕ) → length (k
   grant_to-hidden None confirmation state = exactly (stay state) _ refl
   grant_to-hidden (Some port) confirmation state =
       grant_concluded-hidden (grant_work port.chain confirmation (hide state)) (grant_work port.chain confirmation state) confirmation state
-      (grant_by-hidden state.held.lock state.held port.chain confirmation state.moment.wall (without_confirmation confirmation.job state.under_way))
+      (grant_work-hidden port.chain confirmation state)
 
   pub grant-hidden : (confirmation : Confirmation) (state : State)
       → bare (grant confirmation (hide state)) ≡ seen key heard (grant confirmation state)

@@ -18,7 +18,7 @@ use Rattle.agent_model.specs.Events.{Timed}
 use Rattle.agent_model.specs.State.{Nothing, Port, State, find_port}
 use Rattle.agent_model.specs.Step.{step}
 use Rattle.agent_model.specs.Time.{at_moment}
-use Rattle.agent_model.specs.Verdicts.{Awaits, Identities, Refuses, Replies, Reply, Signature, Success, Verdict, reply_text, verdict_text, verdict_waits}
+use Rattle.agent_model.specs.Verdicts.{Awaits, Identities, Refuses, Replies, Reply, Signature, Success, Verdict, verdict_text, verdict_waits}
 use Rattle.log_book.specs.Peers.{Peer, looked, looked_by, read_next}
 use Rattle.log_book.specs.Requests.{asked_by, next_by, next_in}
 use Rattle.log_book.specs.declared.told.Asked.{Asked}
@@ -54,7 +54,7 @@ record IsReply (text : List ℕ) : Type 0 where
   is : text ≡ string body
   some : 0 < length body
 
-is_reply : (reply : Reply) → IsReply (reply_text reply)
+is_reply : (reply : Reply) → IsReply (verdict_text (Replies reply))
 is_reply Success = record { body = 6 ∷ []; is = refl; some = omega arith }
 is_reply (Identities identities) =
     record { body = 12 ∷ (uint32 (length identities) ++ entries identities); is = refl; some = omega arith }

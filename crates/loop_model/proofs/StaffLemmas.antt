@@ -16,8 +16,8 @@ use Rattle.helper_link.specs.declared.state.LinkState.{LinkState}
 use Rattle.agent_msg.specs.Requests.{Signing}
 use Rattle.identity_table.specs.Identities.{HeldKey}
 use Rattle.agent_model.specs.Answers.{forget_helper, lose}
-use Rattle.agent_model.specs.Children.{is_started_by, is_wanted, remove_to_start, started_if, started_where}
-use Rattle.agent_model.specs.Consents.{find_started, remove_started, started_number, without_confirmation}
+use Rattle.agent_model.specs.Children.{is_started_by, is_wanted, remove_to_start, started_if}
+use Rattle.agent_model.specs.Consents.{find_started, remove_started, without_confirmation}
 use Rattle.agent_model.specs.Errands.{Errand, begun_by, held_for, helper_jobs, last_job_for, with_ask, with_confirmation}
 use Rattle.agent_model.specs.State.{StartedJob, State, UnderWay, find_to_start}
 use Rattle.under_way.specs.Parts.{AreGiven, AreKept, FitsStarted, IsAwaited, jobs_of, the_job}
@@ -249,7 +249,7 @@ wanted_there kinds.Confirm number u is kind none =
 started_by : (test : Bool) (u : UnderWay) (number : ℕ) (job : Job) (ticket : List ℕ) → IsStaffed u
     → find_to_start number u.to_start ≡ Some job → is_wanted job.kind job.number u ≡ test → IsStaffed (record u {
       to_start = remove_to_start number u.to_start;
-      started = u.started ++ started_where test job ticket;
+      started = u.started ++ (if test then record { job = job; ticket = ticket } ∷ [] else []);
     })
 started_by false u number job ticket staffed found is = staffed-dropped u number staffed
 started_by true u number job ticket staffed found is =
@@ -278,7 +278,7 @@ named_starting : (u : UnderWay) (number : ℕ) (one : StartedJob) → IsStaffed 
     → find_started number u.started ≡ Some one
     → one.job.kind ≡ kinds.Helper → u.link.state ≡ states.Starting number
 named_starting u number one staffed found is =
-    let own : one.job.number ≡ number = found_key started_number number u.started one found in
+    let own : one.job.number ≡ number = found_key (λ (one : StartedJob). one.job.number) number u.started one found in
     subst (λ (n : ℕ). IsComing kinds.Helper n u.link.state) own
     (subst (λ (kind : JobKind). IsComing kind one.job.number u.link.state) is
     (coming-found u.link.state number u.started one staffed.coming found))

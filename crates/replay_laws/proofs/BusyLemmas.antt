@@ -15,7 +15,7 @@ use Rattle.agent_model.specs.Looks.{due_front}
 use Rattle.agent_model.specs.Sound.{IsRising}
 use Rattle.agent_model.specs.State.{Nothing, Port, State, UnderWay, Waits, change_port, find_port}
 use Rattle.agent_model.specs.Step.{asker_at, attempts, take_frame}
-use Rattle.agent_model.specs.Verdicts.{Cause, Identities, Refuses, Replies, Reply, Signature, Success, Verdict, reply_text, tell, verdict_text, verdict_waits}
+use Rattle.agent_model.specs.Verdicts.{Cause, Identities, Refuses, Replies, Reply, Signature, Success, Verdict, tell, verdict_text, verdict_waits}
 use Rattle.agent_model.proofs.GrantLemmas.{grant-ends}
 use Rattle.agent_model.proofs.LeadLemmas.{follows-quiet, same as led}
 use Rattle.agent_model.proofs.RunLemmas.{leads-rising, rising_behind}
@@ -66,7 +66,7 @@ owed_busy : (owed : List ℕ) → 0 < length owed → IsBusy Nothing owed
 owed_busy [] some = absurd (omega (arith, some))
 owed_busy (byte ∷ bytes) some = λ heard. refl
 
-reply_busy : (reply : Reply) → 0 < length (reply_text reply)
+reply_busy : (reply : Reply) → 0 < length (verdict_text (Replies reply))
 reply_busy Success = omega (arith, length-string (6 ∷ []))
 reply_busy (Identities identities) =
     omega (arith, length-string (12 ∷ (uint32 (length identities) ++ entries identities)))
@@ -81,7 +81,7 @@ Busies verdict = (owed : List ℕ) → IsBusy (verdict_waits verdict) (owed ++ v
 
 replies_busy : (reply : Reply) → Busies (Replies reply)
 replies_busy reply owed =
-    owed_busy (owed ++ reply_text reply) (omega (arith, length-append owed (reply_text reply), reply_busy reply))
+    owed_busy (owed ++ verdict_text (Replies reply)) (omega (arith, length-append owed (verdict_text (Replies reply)), reply_busy reply))
 
 refuses_busy : (cause : Cause) → Busies (Refuses cause)
 refuses_busy cause owed =

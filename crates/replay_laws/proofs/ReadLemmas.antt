@@ -24,7 +24,7 @@ use Rattle.agent_msg.proofs.ReadLemmas.{request_is_read}
 use Rattle.redact_core.specs.Blanks.{blanked}
 use Rattle.redact_core.specs.Redaction.{holds_secrets, unread, without_secrets}
 use Rattle.redact_core.proofs.BlankLemmas.{blanked_text, private_is_free, zeros, zeros_fit}
-use Rattle.agent_model.specs.Binds.{agent_request_of, and_host_key, bind_with, with_host_key}
+use Rattle.agent_model.specs.Binds.{agent_request_of, and_host_key, bind_with}
 use Rattle.agent_secrecy.specs.Alike.{AreAlikeBodies}
 use Rattle.agent_secrecy.specs.Hiding.{hide_read}
 use Rattle.agent_secrecy.specs.Secrets.{AreAlikeKeys, AreOfEqualLengths, hidden}
@@ -181,7 +181,7 @@ module _ (rename : List ℕ → List ℕ) where
 
   -- a request that names no passphrase
   unchanged_read : (body : List ℕ) (request : ClientRequest) → request_of body ≡ Ok request
-      → renamed_read rename (with_host_key request) ≡ with_host_key request → ReadsAs body body
+      → renamed_read rename (and_host_key (Ok request)) ≡ and_host_key (Ok request) → ReadsAs body body
   unchanged_read body request is same =
       ap (hide_read hidden)
       (ap and_host_key is ∙ sym same ∙ sym (ap (λ (r : Result ClientRequest MsgFault). renamed_read rename (and_host_key r)) is))
@@ -197,7 +197,7 @@ module _ (rename : List ℕ → List ℕ) where
   named_read : (number code : ℕ) (bytes passphrase : List ℕ) (request : List ℕ → ClientRequest)
       → IsText code (number ∷ bytes) passphrase → request_of (number ∷ bytes) ≡ Ok (request passphrase)
       → (IsText code (number ∷ string (rename passphrase)) (rename passphrase) → request_of (number ∷ string (rename passphrase)) ≡ Ok (request (rename passphrase)))
-      → ((name : List ℕ) → with_host_key (request name) ≡ Ok (request name))
+      → ((name : List ℕ) → and_host_key (Ok (request name)) ≡ Ok (request name))
       → renamed_request rename (request passphrase) ≡ request (rename passphrase)
       → length (number ∷ string (rename passphrase)) ≤ longest_body
       → ReadsAs (number ∷ bytes) (number ∷ string (rename passphrase))

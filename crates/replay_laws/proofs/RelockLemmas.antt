@@ -16,6 +16,7 @@ use Rattle.agent_model.specs.Step.{confirmer_took, helper_took}
 use Rattle.agent_model.specs.Time.{all_over, at_moment, end_late, first_late, is_helper_late, lose_late, taken_in, time_passes}
 use Rattle.agent_model.proofs.BothLemmas.{AreAlikeInBoth, IsSameWay}
 use Rattle.replay_laws.specs.Redacting.{relocked, relocked_outcome, relocked_state}
+use Rattle.identity_table.specs.Identities.{HeldKey, find_number}
 
 module _ (rename : List ℕ → List ℕ) where
   abbrev state_of : State → State
@@ -83,11 +84,11 @@ module _ (rename : List ℕ → List ℕ) where
   after_use-relocked None held = refl
   after_use-relocked (Some addition) held = refl
 
-  grant_by-relocked : (lock : Option (List ℕ)) (held : KeyState) (chain : List Binding) (confirmation : Confirmation) (wall : ℕ) (under_way : UnderWay)
-      → grant_by (option_map rename lock) (relocked rename held) chain confirmation wall under_way
-      ≡ grant_by lock held chain confirmation wall under_way
-  grant_by-relocked None held chain confirmation wall under_way = refl
-  grant_by-relocked (Some passphrase) held chain confirmation wall under_way = refl
+  grant_by-relocked : (lock : Option (List ℕ)) (found : Option HeldKey) (chain : List Binding) (confirmation : Confirmation) (wall : ℕ) (under_way : UnderWay)
+      → grant_by (option_map rename lock) found chain confirmation wall under_way
+      ≡ grant_by lock found chain confirmation wall under_way
+  grant_by-relocked None found chain confirmation wall under_way = refl
+  grant_by-relocked (Some passphrase) found chain confirmation wall under_way = refl
 
   concluded-relocked : (work : Work) (confirmation : Confirmation) (state : State)
       → grant_concluded work confirmation (state_of state) ≡ outcome_of (grant_concluded work confirmation state)
@@ -101,7 +102,7 @@ module _ (rename : List ℕ → List ℕ) where
   grant_to-relocked None confirmation state = refl
   grant_to-relocked (Some port) confirmation state =
       ap (λ work. grant_concluded work confirmation (state_of state))
-      (grant_by-relocked state.held.lock state.held port.chain confirmation state.moment.wall (without_confirmation confirmation.job state.under_way))
+      (grant_by-relocked state.held.lock (find_number confirmation.addition state.held.table.identities) port.chain confirmation state.moment.wall (without_confirmation confirmation.job state.under_way))
       ∙ concluded-relocked (grant_work port.chain confirmation state) confirmation state
 
   consent_by-relocked : (said : Consent) (confirmation : Confirmation) (piece : List ℕ) (state : State)

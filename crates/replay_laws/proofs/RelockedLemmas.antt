@@ -1,5 +1,5 @@
 -- Requests to an agent that is locked with a passphrase of another name.
-use Rattle.std.proofs.Common.{◌≡◌, ℕ, ◌==◌, List, [], ◌∷◌, refl, sym, ap, ◌∙◌, Bool, true, false, nat_lt, Option, Some, None, Result, Ok, Err}
+use Rattle.std.proofs.Common.{◌≡◌, ℕ, ◌==◌, List, [], ◌∷◌, refl, sym, ap, ◌∙◌, Bool, true, false, nat_lt, Option, Some, None, Result, Ok, Err, if◌then◌else◌}
 use Rattle.std.specs.Option.{option_map}
 use Rattle.std.specs.Str.{bytes_eq}
 use Rattle.std.proofs.lemmas.Bool.Decides.{same_from_decides}
@@ -9,11 +9,11 @@ use Rattle.agent_msg.specs.declared.fault.MsgFault.{MsgFault}
 use Rattle.agent_msg.specs.declared.fault.MsgFault.TheVariants as fault
 use Rattle.agent_msg.specs.Requests.{Addition, ClientRequest, ListIdentities, Sign, Add, Remove, RemoveAll, Lock, Unlock, Bind, OtherExtension, Unsupported}
 use Rattle.agent_model.specs.Actions.{Work}
-use Rattle.agent_model.specs.Dispatch.{Asker, Served, add_by, add_fault, add_seen, add_unless, answers, lock_by, refuses, remove_by, remove_seen, sees, serve, serve_by, serve_locked, serve_unlocked, sign_by, unlock_by, unread, uses}
+use Rattle.agent_model.specs.Dispatch.{Asker, Served, add_by, add_fault, add_seen, add_unless, answers, refuses, remove_by, remove_seen, sees, serve, serve_by, serve_locked, serve_unlocked, sign_by, unread, uses}
 use Rattle.agent_model.specs.KeyStates.{KeyState}
 use Rattle.agent_model.specs.Limits.{last_number}
 use Rattle.agent_model.specs.State.{UnderWay}
-use Rattle.agent_model.specs.Verdicts.{Cause, Success}
+use Rattle.agent_model.specs.Verdicts.{Cause, Success, WrongPassphrase}
 use Rattle.replay_laws.specs.Redacting.{IsRenaming, relocked, renamed_read, renamed_request, served_as}
 use Rattle.replay_laws.proofs.RelockLemmas.{after_use-relocked}
 
@@ -80,22 +80,28 @@ module _ (rename : List ℕ → List ℕ) (renaming : IsRenaming rename) where
   locked_as held name under_way =
       let keys : KeyState = record { table = held.table; lock = Some name } in answers Success keys under_way
 
-  named : (name passphrase : List ℕ) (held : KeyState) (under_way : UnderWay) → (name ≡ [] → ⊥)
-      → lock_by name (relocked rename held) under_way ≡ locked_as held name under_way
-  named [] passphrase held under_way some = absurd (some refl)
-  named (byte ∷ bytes) passphrase held under_way some = refl
+  named : (name : List ℕ) (asker : Asker) (held : KeyState) (under_way : UnderWay) → (name ≡ [] → ⊥)
+      → serve_unlocked (Lock name) asker (relocked rename held) under_way ≡ locked_as held name under_way
+  named [] asker held under_way some = absurd (some refl)
+  named (byte ∷ bytes) asker held under_way some = refl
 
-  lock_by-relocked : (passphrase : List ℕ) (held : KeyState) (under_way : UnderWay)
-      → lock_by (rename passphrase) (relocked rename held) under_way ≡ served_of (lock_by passphrase held under_way)
-  lock_by-relocked [] held under_way =
-      ap (λ name. lock_by name (relocked rename held) under_way) renaming.empty
-  lock_by-relocked (byte ∷ bytes) held under_way =
-      named (rename (byte ∷ bytes)) (byte ∷ bytes) held under_way (name_is_some byte bytes)
+  lock-relocked : (passphrase : List ℕ) (asker : Asker) (held : KeyState) (under_way : UnderWay)
+      → serve_unlocked (Lock (rename passphrase)) asker (relocked rename held) under_way
+      ≡ served_of (serve_unlocked (Lock passphrase) asker held under_way)
+  lock-relocked [] asker held under_way =
+      ap (λ name. serve_unlocked (Lock name) asker (relocked rename held) under_way) renaming.empty
+  lock-relocked (byte ∷ bytes) asker held under_way =
+      named (rename (byte ∷ bytes)) asker held under_way (name_is_some byte bytes)
 
-  unlock_by-relocked : (same : Bool) (held : KeyState) (under_way : UnderWay)
-      → unlock_by same (relocked rename held) under_way ≡ served_of (unlock_by same held under_way)
-  unlock_by-relocked true held under_way = refl
-  unlock_by-relocked false held under_way = refl
+  -- by whether the passphrase is the one that locked the agent
+  abbrev unlocked_by : Bool → KeyState → UnderWay → Served
+  unlocked_by is_right held under_way =
+      if is_right then answers Success (record held { lock = None }) under_way else refuses WrongPassphrase held under_way
+
+  unlocked_by-relocked : (same : Bool) (held : KeyState) (under_way : UnderWay)
+      → unlocked_by same (relocked rename held) under_way ≡ served_of (unlocked_by same held under_way)
+  unlocked_by-relocked true held under_way = refl
+  unlocked_by-relocked false held under_way = refl
 
   -- ---- the table of requests
 
@@ -111,7 +117,7 @@ module _ (rename : List ℕ → List ℕ) (renaming : IsRenaming rename) where
       remove_by-relocked (find_identity blob held.table.identities) asker blob held under_way
   unlocked-relocked RemoveAll asker held under_way = refl
   unlocked-relocked (Lock passphrase) asker held under_way =
-      lock_by-relocked passphrase held under_way
+      lock-relocked passphrase asker held under_way
   unlocked-relocked (Unlock passphrase) asker held under_way = refl
   unlocked-relocked (Bind bind) asker held under_way = refl
   unlocked-relocked (OtherExtension name) asker held under_way = refl
@@ -127,8 +133,8 @@ module _ (rename : List ℕ → List ℕ) (renaming : IsRenaming rename) where
   locked-relocked passphrase RemoveAll held under_way = refl
   locked-relocked passphrase (Lock other) held under_way = refl
   locked-relocked passphrase (Unlock other) held under_way =
-      ap (λ same. unlock_by same (relocked rename held) under_way) (same_names passphrase other)
-      ∙ unlock_by-relocked (bytes_eq passphrase other) held under_way
+      ap (λ same. unlocked_by same (relocked rename held) under_way) (same_names passphrase other)
+      ∙ unlocked_by-relocked (bytes_eq passphrase other) held under_way
   locked-relocked passphrase (Bind bind) held under_way = refl
   locked-relocked passphrase (OtherExtension name) held under_way = refl
   locked-relocked passphrase (Unsupported number) held under_way = refl

@@ -14,7 +14,7 @@ use Rattle.helper_link.specs.declared.state.LinkState.TheVariants as states
 use Rattle.confirm_desk.specs.Confirmations.{Confirmation, change_job, find_job, linked, linked_at, remove_job}
 use Rattle.agent_model.specs.Asking.{JobsRise}
 use Rattle.agent_model.specs.Children.{remove_to_start}
-use Rattle.agent_model.specs.Consents.{find_started, remove_started, started_number}
+use Rattle.agent_model.specs.Consents.{find_started, remove_started}
 use Rattle.agent_model.specs.State.{StartedJob, find_to_start, job_number}
 use Rattle.agent_model.proofs.JobLemmas.{change-apart, find_job-push, find_job-remove, jobs-change, jobs-higher, jobs-push, jobs-remove, job_within}
 use Rattle.under_way.specs.Jobs.{all_started}
@@ -51,10 +51,10 @@ none_by (Some one) never = absurd (never one refl)
 -- ---- started jobs
 
 pub started-jobs : (number : ℕ) (started : List StartedJob) → find_to_start number (jobs_of started) ≡ option_map the_job (find_started number started)
-started-jobs number started = find-map the_job (has_key job_number number) (has_key started_number number) (λ _. refl) started
+started-jobs number started = find-map the_job (has_key job_number number) (has_key (λ (one : StartedJob). one.job.number) number) (λ _. refl) started
 
 pub removed-jobs : (number : ℕ) (started : List StartedJob) → jobs_of (remove_started number started) ≡ remove_to_start number (jobs_of started)
-removed-jobs number started = sym (remove-map the_job (has_key job_number number) (has_key started_number number) (λ _. refl) started)
+removed-jobs number started = sym (remove-map the_job (has_key job_number number) (has_key (λ (one : StartedJob). one.job.number) number) (λ _. refl) started)
 
 pub pushed-jobs : (started more : List StartedJob) → jobs_of (started ++ more) ≡ jobs_of started ++ jobs_of more
 pushed-jobs [] more = refl
@@ -207,7 +207,7 @@ linked_not_begun last job port desk jobs one given found at =
 
 -- what isn't there isn't taken out
 pub started-none : (number : ℕ) (started : List StartedJob) → find_started number started ≡ None → remove_started number started ≡ started
-started-none number started none = removed_nowhere (has_key started_number number) started none
+started-none number started none = removed_nowhere (has_key (λ (one : StartedJob). one.job.number) number) started none
 
 pub not_begun : (number : ℕ) (started : List Started) → find_started number (all_started started) ≡ None →
     remove_started number (all_started started) ≡ all_started started

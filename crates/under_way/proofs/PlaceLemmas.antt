@@ -8,8 +8,8 @@ use Rattle.lists.specs.Firsts.{IsFirst}
 use Rattle.lists.specs.Keyed.{has_key}
 use Rattle.lists.proofs.FirstLemmas as first
 use Rattle.lists.proofs.FirstLemmas.{find-map, found_there, remove-map, removed_there}
-use Rattle.agent_model.specs.Consents.{find_started, started_number}
-use Rattle.agent_model.specs.State.{find_to_start, job_number}
+use Rattle.agent_model.specs.Consents.{find_started}
+use Rattle.agent_model.specs.State.{find_to_start, job_number, StartedJob}
 use Rattle.under_way.specs.Jobs.{IsJobAt, IsStartedAt, all_started, begun_number, started_job}
 use Rattle.under_way.specs.declared.jobs.Started.{Started}
 
@@ -45,7 +45,7 @@ pub is_started_place : (number : ℕ) (jobs : List Started) (result : Option ℕ
     MatchOption result (find_started number (all_started jobs) ≡ None)
     (λ place. IsStartedAt number jobs place)
 is_started_place number jobs None is =
-    find-map started_job (has_key started_number number) (has_key begun_number number) (λ _. refl) jobs
+    find-map started_job (has_key (λ (one : StartedJob). one.job.number) number) (has_key begun_number number) (λ _. refl) jobs
     ∙ ap (option_map started_job) (first.is_place (has_key begun_number number) jobs None is)
 is_started_place number jobs (Some place) is =
     let at : IsFirst (has_key begun_number number) jobs place =
@@ -53,8 +53,8 @@ is_started_place number jobs (Some place) is =
     record {
       within = at.within;
       found = λ other.
-          find-map started_job (has_key started_number number) (has_key begun_number number) (λ _. refl) jobs
+          find-map started_job (has_key (λ (one : StartedJob). one.job.number) number) (has_key begun_number number) (λ _. refl) jobs
           ∙ ap (option_map started_job) (found_there (has_key begun_number number) jobs place other at);
-      removed = remove-map started_job (has_key started_number number) (has_key begun_number number) (λ _. refl) jobs
+      removed = remove-map started_job (has_key (λ (one : StartedJob). one.job.number) number) (has_key begun_number number) (λ _. refl) jobs
           ∙ ap all_started (removed_there (has_key begun_number number) jobs place at);
     }

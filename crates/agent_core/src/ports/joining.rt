@@ -5,7 +5,7 @@ ghost use Rattle.agent_model.specs.Actions.{closing};
 ghost use Rattle.agent_model.specs.NumberLists.{put_all};
 ghost use Rattle.agent_model.specs.Sound.{IsRising};
 ghost use Rattle.agent_model.specs.State.{find_port, remove_port};
-ghost use Rattle.agent_model.specs.Step.{admitted, turned_away};
+ghost use Rattle.agent_model.specs.Step.{admitted};
 ghost use Rattle.lists.specs.Rising.{inserted};
 
 use crate::owed::Owed;
@@ -33,7 +33,7 @@ impl Ports {
         ensures { OnOk result (self.new ≡ record {
           ports = admitted has_room (suc self.old.last) door self.old.ports;
           last = suc self.old.last;
-          closed = put_all self.old.closed (turned_away has_room (suc self.old.last));
+          closed = put_all self.old.closed (if has_room then [] else suc self.old.last ∷ []);
         }) }
     {
         if has_room {

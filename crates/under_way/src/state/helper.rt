@@ -6,7 +6,7 @@ ghost use Rattle.helper_link.specs.HelperLink.{IsLinked, lost, sendable, sent};
 ghost use Rattle.helper_link.specs.Sound.{IsSound as IsLinkSound};
 ghost use Rattle.helper_link.specs.Telling.{telling};
 ghost use Rattle.agent_model.specs.Answers.{find_verification, forget_helper, remove_verification};
-ghost use Rattle.agent_model.specs.Errands.{Signs, Verifies, job_of, link_begun, put_ask};
+ghost use Rattle.agent_model.specs.Errands.{Signs, Verifies, job_of, put_ask, begun_by};
 ghost use Rattle.under_way.specs.Parts.{TellsOf};
 ghost use Rattle.under_way.specs.Verifications.{bind_of, verification_of};
 
@@ -175,7 +175,7 @@ impl UnderWay {
         requires last { self.old.last_job < 2 ^ 64 - 1 }
 
         ensures { OnOk result (self.new ≡ record self.old {
-          link = link_begun (self.old.last_job + 1) self.old.link;
+          link = record self.old.link { state = begun_by self.old.link.state (self.old.last_job + 1) };
           to_start = self.old.to_start ++ (job_of (self.old.last_job + 1) JobKind.Helper ∷ []);
           last_job = self.old.last_job + 1;
         }) }

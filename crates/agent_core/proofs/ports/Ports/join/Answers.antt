@@ -1,6 +1,6 @@
-use Rattle.std.proofs.Common.{◌∙◌, ◌<◌, ◌^◌, ◌+◌, suc, ap, add-one, arith, sym, true, false, Bool, List, ℕ}
+use Rattle.std.proofs.Common.{◌∙◌, ◌<◌, ◌^◌, ◌+◌, suc, ap, add-one, arith, sym, true, false, Bool, List, ℕ, if◌then◌else◌, [], ◌∷◌}
 use Rattle.agent_model.specs.NumberLists.{put_all}
-use Rattle.agent_model.specs.Step.{admitted, turned_away}
+use Rattle.agent_model.specs.Step.{admitted}
 use Rattle.lists.specs.Rising.{inserted}
 use Rattle.lists.proofs.RisingLemmas.{length-inserted}
 use Rattle.agent_core.specs.Slots.{OpenPorts, ports_of}
@@ -24,7 +24,7 @@ pub returns-in_ok-admit : goal.returns-in_ok-admit
 returns-in_ok-admit c =
     let old = c.args.self.now in
     let to : Bool → OpenPorts =
-    λ b. record { ports = admitted b (suc old.last) c.args.door old.ports; last = suc old.last; closed = put_all old.closed (turned_away b (suc old.last)) } in
+    λ b. record { ports = admitted b (suc old.last) c.args.door old.ports; last = suc old.last; closed = put_all old.closed (if b then [] else suc old.last ∷ []) } in
     c.in_ok-admit.ensures.ports ∙ sym (ap to c.if-has_room.true)
 
 pub returns-in_ok-reserve : goal.returns-in_ok-reserve
@@ -32,7 +32,7 @@ returns-in_ok-reserve c =
     let last = c.self.inside.last in
     let closed = c.self.inside.closed.items in
     let to : Bool → OpenPorts =
-    λ b. record { ports = admitted b (suc last) c.args.door (ports_of c.self.inside.slots.items); last = suc last; closed = put_all closed (turned_away b (suc last)) } in
+    λ b. record { ports = admitted b (suc last) c.args.door (ports_of c.self.inside.slots.items); last = suc last; closed = put_all closed (if b then [] else suc last ∷ []) } in
     let put : List ℕ → OpenPorts =
     λ cs. record { ports = ports_of c.self.inside.slots.items; last = suc last; closed = cs } in
     rw (← c.self.view_is, add-one) (
