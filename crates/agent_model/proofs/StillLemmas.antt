@@ -82,6 +82,26 @@ module _ (number : ℕ) (verdict : Verdict) (unasked : (ask : ℕ) → verdict_w
       still-fault said.fault mid (tied_mid piece state tied)
       (still-answers 0 state.under_way.link.last said.settled before state.under_way.link.asks said.link.asks (settling_leads (state.under_way.link.heard ++ piece) state.under_way.link.asks) tied.order tied.tied told)
 
+-- ---- who waits for nothing is told nothing as another's confirmation ends
+
+module _ (number : ℕ) (verdict : Verdict) (nothing : verdict_waits verdict ≡ Nothing) where
+  pub still-over : (confirmation : Confirmation) (state : State) (new : Verdict)
+      → IsIn confirmation state.under_way.confirmations → IsTied state
+      → IsTold number verdict state.ports
+      → IsTold number verdict (change_port confirmation.asker (tell new) (close_confirmer confirmation.port state.ports))
+  still-over confirmation state new there tied told =
+      told-apart number confirmation.asker verdict (tell new) _ (λ p. refl) other
+      (told-close_confirmer number verdict confirmation.port state.ports (λ n port is. tied.raised.confirmers confirmation.job n confirmation port found_there is) told)
+    where
+      found_there : find_job confirmation.job state.under_way.confirmations ≡ Some confirmation
+      found_there = in-found confirmation 0 state.under_way.last_job tied.raised.order there
+
+      other : number ≢ confirmation.asker
+      other same =
+          let waits : told.port.waits ≡ OnConfirmation confirmation.job = tied.raised.asking.asks confirmation.job confirmation told.port found_there (ap (λ n. find_port n state.ports) (sym same) ∙ told.found) in
+          let no : Nothing ≡ OnConfirmation confirmation.job = sym nothing ∙ sym told.waits ∙ waits in
+          absurd (cc)
+
 -- ---- who has something and waits for nothing
 
 -- it has been told this
@@ -141,24 +161,6 @@ module _ (number : ℕ) (verdict : Verdict) (heard : HasHeard verdict) where
   still-quiet {old = old} (links job at new) open_yet untaken told =
       still-kept at unheard old.ports (λ p. refl) (λ p. refl) (λ p. refl) (λ same p. refl) told
 
-  -- another's confirmation ends
-  still-over : (confirmation : Confirmation) (state : State) (new : Verdict)
-      → IsIn confirmation state.under_way.confirmations → IsTied state
-      → IsTold number verdict state.ports
-      → IsTold number verdict (change_port confirmation.asker (tell new) (close_confirmer confirmation.port state.ports))
-  still-over confirmation state new there tied told =
-      told-apart number confirmation.asker verdict (tell new) _ (λ p. refl) other
-      (told-close_confirmer number verdict confirmation.port state.ports (λ n port is. tied.raised.confirmers confirmation.job n confirmation port found_there is) told)
-    where
-      found_there : find_job confirmation.job state.under_way.confirmations ≡ Some confirmation
-      found_there = in-found confirmation 0 state.under_way.last_job tied.raised.order there
-
-      other : number ≢ confirmation.asker
-      other same =
-          let waits : told.port.waits ≡ OnConfirmation confirmation.job = tied.raised.asking.asks confirmation.job confirmation told.port found_there (ap (λ n. find_port n state.ports) (sym same) ∙ told.found) in
-          let no : Nothing ≡ OnConfirmation confirmation.job = sym heard.waits ∙ sym told.waits ∙ waits in
-          absurd (cc)
-
   pub still-makes : {event : Happening} {old : State} {outcome : Outcome} → Makes event old outcome
       → event ≢ Ended number → ((count : ℕ) → event ≢ Took number count) → IsTied old
       → IsTold number verdict old.ports → IsTold number verdict outcome.state.ports
@@ -173,9 +175,9 @@ module _ (number : ℕ) (verdict : Verdict) (heard : HasHeard verdict) where
   still-makes (loses state) open_yet untaken tied told =
       still-lost number verdict unasked state tied told
   still-makes (overs confirmation state there) open_yet untaken tied told =
-      still-over confirmation state (Refuses NotConfirmed) there tied told
+      still-over number verdict heard.waits confirmation state (Refuses NotConfirmed) there tied told
   still-makes (grants confirmation port state there opened) open_yet untaken tied told =
-      still-over confirmation state (grant_work port.chain confirmation state).verdict there tied told
+      still-over number verdict heard.waits confirmation state (grant_work port.chain confirmation state).verdict there tied told
 
   still-admitted : (room : Bool) (at : ℕ) (door : Door) (ports : List Port)
       → IsTold number verdict ports → IsTold number verdict (admitted room at door ports)

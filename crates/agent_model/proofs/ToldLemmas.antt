@@ -12,7 +12,7 @@ use Rattle.agent_model.specs.Verdicts.{Identities, Reply, Signature, Success, ve
 use Rattle.agent_model.proofs.ServeLemmas.{IsServed, answered, asked, raised, refused}
 
 -- a reply has bytes
-reply_is_some : (reply : Reply) → 0 < length (verdict_text (Replies reply))
+pub reply_is_some : (reply : Reply) → 0 < length (verdict_text (Replies reply))
 reply_is_some Success = omega (arith, length-string (6 ∷ []))
 reply_is_some (Identities identities) =
     omega (arith, length-string (12 ∷ (uint32 (length identities) ++ entries identities)))

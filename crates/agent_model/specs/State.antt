@@ -1,5 +1,5 @@
 -- The state of the abstract agent (ours), in plain lists: no buffers, slots or indexes.
-use Rattle.std.specs.Prelude.{map, ℕ, suc, ◌+◌, ◌-◌, ◌^◌, ◌<◌, ◌≤◌, List, [], ◌∷◌, length, Option, Some, None, is_some, Bool, true, false, nat_lt, ◌==◌, ◌&&◌, if◌then◌else◌, IsSome}
+use Rattle.std.specs.Prelude.{map, ℕ, suc, ◌+◌, ◌-◌, ◌^◌, ◌<◌, ◌≤◌, List, [], ◌∷◌, length, Option, Some, None, is_some, Bool, true, false, nat_lt, not, ◌==◌, ◌&&◌, ◌||◌, if◌then◌else◌, IsSome}
 use Rattle.std.specs.Option.{option_map}
 use Rattle.lists.specs.Keyed.{change_by, find_by, remove_by}
 use Rattle.world_ports.specs.declared.Moment.{Moment}
@@ -271,15 +271,24 @@ is_more (Whole body_len) = false
 is_more (Bad announced) = false
 is_more More = true
 
--- a client is read until a request of it is whole, a child process always
-abbrev pub wants_more : Door → List ℕ → Bool
-wants_more Clients heard = is_more (front longest_body heard)
-wants_more Children heard = true
+-- a client waits for no answer, and has taken every reply
+abbrev pub is_settled : Waits → List ℕ → Bool
+is_settled Nothing owed = not (is_some_bytes owed)
+is_settled (OnAsk ask) owed = false
+is_settled (OnConfirmation job) owed = false
+
+-- a client is read until a request of it is whole, and one that isn't settled only while nothing of
+-- its next request has come; a child process always
+abbrev pub wants_more : Door → Bool → List ℕ → Bool
+wants_more Clients settled heard =
+    is_more (front longest_body heard) && (settled || not (is_some_bytes heard))
+wants_more Children settled heard = true
 
 -- the port is to be read
 abbrev pub wants_by : Option Port → Bool
 wants_by None = false
-wants_by (Some port) = wants_more port.door port.heard
+wants_by (Some port) =
+    wants_more port.door (is_settled port.waits port.owed) port.heard
 
 -- the port of this number is to be read
 abbrev pub wants : ℕ → State → Bool

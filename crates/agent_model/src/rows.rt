@@ -102,11 +102,18 @@ pub fn a_signature_is_waited_for()
         ≡ record { number = 1; kind = kinds.Helper } ∷ [] }
 {}
 
-/// One request at a time is taken of a client, and it is read until the next one is whole.
+/// One request at a time is taken of a client, and it is read until the next one is whole; while it
+/// waits for an answer or has yet to take a reply, only until the next one has begun.
 pub fn a_request_waits_for_the_reply_before()
     ensures unfinished { wants 1 (heard (0 ∷ 0 ∷ 0 ∷ [])) ≡ true }
     ensures owed { wants 1 (heard list) ≡ true }
     ensures whole { wants 1 (heard (list ++ remove_all)) ≡ false }
+    ensures begun { wants 1 (heard (list ++ 0 ∷ [])) ≡ false }
+    ensures taken_in_part { wants 1 (heard_and_took (list ++ 0 ∷ []) 8) ≡ false }
+    ensures taken { wants 1 (heard_and_took (list ++ 0 ∷ []) 9) ≡ true }
+    ensures waits { wants 1 (state_after (now (add 17) ∷ now (sign 17) ∷ [])) ≡ true }
+    ensures waits_begun { wants 1 (state_after (now (add 17) ∷ now (sign 17 ++ 0 ∷ []) ∷ []))
+        ≡ false }
     ensures first { owed_of 1 (heard (list ++ remove_all)) ≡ none_listed }
     ensures rest { owed_of 1 (heard_and_took (list ++ remove_all) 4) ≡ 12 ∷ 0 ∷ 0 ∷ 0 ∷ 0 ∷ [] }
     ensures second { owed_of 1 (heard_and_took (list ++ remove_all) 9) ≡ done }
