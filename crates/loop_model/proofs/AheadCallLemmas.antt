@@ -1,20 +1,21 @@
 -- Which calls leave one thing before another.
-use Rattle.std.proofs.Common.{◌≡◌, ◌∙◌, ℕ, Bool, true, false, List, [], ◌∷◌, ◌++◌, Option, Ok, Err, sym, ap, ◌||◌, if◌then◌else◌}
+use Rattle.std.proofs.Common.{◌≡◌, ◌∙◌, ℕ, Bool, true, false, List, [], ◌∷◌, ◌++◌, Option, None, Ok, Err, sym, ap, ◌||◌, if◌then◌else◌}
+use Rattle.std.specs.Option.{option_map_or}
 use Rattle.world_ports.specs.declared.answers.Accepted.TheVariants as accepted
 use Rattle.world_ports.specs.declared.answers.Polled.TheVariants as polled
 use Rattle.world_ports.specs.declared.entry.Entry.{Entry}
 use Rattle.world_ports.specs.declared.entry.Entry.TheVariants as entry
 use Rattle.agent_model.specs.State.{State}
 use Rattle.loop_model.specs.Aside.{put_aside}
-use Rattle.loop_model.specs.Dues.{Due, own_port}
+use Rattle.loop_model.specs.Dues.{Due, NowFor, port_of}
 use Rattle.loop_model.specs.Servable.{is_servable}
 use Rattle.loop_model.specs.Things.{same_thing, set_of}
 use Rattle.loop_model.specs.declared.thing.Thing.{Thing}
 use Rattle.loop_model.specs.declared.thing.Thing.TheVariants.{Accept, Read, Write}
 use Rattle.loop_model.specs.Fairness.{is_service}
-use Rattle.loop_model.specs.Calls.{hand_of, moved}
+use Rattle.loop_model.specs.Calls.{moved, served_of}
 use Rattle.loop_model.specs.Lines.{Line, after_event, hot_of, in_hand, placed, queued, queued_all, queued_port, recalled, settled}
-use Rattle.loop_model.specs.Queues.{first_servable, is_thing}
+use Rattle.loop_model.specs.Queues.{first_servable}
 use Rattle.loop_model.proofs.AddingLemmas.{Adds, adds-queued_all, adds-queued_port, adds-returned}
 use Rattle.loop_model.proofs.AsideLemmas.{set_of-append}
 use Rattle.loop_model.proofs.JournalLemmas.{is_in_turn}
@@ -65,8 +66,10 @@ ahead_after state left due closes (entry.Write port offered answer) other thing 
     ahead_left other thing (Write port) line.queue apart is
 ahead_after state left due closes (entry.Close port answer) other thing line apart able is = is
 ahead_after state left due closes (entry.Start job answer) other thing line apart able is = is
+ahead_after state left (NowFor event) closes (entry.Now (Ok moment)) other thing line apart able is =
+    ahead_event left closes (port_of event left.last_port) (served_of event) other thing line able is
 ahead_after state left due closes (entry.Now (Ok moment)) other thing line apart able is =
-    ahead_event left closes (own_port due left.last_port) (hand_of due) other thing line able is
+    ahead_event left closes None None other thing line able is
 ahead_after state left due closes (entry.Now (Err want)) other thing line apart able is = is
 
 -- ---- a service takes the thing out of the queue
@@ -139,13 +142,13 @@ pub out_of_turn : (state : State) (next : Entry) (other thing : Thing) (queue : 
 out_of_turn state (entry.Bind door path answer) other thing queue service waits apart is = cc
 out_of_turn state (entry.Poll wait items answer) other thing queue service waits apart is = cc
 out_of_turn state (entry.Accept door answer) other thing queue service waits apart is =
-    ap (λ (t : Thing). is_thing t (first_servable state queue)) (same_thing-true (Accept door) thing service)
+    ap (λ (t : Thing). option_map_or (same_thing t) (first_servable state queue) false) (same_thing-true (Accept door) thing service)
     ∙ not_first state other thing queue waits apart is
 out_of_turn state (entry.Read port room bytes answer) other thing queue service waits apart is =
-    ap (λ (t : Thing). is_thing t (first_servable state queue)) (same_thing-true (Read port) thing service)
+    ap (λ (t : Thing). option_map_or (same_thing t) (first_servable state queue) false) (same_thing-true (Read port) thing service)
     ∙ not_first state other thing queue waits apart is
 out_of_turn state (entry.Write port offered answer) other thing queue service waits apart is =
-    ap (λ (t : Thing). is_thing t (first_servable state queue)) (same_thing-true (Write port) thing service)
+    ap (λ (t : Thing). option_map_or (same_thing t) (first_servable state queue) false) (same_thing-true (Write port) thing service)
     ∙ not_first state other thing queue waits apart is
 out_of_turn state (entry.Close port answer) other thing queue service waits apart is = cc
 out_of_turn state (entry.Start job answer) other thing queue service waits apart is = cc

@@ -1,11 +1,12 @@
 -- One thing stands before another in a queue.
 use Rattle.std.proofs.Common.{◌≡◌, ◌∙◌, Bool, true, false, List, [], ◌∷◌, ◌++◌, Some, refl, sym, ap, cond, not, ◌&&◌, ◌||◌, if◌then◌else◌}
+use Rattle.std.specs.Option.{option_map_or}
 use Rattle.std.specs.List.{filter}
 use Rattle.agent_model.specs.State.{State}
 use Rattle.loop_model.specs.Servable.{is_servable}
-use Rattle.loop_model.specs.Things.{Hot, same_thing, set_of}
+use Rattle.loop_model.specs.Things.{same_thing, set_of}
 use Rattle.loop_model.specs.declared.thing.Thing.{Thing}
-use Rattle.loop_model.specs.Queues.{dropped, first_servable, is_thing}
+use Rattle.loop_model.specs.Queues.{dropped, first_servable}
 use Rattle.loop_model.proofs.AsideLemmas.{set_of-dropped}
 use Rattle.loop_model.proofs.TestLemmas.{and_both, not_true}
 use Rattle.loop_model.proofs.ThingLemmas.{false_by, same_thing-refl, same_thing-true}
@@ -114,7 +115,7 @@ ahead_filter test other thing (first ∷ queue) able is =
 
 pub gone_at : (thing : Thing) (queue : List Thing) → set_of (dropped thing queue) thing ≡ false
 gone_at thing queue =
-    ap (λ (hot : Hot). hot thing) (set_of-dropped thing queue)
+    ap (λ (hot : Thing → Bool). hot thing) (set_of-dropped thing queue)
     ∙ ap (λ (b : Bool). not b && set_of queue thing) (same_thing-refl thing)
 
 pub left_ahead : (other thing third : Thing) (queue : List Thing) → same_thing third thing ≡ true
@@ -142,8 +143,8 @@ not_first_by : (able here : Bool) (state : State) (other thing first : Thing) (q
     → is_servable state first ≡ able → same_thing first other ≡ here → is_servable state other ≡ true
     → same_thing thing other ≡ false
     → (if here then true else (not (same_thing first thing) && ahead other thing queue)) ≡ true
-    → (ahead other thing queue ≡ true → is_thing thing (first_servable state queue) ≡ false)
-    → is_thing thing (if able then Some first else first_servable state queue) ≡ false
+    → (ahead other thing queue ≡ true → option_map_or (same_thing thing) (first_servable state queue) false ≡ false)
+    → option_map_or (same_thing thing) (if able then Some first else first_servable state queue) false ≡ false
 not_first_by true true state other thing first queue able here waits apart is rest =
     apart_sym thing other first apart here
 not_first_by true false state other thing first queue able here waits apart is rest =
@@ -158,7 +159,7 @@ not_first_by false false state other thing first queue able here waits apart is 
 pub not_first : (state : State) (other thing : Thing) (queue : List Thing)
     → is_servable state other ≡ true
     → same_thing thing other ≡ false → ahead other thing queue ≡ true
-    → is_thing thing (first_servable state queue) ≡ false
+    → option_map_or (same_thing thing) (first_servable state queue) false ≡ false
 not_first state other thing [] waits apart is = cc
 not_first state other thing (first ∷ queue) waits apart is =
     not_first_by (is_servable state first)

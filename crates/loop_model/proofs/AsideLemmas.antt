@@ -1,5 +1,5 @@
 -- Lists and sets of things, and what is set aside.
-use Rattle.std.proofs.Common.{◌≡◌, ◌∙◌, ℕ, Bool, true, false, List, [], ◌∷◌, ◌++◌, refl, sym, ap, cond, not, ◌&&◌, ◌||◌, ◌==◌, if◌then◌else◌, arith}
+use Rattle.std.proofs.Common.{◌≡◌, ◌∙◌, ℕ, Bool, true, false, List, [], ◌∷◌, ◌++◌, refl, sym, ap, cond, not, ◌&&◌, ◌||◌, ◌==◌, if◌then◌else◌, arith, map}
 use Rattle.std.proofs.lemmas.Bool.Decides.{nat_tests}
 use Rattle.std.specs.List.{filter}
 use Rattle.world_ports.specs.declared.events.Door.{Door}
@@ -7,10 +7,10 @@ use Rattle.lists.specs.Rising.{is_among}
 use Rattle.lists.proofs.RisingLemmas.{is_among-inserted}
 use Rattle.agent_model.specs.State.{State}
 use Rattle.loop_model.specs.Servable.{is_servable}
-use Rattle.loop_model.specs.Things.{Hot, same_door, same_thing, set_of}
+use Rattle.loop_model.specs.Things.{same_door, same_thing, set_of}
 use Rattle.loop_model.specs.declared.thing.Thing.{Thing}
 use Rattle.loop_model.specs.declared.thing.Thing.TheVariants.{Accept, Read, Write}
-use Rattle.loop_model.specs.Aside.{Aside, accepts_of, put_aside, reads_of, still_aside, taken_back, things_aside, writes_of}
+use Rattle.loop_model.specs.Aside.{Aside, put_aside, still_aside, taken_back, things_aside}
 use Rattle.loop_model.specs.Queues.{dropped}
 use Rattle.loop_model.proofs.TestLemmas.{or_assoc}
 use Rattle.loop_model.proofs.ThingLemmas.{cooled, heated, same_thing-true}
@@ -34,7 +34,7 @@ kept_by false true rest test is = refl
 kept_by false false rest test is = refl
 
 -- sets that hold of the same things are one
-pub same_sets : (hot other : Hot) → ((thing : Thing) → hot thing ≡ other thing) → hot ≡ other
+pub same_sets : (hot other : Thing → Bool) → ((thing : Thing) → hot thing ≡ other thing) → hot ≡ other
 same_sets hot other same = λ i thing. same thing i
 
 -- ---- the set of a list
@@ -64,27 +64,27 @@ set_of-filter test (other ∷ things) thing =
 
 -- ---- what is set aside, by kind
 
-pub accepts-read : (doors : List Door) (port : ℕ) → set_of (accepts_of doors) (Read port) ≡ false
+pub accepts-read : (doors : List Door) (port : ℕ) → set_of (map Accept doors) (Read port) ≡ false
 accepts-read [] port = refl
 accepts-read (door ∷ doors) port = accepts-read doors port
 
-pub accepts-write : (doors : List Door) (port : ℕ) → set_of (accepts_of doors) (Write port) ≡ false
+pub accepts-write : (doors : List Door) (port : ℕ) → set_of (map Accept doors) (Write port) ≡ false
 accepts-write [] port = refl
 accepts-write (door ∷ doors) port = accepts-write doors port
 
-pub reads-accept : (ports : List ℕ) (door : Door) → set_of (reads_of ports) (Accept door) ≡ false
+pub reads-accept : (ports : List ℕ) (door : Door) → set_of (map Read ports) (Accept door) ≡ false
 reads-accept [] door = refl
 reads-accept (other ∷ ports) door = reads-accept ports door
 
-pub reads-write : (ports : List ℕ) (port : ℕ) → set_of (reads_of ports) (Write port) ≡ false
+pub reads-write : (ports : List ℕ) (port : ℕ) → set_of (map Read ports) (Write port) ≡ false
 reads-write [] port = refl
 reads-write (other ∷ ports) port = reads-write ports port
 
-writes-accept : (ports : List ℕ) (door : Door) → set_of (writes_of ports) (Accept door) ≡ false
+writes-accept : (ports : List ℕ) (door : Door) → set_of (map Write ports) (Accept door) ≡ false
 writes-accept [] door = refl
 writes-accept (other ∷ ports) door = writes-accept ports door
 
-writes-read : (ports : List ℕ) (port : ℕ) → set_of (writes_of ports) (Read port) ≡ false
+writes-read : (ports : List ℕ) (port : ℕ) → set_of (map Write ports) (Read port) ≡ false
 writes-read [] port = refl
 writes-read (other ∷ ports) port = writes-read ports port
 
@@ -92,34 +92,34 @@ same_number : (a b : ℕ) → (a == b) ≡ (b == a)
 same_number a b = grind (arith, nat_tests)
 
 pub reads-read : (ports : List ℕ) (port : ℕ)
-    → set_of (reads_of ports) (Read port) ≡ is_among port ports
+    → set_of (map Read ports) (Read port) ≡ is_among port ports
 reads-read [] port = refl
 reads-read (other ∷ ports) port =
-    ap (λ (b : Bool). b || set_of (reads_of ports) (Read port)) (same_number other port)
+    ap (λ (b : Bool). b || set_of (map Read ports) (Read port)) (same_number other port)
     ∙ ap (λ (b : Bool). (port == other) || b) (reads-read ports port)
 
 pub writes-write : (ports : List ℕ) (port : ℕ)
-    → set_of (writes_of ports) (Write port) ≡ is_among port ports
+    → set_of (map Write ports) (Write port) ≡ is_among port ports
 writes-write [] port = refl
 writes-write (other ∷ ports) port =
-    ap (λ (b : Bool). b || set_of (writes_of ports) (Write port)) (same_number other port)
+    ap (λ (b : Bool). b || set_of (map Write ports) (Write port)) (same_number other port)
     ∙ ap (λ (b : Bool). (port == other) || b) (writes-write ports port)
 
 parts : (aside : Aside) (thing : Thing)
     → set_of (things_aside aside) thing
-    ≡ (set_of (accepts_of aside.doors) thing || (set_of (reads_of aside.reads) thing || set_of (writes_of aside.writes) thing))
+    ≡ (set_of (map Accept aside.doors) thing || (set_of (map Read aside.reads) thing || set_of (map Write aside.writes) thing))
 parts aside thing =
-    set_of-append (accepts_of aside.doors ++ reads_of aside.reads) (writes_of aside.writes) thing
-    ∙ ap (λ (b : Bool). b || set_of (writes_of aside.writes) thing) (set_of-append (accepts_of aside.doors) (reads_of aside.reads) thing)
-    ∙ or_assoc (set_of (accepts_of aside.doors) thing) (set_of (reads_of aside.reads) thing) (set_of (writes_of aside.writes) thing)
+    set_of-append (map Accept aside.doors ++ map Read aside.reads) (map Write aside.writes) thing
+    ∙ ap (λ (b : Bool). b || set_of (map Write aside.writes) thing) (set_of-append (map Accept aside.doors) (map Read aside.reads) thing)
+    ∙ or_assoc (set_of (map Accept aside.doors) thing) (set_of (map Read aside.reads) thing) (set_of (map Write aside.writes) thing)
 
 -- a listener, a port to read or one to write to is set aside where it is among those
 pub aside-accept : (aside : Aside) (door : Door)
-    → set_of (things_aside aside) (Accept door) ≡ set_of (accepts_of aside.doors) (Accept door)
+    → set_of (things_aside aside) (Accept door) ≡ set_of (map Accept aside.doors) (Accept door)
 aside-accept aside door =
     parts aside (Accept door)
-    ∙ by_parts (set_of (accepts_of aside.doors) (Accept door)) (set_of (reads_of aside.reads) (Accept door))
-    (set_of (writes_of aside.writes) (Accept door))
+    ∙ by_parts (set_of (map Accept aside.doors) (Accept door)) (set_of (map Read aside.reads) (Accept door))
+    (set_of (map Write aside.writes) (Accept door))
     (reads-accept aside.reads door) (writes-accept aside.writes door)
   where
     by_parts : (a b c : Bool) → b ≡ false → c ≡ false → (a || (b || c)) ≡ a
@@ -130,8 +130,8 @@ pub aside-read : (aside : Aside) (port : ℕ)
     → set_of (things_aside aside) (Read port) ≡ is_among port aside.reads
 aside-read aside port =
     parts aside (Read port)
-    ∙ by_parts (set_of (accepts_of aside.doors) (Read port)) (set_of (reads_of aside.reads) (Read port))
-    (set_of (writes_of aside.writes) (Read port))
+    ∙ by_parts (set_of (map Accept aside.doors) (Read port)) (set_of (map Read aside.reads) (Read port))
+    (set_of (map Write aside.writes) (Read port))
     (accepts-read aside.doors port) (writes-read aside.writes port)
     ∙ reads-read aside.reads port
   where
@@ -142,8 +142,8 @@ pub aside-write : (aside : Aside) (port : ℕ)
     → set_of (things_aside aside) (Write port) ≡ is_among port aside.writes
 aside-write aside port =
     parts aside (Write port)
-    ∙ by_parts (set_of (accepts_of aside.doors) (Write port)) (set_of (reads_of aside.reads) (Write port))
-    (set_of (writes_of aside.writes) (Write port))
+    ∙ by_parts (set_of (map Accept aside.doors) (Write port)) (set_of (map Read aside.reads) (Write port))
+    (set_of (map Write aside.writes) (Write port))
     (accepts-write aside.doors port) (reads-write aside.reads port)
     ∙ writes-write aside.writes port
   where
@@ -168,18 +168,18 @@ is_among-filter test (other ∷ ports) port =
 
 -- the listeners that a test lets pass, as things
 accepts-filter : (test : Thing → Bool) (doors : List Door)
-    → accepts_of (filter (λ door. test (Accept door)) doors) ≡ filter test (accepts_of doors)
+    → map Accept (filter (λ door. test (Accept door)) doors) ≡ filter test (map Accept doors)
 accepts-filter test [] = refl
 accepts-filter test (door ∷ doors) =
     let rest = accepts-filter test doors in
     grind (arith, nat_tests)
 
 accepts-more : (doors : List Door) (door : Door) (thing : Thing)
-    → set_of (accepts_of (doors ++ door ∷ [])) thing ≡ (same_thing (Accept door) thing || set_of (accepts_of doors) thing)
+    → set_of (map Accept (doors ++ door ∷ [])) thing ≡ (same_thing (Accept door) thing || set_of (map Accept doors) thing)
 accepts-more [] door thing = refl
 accepts-more (first ∷ doors) door thing =
     ap (λ (b : Bool). same_thing (Accept first) thing || b) (accepts-more doors door thing)
-    ∙ swapped (same_thing (Accept first) thing) (same_thing (Accept door) thing) (set_of (accepts_of doors) thing)
+    ∙ swapped (same_thing (Accept first) thing) (same_thing (Accept door) thing) (set_of (map Accept doors) thing)
   where
     swapped : (there here rest : Bool) → (there || (here || rest)) ≡ (here || (there || rest))
     swapped true true rest = refl
@@ -190,7 +190,7 @@ accepts-more (first ∷ doors) door thing =
 
 -- whether a thing is among those of its kind that are set aside
 abbrev aside_at : Aside → Thing → Bool
-aside_at aside (Accept door) = set_of (accepts_of aside.doors) (Accept door)
+aside_at aside (Accept door) = set_of (map Accept aside.doors) (Accept door)
 aside_at aside (Read port) = is_among port aside.reads
 aside_at aside (Write port) = is_among port aside.writes
 
@@ -231,12 +231,12 @@ and_swapped false true = refl
 and_swapped false false = refl
 
 accepts-without : (doors : List Door) (door other : Door)
-    → set_of (accepts_of (filter (λ other. not (same_door door other)) doors)) (Accept other)
-    ≡ (not (same_door door other) && set_of (accepts_of doors) (Accept other))
+    → set_of (map Accept (filter (λ other. not (same_door door other)) doors)) (Accept other)
+    ≡ (not (same_door door other) && set_of (map Accept doors) (Accept other))
 accepts-without doors door other =
     ap (λ (ts : List Thing). set_of ts (Accept other)) (accepts-filter (λ thing. not (same_thing (Accept door) thing)) doors)
-    ∙ set_of-filter (λ thing. not (same_thing (Accept door) thing)) (accepts_of doors) (Accept other)
-    ∙ and_swapped (set_of (accepts_of doors) (Accept other)) (not (same_door door other))
+    ∙ set_of-filter (λ thing. not (same_thing (Accept door) thing)) (map Accept doors) (Accept other)
+    ∙ and_swapped (set_of (map Accept doors) (Accept other)) (not (same_door door other))
 
 without_number : (ports : List ℕ) (port other : ℕ)
     → is_among other (filter (λ other. not (port == other)) ports) ≡ (not (port == other) && is_among other ports)
@@ -278,7 +278,7 @@ set_of-still_aside state aside thing =
         → aside_at (still_aside state aside) thing ≡ (aside_at aside thing && not (is_servable state thing))
     by_kind (Accept door) =
         ap (λ (ts : List Thing). set_of ts (Accept door)) (accepts-filter (λ thing. not (is_servable state thing)) aside.doors)
-        ∙ set_of-filter (λ thing. not (is_servable state thing)) (accepts_of aside.doors) (Accept door)
+        ∙ set_of-filter (λ thing. not (is_servable state thing)) (map Accept aside.doors) (Accept door)
     by_kind (Read port) =
         is_among-filter (λ port. not (is_servable state (Read port))) aside.reads port
     by_kind (Write port) =

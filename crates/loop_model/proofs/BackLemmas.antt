@@ -4,7 +4,7 @@ use Rattle.std.proofs.lemmas.List.{append-nil}
 use Rattle.std.specs.List.{filter}
 use Rattle.agent_model.specs.State.{State}
 use Rattle.loop_model.specs.Servable.{is_servable}
-use Rattle.loop_model.specs.Things.{Hot, same_thing, set_of}
+use Rattle.loop_model.specs.Things.{same_thing, set_of}
 use Rattle.loop_model.specs.declared.thing.Thing.{Thing}
 use Rattle.loop_model.specs.declared.thing.Thing.TheVariants.{Read, Write}
 use Rattle.loop_model.specs.Aside.{Aside, still_aside, taken_back, things_aside}
@@ -70,7 +70,7 @@ kept_by : (same : Bool) (thing other : Thing) (aside : Aside) → same_thing thi
     → (set_of (thing ∷ []) other ≡ true) ⊎ (set_of (things_aside (taken_back thing aside)) other ≡ true)
 kept_by true thing other aside is there = inl (ap (λ (b : Bool). b || false) is)
 kept_by false thing other aside is there =
-    inr (ap (λ (hot : Hot). hot other) (set_of-taken_back thing aside)
+    inr (ap (λ (hot : Thing → Bool). hot other) (set_of-taken_back thing aside)
     ∙ both_and (not (same_thing thing other)) (set_of (things_aside aside) other)
     (false_not (same_thing thing other) is) there)
 
@@ -90,7 +90,7 @@ calls_by true state thing line is =
       };
       left = λ other there.
           (and_both (not (same_thing thing other)) (set_of (things_aside line.aside) other)
-          (sym (ap (λ (hot : Hot). hot other) (set_of-taken_back thing line.aside)) ∙ there)).1;
+          (sym (ap (λ (hot : Thing → Bool). hot other) (set_of-taken_back thing line.aside)) ∙ there)).1;
       kept = λ other there. kept_by (same_thing thing other) thing other line.aside refl there;
     }
 calls_by false state thing line is = calls-none state line

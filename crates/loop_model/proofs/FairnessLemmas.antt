@@ -1,5 +1,6 @@
 -- What waits is overtaken by nothing that was served since.
 use Rattle.std.proofs.Common.{◌≡◌, ◌∙◌, Bool, true, false, List, [], ◌∷◌, ◌++◌, Option, Some, None, refl, sym, ap, ◌||◌}
+use Rattle.std.specs.Option.{option_map_or}
 use Rattle.std.specs.Prelude.{option_and_then}
 use Rattle.std.specs.List.{list_any}
 use Rattle.world_ports.specs.declared.entry.Entry.{Entry}
@@ -8,7 +9,7 @@ use Rattle.loop_model.specs.Servable.{is_servable}
 use Rattle.loop_model.specs.Things.{same_thing, set_of}
 use Rattle.loop_model.specs.declared.thing.Thing.{Thing}
 use Rattle.loop_model.specs.Aside.{things_aside}
-use Rattle.loop_model.specs.Fairness.{if_any, is_service, is_waiting, waits_on}
+use Rattle.loop_model.specs.Fairness.{is_service, is_waiting, waits_on}
 use Rattle.loop_model.specs.Lines.{IsQuiet, hot_of}
 use Rattle.loop_model.proofs.AsideLemmas.{set_of-append}
 use Rattle.loop_model.proofs.QuietLemmas.{quiet_taken}
@@ -39,12 +40,12 @@ waiting_at_once : (other : Thing) (reading : LoopState) (entries : List Entry)
     → is_waiting other reading ≡ true
 waiting_at_once other reading [] waits = waits
 waiting_at_once other reading (next ∷ later) waits =
-    (and_both (is_waiting other reading) (if_any (λ after. waits_on other after later) (after_if_legal reading next)) waits).0
+    (and_both (is_waiting other reading) (option_map_or (λ after. waits_on other after later) (after_if_legal reading next) true) waits).0
 
 between_by : (served : Bool) (found : Option LoopState) (other thing : Thing) (reading to : LoopState) (next last : Entry)
     (later : List Entry) → is_service other next ≡ served → after_if_legal reading next ≡ found
     → option_and_then (λ after. after_entries after (later ++ last ∷ [])) found ≡ Some to → is_waiting other reading ≡ true
-    → if_any (λ after. waits_on other after later) found ≡ true → IsQuiet reading.state reading.line
+    → option_map_or (λ after. waits_on other after later) found true ≡ true → IsQuiet reading.state reading.line
     → ahead other thing reading.line.queue ≡ true
     → ((after : LoopState) → IsQuiet after.state after.line → ahead other thing after.line.queue ≡ true
     → after_entries after (later ++ last ∷ []) ≡ Some to → waits_on other after later ≡ true
@@ -85,7 +86,7 @@ between other thing reading to [] last service apart quiet first legal waits =
     absurd (never_last other thing reading to last service apart quiet first waits legal)
 between other thing reading to (next ∷ later) last service apart quiet first legal waits =
     let both = and_both (is_waiting other reading)
-    (if_any (λ after. waits_on other after later) (after_if_legal reading next)) waits in
+    (option_map_or (λ after. waits_on other after later) (after_if_legal reading next) true) waits in
     between_by (is_service other next)
     (after_if_legal reading next) other thing reading to next last later refl refl legal both.0 both.1 quiet first
     (λ after quiet_there ahead_there legal_there waits_there.
@@ -95,7 +96,7 @@ since_by : (found : Option LoopState) (from to : LoopState) (thing other : Thing
     (entries : List Entry) → after_if_legal from first ≡ found → IsQuiet from.state from.line
     → option_and_then (λ after. after_entries after (entries ++ last ∷ [])) found ≡ Some to → is_service thing first ≡ true
     → is_service thing last ≡ true → same_thing thing other ≡ false
-    → if_any (λ after. waits_on other after entries) found ≡ true → list_any (is_service other) entries ≡ true
+    → option_map_or (λ after. waits_on other after entries) found true ≡ true → list_any (is_service other) entries ≡ true
 since_by None from to thing other first last entries is quiet legal service again apart waits = cc
 since_by (Some after) from to thing other first last entries is quiet legal service again apart waits =
     let there = leads from after first is in
@@ -112,7 +113,7 @@ since_by (Some after) from to thing other first last entries is quiet legal serv
 pub served_between : (from to : LoopState) (thing other : Thing) (first last : Entry) (entries : List Entry)
     → IsQuiet from.state from.line → after_entries from (first ∷ (entries ++ last ∷ [])) ≡ Some to
     → is_service thing first ≡ true → is_service thing last ≡ true → same_thing thing other ≡ false
-    → if_any (λ after. waits_on other after entries) (after_if_legal from first) ≡ true
+    → option_map_or (λ after. waits_on other after entries) (after_if_legal from first) true ≡ true
     → list_any (is_service other) entries ≡ true
 served_between from to thing other first last entries quiet legal service again apart waits =
     since_by (after_if_legal from first) from to thing other first last entries refl quiet legal service again apart waits

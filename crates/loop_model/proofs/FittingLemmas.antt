@@ -1,5 +1,6 @@
 -- The events of a legal journal fit, and have the numbers of their types where the entries have.
 use Rattle.std.proofs.Common.{◌≡◌, ◌∙◌, ℕ, ◌<◌, ◌≤◌, Bool, true, false, List, [], ◌∷◌, ◌++◌, length, Option, Some, None, Ok, Err, ◌==◌, ◌&&◌, refl, sym, ap, subst, if◌then◌else◌, nat_le, nat_lt, arith}
+use Rattle.std.specs.Option.{option_map_or}
 use Rattle.std.specs.Prelude.{IsSome, option_and_then}
 use Rattle.std.specs.Str.{bytes_eq}
 use Rattle.std.specs.Cmp.Lexicographic.{bytes_decides}
@@ -18,12 +19,13 @@ use Rattle.agent_model.specs.Events.{Happening, Timed}
 use Rattle.agent_model.specs.Runs.{AllFit, AreInRange, IsInRange, run}
 use Rattle.agent_model.specs.State.{Fits, Port, State, find_port, find_to_start, is_some_bytes, owed_by, owed_of, starts, wants_by}
 use Rattle.agent_model.specs.Step.{step}
-use Rattle.loop_model.specs.Dues.{Closing, Due, Free, Nothing, NowFor, Polling, closes_later, due_event, due_look, due_of, is_free}
+use Rattle.loop_model.specs.Dues.{Closing, Due, Free, Nothing, NowFor, Polling, due_after, due_look, due_of, is_free}
 use Rattle.loop_model.specs.Fitting.{AreOfOneRead, AreTyped, IsMoment, IsOfOneRead, IsTyped, OfDue, journal_events}
 use Rattle.loop_model.specs.LegalJournal.{LoopState, after_entries, after_entry, after_if_legal, closed_by, comes_next, events_brought, in_state, is_first_job, is_read, is_taken, same_kind}
 use Rattle.loop_model.specs.Lines.{Line, is_idle}
-use Rattle.loop_model.specs.Queues.{first_servable, is_next, is_thing}
+use Rattle.loop_model.specs.Queues.{first_servable, is_next}
 use Rattle.loop_model.specs.Servable.{is_servable}
+use Rattle.loop_model.specs.Things.{same_thing}
 use Rattle.loop_model.specs.declared.thing.Thing.{Thing}
 use Rattle.loop_model.specs.declared.thing.Thing.TheVariants.{Accept, Read, Write}
 use Rattle.loop_model.proofs.JournalLemmas.{in_turn, leads}
@@ -35,7 +37,7 @@ use Rattle.loop_model.proofs.ThingLemmas.{same_thing-true}
 servable_by : (test : Bool) (state : State) (first : Thing) (queue : List Thing) (thing : Thing)
     → is_servable state first ≡ test
     → (is_next state queue thing ≡ true → is_servable state thing ≡ true)
-    → is_thing thing (if test then Some first else first_servable state queue) ≡ true
+    → option_map_or (same_thing thing) (if test then Some first else first_servable state queue) false ≡ true
     → is_servable state thing ≡ true
 servable_by true state first queue thing is rest next =
     ap (is_servable state) (same_thing-true thing first next) ∙ is
@@ -136,13 +138,16 @@ of_look IsSo [] true = tt
 of_look IsSo [] false = tt
 of_look IsSo (port ∷ later) idle = tt
 
-of_event : (IsSo : Happening → Type 0) (due : Due) (closes : List ℕ) (idle : Bool)
-    → OfDue IsSo (due_event due closes idle)
-of_event IsSo Free closes idle = of_look IsSo closes idle
-of_event IsSo (NowFor event) closes idle = of_closes IsSo closes
-of_event IsSo (Closing port later) closes idle = tt
-of_event IsSo Polling closes idle = tt
-of_event IsSo Nothing closes idle = tt
+of_close : (IsSo : Happening → Type 0) (due : Due) (closes : List ℕ) (idle : Bool) (port : ℕ)
+    → OfDue IsSo (due_after due closes idle (entry.Close port (Ok tt)))
+of_close IsSo (Closing number later) closes idle port = of_closes IsSo later
+of_close IsSo due closes idle port = tt
+
+of_event : (IsSo : Happening → Type 0) (due : Due) (closes : List ℕ) (idle : Bool) (moment : Moment)
+    → OfDue IsSo (due_after due closes idle (entry.Now (Ok moment)))
+of_event IsSo Free closes idle moment = of_look IsSo closes idle
+of_event IsSo (NowFor event) closes idle moment = of_closes IsSo closes
+of_event IsSo due closes idle moment = tt
 
 -- any call that may come leaves an event due that may come
 due_after_call : (reading : LoopState) (next : Entry) → comes_next reading next ≡ true
@@ -177,7 +182,9 @@ due_after_call reading (entry.Write port offered (Err Failed)) may =
     let able = next_is_servable reading.state reading.line.queue (Write port) (in_turn reading (entry.Write port offered (Err Failed)) may) in
     record { fits = owed_is_open (find_port port reading.state.ports) reading.state able; read = tt }
 due_after_call reading (entry.Write port offered (Err Memory)) may = tt
-due_after_call reading (entry.Close port (Ok unit)) may = of_closes _ (closes_later reading.due)
+due_after_call reading (entry.Close port (Ok unit)) may =
+    let after = after_entry reading (entry.Close port (Ok unit)) in
+    of_close _ reading.due [] (is_idle after.state after.line) port
 due_after_call reading (entry.Close port (Err want)) may = tt
 due_after_call reading (entry.Start job (Ok ticket)) may =
     let first = (and_both (is_free reading.due) (is_first_job job (starts reading.state)) may).1 in
@@ -187,7 +194,7 @@ due_after_call reading (entry.Start job (Err Failed)) may =
     record { fits = job_found job (starts reading.state) first; read = tt }
 due_after_call reading (entry.Start job (Err Memory)) may = tt
 due_after_call reading (entry.Now (Ok moment)) may =
-    of_event _ reading.due (closed_by reading.state (events_brought reading.due (entry.Now (Ok moment)))) (is_idle (after_entry reading (entry.Now (Ok moment))).state (after_entry reading (entry.Now (Ok moment))).line)
+    of_event _ reading.due (closed_by reading.state (events_brought reading.due (entry.Now (Ok moment)))) (is_idle (after_entry reading (entry.Now (Ok moment))).state (after_entry reading (entry.Now (Ok moment))).line) moment
 due_after_call reading (entry.Now (Err want)) may = tt
 
 -- ---- what a call brings
@@ -312,13 +319,15 @@ typed_due reading (entry.Write port offered (Ok (wrote.Took n))) typed may =
 typed_due reading (entry.Write port offered (Ok wrote.NotNow)) typed may = tt
 typed_due reading (entry.Write port offered (Err Failed)) typed may = typed.0
 typed_due reading (entry.Write port offered (Err Memory)) typed may = tt
-typed_due reading (entry.Close port (Ok unit)) typed may = of_closes _ (closes_later reading.due)
+typed_due reading (entry.Close port (Ok unit)) typed may =
+    let after = after_entry reading (entry.Close port (Ok unit)) in
+    of_close _ reading.due [] (is_idle after.state after.line) port
 typed_due reading (entry.Close port (Err want)) typed may = tt
 typed_due reading (entry.Start job (Ok ticket)) typed may = (typed.0, typed.1.bytes, typed.1.size)
 typed_due reading (entry.Start job (Err Failed)) typed may = typed.0
 typed_due reading (entry.Start job (Err Memory)) typed may = tt
 typed_due reading (entry.Now (Ok moment)) typed may =
-    of_event _ reading.due (closed_by reading.state (events_brought reading.due (entry.Now (Ok moment)))) (is_idle (after_entry reading (entry.Now (Ok moment))).state (after_entry reading (entry.Now (Ok moment))).line)
+    of_event _ reading.due (closed_by reading.state (events_brought reading.due (entry.Now (Ok moment)))) (is_idle (after_entry reading (entry.Now (Ok moment))).state (after_entry reading (entry.Now (Ok moment))).line) moment
 typed_due reading (entry.Now (Err want)) typed may = tt
 
 now-range : (due : Due) (moment : Moment) → IsMoment moment → OfDue IsInRange due

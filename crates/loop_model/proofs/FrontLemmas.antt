@@ -1,5 +1,6 @@
 -- Fronts of legal journals, and where a poll may come.
-use Rattle.std.proofs.Common.{◌≡◌, ℕ, Bool, true, false, List, [], ◌∷◌, ◌++◌, Option, Some, None, Result, Ok, Err, refl, subst}
+use Rattle.std.proofs.Common.{◌≡◌, ℕ, Bool, true, false, List, [], ◌∷◌, ◌++◌, Option, Some, None, Result, Ok, Err, refl, subst, nat_eq}
+use Rattle.std.specs.Option.{option_eq}
 use Rattle.std.specs.Prelude.{option_and_then}
 use Rattle.world_ports.specs.declared.answers.Accepted.TheVariants as accepted
 use Rattle.world_ports.specs.declared.answers.Got.TheVariants as got
@@ -11,8 +12,9 @@ use Rattle.world_ports.specs.declared.answers.WorldFault.TheVariants.{Failed, Me
 use Rattle.world_ports.specs.declared.answers.Wrote.TheVariants as wrote
 use Rattle.world_ports.specs.declared.entry.Entry.{Entry}
 use Rattle.world_ports.specs.declared.entry.Entry.TheVariants as entry
+use Rattle.world_ports.specs.declared.events.Moment.{Moment}
 use Rattle.agent_model.specs.State.{State}
-use Rattle.loop_model.specs.Dues.{Closing, Due, Free, Nothing, NowFor, Polling, closes_later, due_event, due_look, due_of, is_polling, same_wait, wait_of}
+use Rattle.loop_model.specs.Dues.{Closing, Due, Free, Nothing, NowFor, Polling, due_after, due_look, due_of, is_polling, wait_of}
 use Rattle.loop_model.specs.Fronts.{HasFront, IsAtRest, RestsAfter}
 use Rattle.loop_model.specs.LegalJournal.{LoopState, after_entries, after_entry, after_if_legal, closed_by, comes_next, events_brought, in_state}
 use Rattle.loop_model.specs.Lines.{Line, is_idle}
@@ -59,13 +61,16 @@ well_look [] true state line idle = idle
 well_look [] false state line idle = tt
 well_look (port ∷ later) idle state line is = tt
 
-well_event : (due : Due) (closes : List ℕ) (state : State) (line : Line)
-    → Rests (due_event due closes (is_idle state line)) state line
-well_event Free closes state line = well_look closes (is_idle state line) state line refl
-well_event (NowFor event) closes state line = well_due closes state line
-well_event (Closing port later) closes state line = tt
-well_event Polling closes state line = tt
-well_event Nothing closes state line = tt
+well_close : (due : Due) (closes : List ℕ) (idle : Bool) (port : ℕ) (state : State) (line : Line)
+    → Rests (due_after due closes idle (entry.Close port (Ok tt))) state line
+well_close (Closing number later) closes idle port state line = well_due later state line
+well_close due closes idle port state line = tt
+
+well_event : (due : Due) (closes : List ℕ) (moment : Moment) (state : State) (line : Line)
+    → Rests (due_after due closes (is_idle state line) (entry.Now (Ok moment))) state line
+well_event Free closes moment state line = well_look closes (is_idle state line) state line refl
+well_event (NowFor event) closes moment state line = well_due closes state line
+well_event due closes moment state line = tt
 
 well_led : (reading : LoopState) (next : Entry) → comes_next reading next ≡ true
     → IsWell (after_entry reading next)
@@ -87,14 +92,15 @@ well_led reading (entry.Write port offered (Ok wrote.NotNow)) may = tt
 well_led reading (entry.Write port offered (Err Failed)) may = tt
 well_led reading (entry.Write port offered (Err Memory)) may = tt
 well_led reading (entry.Close port (Ok unit)) may =
-    well_due (closes_later reading.due) reading.state _
+    let after = after_entry reading (entry.Close port (Ok unit)) in
+    well_close reading.due [] (is_idle after.state after.line) port after.state after.line
 well_led reading (entry.Close port (Err want)) may = tt
 well_led reading (entry.Start job (Ok ticket)) may = tt
 well_led reading (entry.Start job (Err Failed)) may = tt
 well_led reading (entry.Start job (Err Memory)) may = tt
 well_led reading (entry.Now (Ok moment)) may =
     let after = after_entry reading (entry.Now (Ok moment)) in
-    well_event reading.due (closed_by reading.state (events_brought reading.due (entry.Now (Ok moment)))) after.state after.line
+    well_event reading.due (closed_by reading.state (events_brought reading.due (entry.Now (Ok moment)))) moment after.state after.line
 well_led reading (entry.Now (Err want)) may = tt
 
 well_taken : (from after : LoopState) (next : Entry) → after_if_legal from next ≡ Some after
@@ -133,7 +139,7 @@ rests_taken : (found : Option LoopState) (reading to : LoopState) (wait : Option
 rests_taken None reading to wait items answer later is well legal = cc
 rests_taken (Some after) reading to wait items answer later is well legal =
     rests_by reading.due reading.state reading.line
-    (and_both (is_polling reading.due) (same_wait wait (wait_of reading.state))
+    (and_both (is_polling reading.due) (option_eq nat_eq wait (wait_of reading.state))
     (leads reading after (entry.Poll wait items answer) is).comes).0 well
 
 pub rests_after : (state : State) (line : Line) (to : LoopState) (first later : List Entry) (wait : Option ℕ)

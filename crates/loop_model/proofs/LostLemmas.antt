@@ -12,7 +12,7 @@ use Rattle.loop_model.specs.Aside.{Aside, put_aside, taken_back, things_aside}
 use Rattle.loop_model.specs.Elsewhere.{stands}
 use Rattle.loop_model.specs.Lines.{Line, after_event, all_aside, gone_aside, is_stuck, placed, recalled, returned, settled}
 use Rattle.loop_model.specs.Servable.{is_servable}
-use Rattle.loop_model.specs.Things.{Hot, same_thing, set_of}
+use Rattle.loop_model.specs.Things.{same_thing, set_of}
 use Rattle.loop_model.specs.declared.thing.Thing.{Thing}
 use Rattle.loop_model.specs.declared.thing.Thing.TheVariants.{Read, Write}
 use Rattle.loop_model.proofs.AddingLemmas.{adds-returned}
@@ -44,13 +44,13 @@ all-stays : (things : List Thing) (aside : Aside) (thing : Thing)
 all-stays [] aside thing there = there
 all-stays (first ∷ things) aside thing there =
     all-stays things (put_aside first aside) thing
-    (ap (λ (hot : Hot). hot thing) (set_of-put_aside first aside)
+    (ap (λ (hot : Thing → Bool). hot thing) (set_of-put_aside first aside)
     ∙ or_right (same_thing first thing) (set_of (things_aside aside) thing) there)
 
 taken-stays : (gone : Thing) (aside : Aside) (thing : Thing) → same_thing gone thing ≡ false
     → set_of (things_aside aside) thing ≡ true → set_of (things_aside (taken_back gone aside)) thing ≡ true
 taken-stays gone aside thing apart there =
-    ap (λ (hot : Hot). hot thing) (set_of-taken_back gone aside)
+    ap (λ (hot : Thing → Bool). hot thing) (set_of-taken_back gone aside)
     ∙ both_and (not (same_thing gone thing)) (set_of (things_aside aside) thing) (false_not (same_thing gone thing) apart)
     there
 

@@ -10,12 +10,13 @@ use Rattle.world_ports.specs.declared.answers.Spot.TheVariants as spot
 use Rattle.world_ports.specs.declared.entry.Entry.{Entry}
 use Rattle.world_ports.specs.declared.entry.Entry.TheVariants as entry
 use Rattle.agent_model.specs.State.{State, is_open}
-use Rattle.loop_model.specs.Calls.{hand_of}
-use Rattle.loop_model.specs.Dues.{Due, own_port}
+use Rattle.agent_model.specs.Step.{step}
+use Rattle.loop_model.specs.Calls.{served_of}
+use Rattle.loop_model.specs.Dues.{Due, NowFor, port_of}
 use Rattle.loop_model.specs.Elsewhere.{stands}
 use Rattle.loop_model.specs.LegalJournal.{LoopState, after_entries, after_entry, after_if_legal, closed_by, events_brought, in_state}
 use Rattle.loop_model.specs.Servable.{is_servable}
-use Rattle.loop_model.specs.Things.{Hot, same_thing, set_of}
+use Rattle.loop_model.specs.Things.{same_thing, set_of}
 use Rattle.loop_model.specs.declared.thing.Thing.{Thing}
 use Rattle.loop_model.specs.declared.thing.Thing.TheVariants.{Accept, Read, Write}
 use Rattle.loop_model.specs.Aside.{Aside, put_aside, things_aside}
@@ -36,7 +37,7 @@ still-put_aside : (state : State) (thing : Thing) (aside : Aside) → is_servabl
     → IsStill state aside → IsStill state (put_aside thing aside)
 still-put_aside state thing aside never still other there =
     elim (or_either (same_thing thing other) (set_of (things_aside aside) other)
-    (sym (ap (λ (hot : Hot). hot other) (set_of-put_aside thing aside)) ∙ there)) [
+    (sym (ap (λ (hot : Thing → Bool). hot other) (set_of-put_aside thing aside)) ∙ there)) [
       | inl same ↦ ap (is_servable state) (sym (same_thing-true thing other same)) ∙ never
       | inr before ↦ still other before
     ]
@@ -159,7 +160,7 @@ listed-hand : (state : State) (thing : Thing) (queue : List Thing) → IsListed 
     → IsListed state (dropped thing queue)
 listed-hand state thing queue listed other there =
     listed other (and_both (not (same_thing thing other)) (set_of queue other)
-    (sym (ap (λ (hot : Hot). hot other) (set_of-dropped thing queue)) ∙ there)).1
+    (sym (ap (λ (hot : Thing → Bool). hot other) (set_of-dropped thing queue)) ∙ there)).1
 
 -- what placing a thing, taking it in hand and the mark of a client keep, and every event brings, an entry keeps
 holds_led : (Holds : State → Line → Type 0)
@@ -186,9 +187,12 @@ holds_led Holds place hand mark ordered state line due (entry.Write port offered
     hand state (Write port) line holds
 holds_led Holds place hand mark ordered state line due (entry.Close port answer) holds = holds
 holds_led Holds place hand mark ordered state line due (entry.Start job answer) holds = holds
+holds_led Holds place hand mark ordered state line (NowFor event) (entry.Now (Ok moment)) holds =
+    let left = (after_entry (in_state state line (NowFor event)) (entry.Now (Ok moment))).state in
+    ordered left _ (ordered-event left (step state moment event).closes (port_of event left.last_port) (served_of event) line)
 holds_led Holds place hand mark ordered state line due (entry.Now (Ok moment)) holds =
     let left = (after_entry (in_state state line due) (entry.Now (Ok moment))).state in
-    ordered left _ (ordered-event left (closed_by state (events_brought due (entry.Now (Ok moment)))) (own_port due left.last_port) (hand_of due) line)
+    ordered left _ (ordered-event left (closed_by state (events_brought due (entry.Now (Ok moment)))) None None line)
 holds_led Holds place hand mark ordered state line due (entry.Now (Err want)) holds = holds
 
 -- ---- after any entries

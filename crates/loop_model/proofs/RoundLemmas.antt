@@ -1,5 +1,6 @@
 -- A turn of the list: what is served stood first, the others keep their order, and it stands last where it can be served.
 use Rattle.std.proofs.Common.{◌≡◌, ◌∙◌, ℕ, Bool, true, false, List, [], ◌∷◌, ◌++◌, Option, Some, None, refl, sym, ap, cond, is_some, not, ◌&&◌, ◌||◌, if◌then◌else◌}
+use Rattle.std.specs.Option.{option_map_or}
 use Rattle.std.proofs.lemmas.List.{append-nil}
 use Rattle.std.specs.List.{filter}
 use Rattle.agent_model.specs.State.{Port, State, UnderWay, find_port, is_some_bytes, owed_by, wants_by}
@@ -11,7 +12,7 @@ use Rattle.loop_model.specs.declared.thing.Thing.{Thing}
 use Rattle.loop_model.specs.declared.thing.Thing.TheVariants.{Accept, Read, Write}
 use Rattle.loop_model.specs.Fairness.{GoesRound, KeepsOrder, only_if}
 use Rattle.loop_model.specs.Lines.{IsExact, IsListed, IsOrdered, Line, after_event, hot_of, recalled, settled}
-use Rattle.loop_model.specs.Queues.{AreApart, dropped, first_servable, is_next, is_thing}
+use Rattle.loop_model.specs.Queues.{AreApart, dropped, first_servable, is_next}
 use Rattle.loop_model.proofs.AsideLemmas.{set_of-append, set_of-filter}
 use Rattle.loop_model.proofs.BackLemmas.{comes-recalled}
 use Rattle.loop_model.proofs.FilterLemmas.{absent-dropped, filter_alike}
@@ -205,8 +206,8 @@ first_is state thing [] listed apart next = absurd (cc)
 first_is state thing (first ∷ queue) listed apart next =
     let able : is_servable state first ≡ true =
     listed first (or_left (same_thing first first) (set_of queue first) (same_thing-refl first)) in
-    let found : is_thing thing (first_servable state (first ∷ queue)) ≡ same_thing thing first =
-    ap (λ (b : Bool). is_thing thing (if b then Some first else first_servable state queue)) able in
+    let found : option_map_or (same_thing thing) (first_servable state (first ∷ queue)) false ≡ same_thing thing first =
+    ap (λ (b : Bool). option_map_or (same_thing thing) (if b then Some first else first_servable state queue) false) able in
     let same : thing ≡ first = same_thing-true thing first (sym found ∙ next) in
     let rest : dropped thing (first ∷ queue) ≡ queue =
     ap (λ (t : Thing). dropped t (first ∷ queue)) same

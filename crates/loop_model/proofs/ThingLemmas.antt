@@ -1,18 +1,18 @@
 -- When two things are the same.
-use Rattle.std.proofs.Common.{◌≡◌, true, refl, ap, not, ◌&&◌, ◌||◌}
+use Rattle.std.proofs.Common.{◌≡◌, true, refl, ap, not, ◌&&◌, ◌||◌, Bool}
 use Rattle.std.proofs.lemmas.Bool.Decides.{Decides-eqb}
 use Rattle.world_ports.specs.declared.events.Door.TheVariants.{Clients, Children}
-use Rattle.loop_model.specs.Things.{Hot, same_thing}
+use Rattle.loop_model.specs.Things.{same_thing}
 use Rattle.loop_model.specs.declared.thing.Thing.{Thing}
 use Rattle.loop_model.specs.declared.thing.Thing.TheVariants.{Accept, Read, Write}
 pub use Rattle.std.proofs.lemmas.Bool.{false_from_ne_true as false_by}
 
 -- a set with this thing
-abbrev pub heated : Thing → Hot → Hot
+abbrev pub heated : Thing → (Thing → Bool) → Thing → Bool
 heated thing hot other = same_thing thing other || hot other
 
 -- without it
-abbrev pub cooled : Thing → Hot → Hot
+abbrev pub cooled : Thing → (Thing → Bool) → Thing → Bool
 cooled thing hot other = not (same_thing thing other) && hot other
 
 -- a thing is the same as itself

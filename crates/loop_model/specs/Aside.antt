@@ -1,5 +1,5 @@
 -- What is ready and can't be served, set aside under its door or port (ours).
-use Rattle.std.specs.Prelude.{ℕ, List, [], ◌∷◌, ◌++◌, ◌==◌, not}
+use Rattle.std.specs.Prelude.{ℕ, List, [], ◌∷◌, ◌++◌, ◌==◌, map, not}
 use Rattle.std.specs.List.{filter}
 use Rattle.world_ports.specs.declared.events.Door.{Door}
 use Rattle.lists.specs.Rising.{inserted}
@@ -15,28 +15,9 @@ pub record Aside : Type 0 where
   pub reads : List ℕ
   pub writes : List ℕ
 
--- nothing is set aside
-abbrev pub none_aside : Aside
-none_aside = record { doors = []; reads = []; writes = [] }
-
--- these listeners, and these ports to read or to write to, as things
-abbrev pub accepts_of : List Door → List Thing
-accepts_of [] = []
-accepts_of (door ∷ doors) = Accept door ∷ accepts_of doors
-
--- these ports to be read, as things
-abbrev pub reads_of : List ℕ → List Thing
-reads_of [] = []
-reads_of (port ∷ ports) = Read port ∷ reads_of ports
-
--- these ports to be written to, as things
-abbrev pub writes_of : List ℕ → List Thing
-writes_of [] = []
-writes_of (port ∷ ports) = Write port ∷ writes_of ports
-
 -- all things that are set aside
 abbrev pub things_aside : Aside → List Thing
-things_aside aside = accepts_of aside.doors ++ reads_of aside.reads ++ writes_of aside.writes
+things_aside aside = map Accept aside.doors ++ map Read aside.reads ++ map Write aside.writes
 
 -- what is set aside, with this thing
 abbrev pub put_aside : Thing → Aside → Aside

@@ -1,6 +1,7 @@
 -- Who waits while others are served (ours).
 use Rattle.std.specs.List.{filter}
-use Rattle.std.specs.Prelude.{◌≡◌, Bool, true, false, List, [], ◌∷◌, ◌++◌, Option, Some, None, ◌&&◌}
+use Rattle.std.specs.Option.{option_map_or}
+use Rattle.std.specs.Prelude.{◌≡◌, Bool, true, false, List, [], ◌∷◌, ◌++◌, ◌&&◌}
 use Rattle.world_ports.specs.declared.entry.Entry.{Entry}
 use Rattle.world_ports.specs.declared.entry.Entry.TheVariants as entry
 use Rattle.loop_model.specs.Servable.{is_servable}
@@ -14,14 +15,10 @@ use Rattle.loop_model.specs.Lines.{hot_of}
 
 -- the call serves this thing
 abbrev pub is_service : Thing → Entry → Bool
-is_service thing (entry.Bind door path answer) = false
-is_service thing (entry.Poll wait items answer) = false
 is_service thing (entry.Accept door answer) = same_thing (Accept door) thing
 is_service thing (entry.Read port room bytes answer) = same_thing (Read port) thing
 is_service thing (entry.Write port offered answer) = same_thing (Write port) thing
-is_service thing (entry.Close port answer) = false
-is_service thing (entry.Start job answer) = false
-is_service thing (entry.Now answer) = false
+is_service thing other = false
 
 -- this thing, where the list has it
 abbrev pub only_if : Bool → Thing → List Thing
@@ -47,13 +44,8 @@ pub record GoesRound (thing : Thing) (before after : List Thing) : Type 0 where
 abbrev pub is_waiting : Thing → LoopState → Bool
 is_waiting thing reading = hot_of reading.line thing && is_servable reading.state thing
 
--- a test holds of the reading, where the journal reads
-abbrev pub if_any : (LoopState → Bool) → Option LoopState → Bool
-if_any test None = true
-if_any test (Some reading) = test reading
-
--- the thing is so there, and after each of the entries
+-- the thing is so there, and after each of the entries, as far as the journal reads
 abbrev pub waits_on : Thing → LoopState → List Entry → Bool
 waits_on thing reading [] = is_waiting thing reading
 waits_on thing reading (next ∷ later) =
-    is_waiting thing reading && if_any (λ after. waits_on thing after later) (after_if_legal reading next)
+    is_waiting thing reading && option_map_or (λ after. waits_on thing after later) (after_if_legal reading next) true

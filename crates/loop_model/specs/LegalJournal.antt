@@ -1,6 +1,7 @@
 -- Which journals of a world are legal for the abstract agent, each thing being served in its turn (ours): a fold over
 -- their entries. Read from the end.
-use Rattle.std.specs.Prelude.{ℕ, Bool, true, false, List, [], ◌∷◌, length, Option, Some, None, Result, Ok, Err, ◌==◌, ◌&&◌, nat_le, nat_lt, option_and_then}
+use Rattle.std.specs.Prelude.{ℕ, Bool, true, false, List, [], ◌∷◌, length, Option, Some, None, Result, Ok, Err, ◌==◌, ◌&&◌, nat_eq, nat_le, nat_lt, option_and_then}
+use Rattle.std.specs.Option.{option_eq}
 use Rattle.std.specs.Str.{bytes_eq}
 use Rattle.world_ports.specs.declared.answers.Got.{Got}
 use Rattle.world_ports.specs.declared.answers.Got.TheVariants as got
@@ -10,15 +11,14 @@ use Rattle.world_ports.specs.declared.answers.Wrote.TheVariants as wrote
 use Rattle.world_ports.specs.declared.events.Job.{Job}
 use Rattle.world_ports.specs.declared.events.JobKind.{JobKind}
 use Rattle.world_ports.specs.declared.events.JobKind.TheVariants as kinds
-use Rattle.world_ports.specs.declared.events.Moment.{Moment}
 use Rattle.world_ports.specs.declared.entry.Entry.{Entry}
 use Rattle.world_ports.specs.declared.entry.Entry.TheVariants as entry
-use Rattle.agent_model.specs.Events.{Happening, Timed}
+use Rattle.agent_model.specs.Events.{Tick, Timed}
 use Rattle.agent_model.specs.Runs.{run}
 use Rattle.agent_model.specs.State.{State, owed_of, starts}
 use Rattle.agent_model.specs.Step.{step}
 use Rattle.loop_model.specs.Calls.{moved}
-use Rattle.loop_model.specs.Dues.{Due, due_after, event_due, is_closing, is_free, is_polling, reads_clock, same_wait, wait_of}
+use Rattle.loop_model.specs.Dues.{Due, Free, NowFor, due_after, is_closing, is_free, is_polling, reads_clock, wait_of}
 use Rattle.loop_model.specs.Lines.{Line, is_idle}
 use Rattle.loop_model.specs.Queues.{is_next}
 use Rattle.loop_model.specs.declared.thing.Thing.TheVariants.{Accept, Read, Write}
@@ -39,9 +39,8 @@ in_state state line due = record { state = state; line = line; due = due }
 -- both are of one kind
 abbrev pub same_kind : JobKind → JobKind → Bool
 same_kind kinds.Helper kinds.Helper = true
-same_kind kinds.Helper kinds.Confirm = false
-same_kind kinds.Confirm kinds.Helper = false
 same_kind kinds.Confirm kinds.Confirm = true
+same_kind kind other = false
 
 -- the job is the first of those that wait to be started
 abbrev pub is_first_job : Job → List Job → Bool
@@ -51,21 +50,18 @@ is_first_job job (first ∷ later) = (job.number == first.number) && same_kind j
 -- what was read is as many bytes as the answer says, one at least, and no more than the room
 abbrev pub is_read : ℕ → List ℕ → Result Got WorldFault → Bool
 is_read room bytes (Ok (got.Bytes n)) = (length bytes == n) && (nat_lt 0 n && nat_le n room)
-is_read room bytes (Ok got.End) = true
-is_read room bytes (Ok got.NotNow) = true
-is_read room bytes (Err fault) = true
+is_read room bytes other = true
 
 -- what was taken is one byte at least, and no more than was offered
 abbrev pub is_taken : ℕ → Result Wrote WorldFault → Bool
 is_taken offered (Ok (wrote.Took n)) = nat_lt 0 n && nat_le n offered
-is_taken offered (Ok wrote.NotNow) = true
-is_taken offered (Err fault) = true
+is_taken offered other = true
 
 -- the first thing of the queue that can be served, the first job that waits, or what has to come
 abbrev pub comes_next : LoopState → Entry → Bool
 comes_next reading (entry.Bind door path answer) = false
 comes_next reading (entry.Poll wait items answer) =
-    is_polling reading.due && same_wait wait (wait_of reading.state)
+    is_polling reading.due && option_eq nat_eq wait (wait_of reading.state)
 comes_next reading (entry.Accept door answer) =
     is_free reading.due && is_next reading.state reading.line.queue (Accept door)
 comes_next reading (entry.Read port room bytes answer) =
@@ -81,22 +77,12 @@ comes_next reading (entry.Now answer) = reads_clock reading.due (is_idle reading
 
 -- ---- how it reads then
 
--- the event at the moment that was read
-abbrev pub timed_event : {E : Type 0} → Result Moment E → Option Happening → List Timed
-timed_event (Ok moment) (Some event) = record { moment = moment; event = event } ∷ []
-timed_event (Ok moment) None = []
-timed_event (Err want) event = []
-
--- the event that an entry brings, where this had to come
+-- the event that an entry brings, where this had to come: one that was due, or a tick
 abbrev pub events_brought : Due → Entry → List Timed
-events_brought due (entry.Bind door path answer) = []
-events_brought due (entry.Poll wait items answer) = []
-events_brought due (entry.Accept door answer) = []
-events_brought due (entry.Read port room bytes answer) = []
-events_brought due (entry.Write port offered answer) = []
-events_brought due (entry.Close port answer) = []
-events_brought due (entry.Start job answer) = []
-events_brought due (entry.Now answer) = timed_event answer (event_due due)
+events_brought due (entry.Now (Err want)) = []
+events_brought Free (entry.Now (Ok moment)) = record { moment = moment; event = Tick } ∷ []
+events_brought (NowFor event) (entry.Now (Ok moment)) = record { moment = moment; event = event } ∷ []
+events_brought due other = []
 
 -- the ports that it closed
 abbrev pub closed_by : State → List Timed → List ℕ

@@ -8,10 +8,10 @@ use Rattle.world_ports.specs.declared.answers.Spot.TheVariants as spot
 use Rattle.agent_model.specs.State.{State, is_open, starts}
 use Rattle.loop_model.specs.Servable.{has_job, is_servable}
 use Rattle.loop_model.specs.Elsewhere.{stands}
-use Rattle.loop_model.specs.Things.{Hot, set_of}
+use Rattle.loop_model.specs.Things.{set_of}
 use Rattle.loop_model.specs.declared.thing.Thing.{Thing}
 use Rattle.loop_model.specs.declared.thing.Thing.TheVariants.{Accept, Read, Write}
-use Rattle.loop_model.specs.Aside.{Aside, none_aside, put_aside, still_aside, taken_back, things_aside}
+use Rattle.loop_model.specs.Aside.{Aside, put_aside, still_aside, taken_back, things_aside}
 use Rattle.loop_model.specs.Queues.{AreApart, dropped}
 
 -- the queue, what is set aside, and whether a client has connected
@@ -22,10 +22,10 @@ pub record Line : Type 0 where
 
 -- nothing is ready, and no client has connected
 abbrev pub empty_line : Line
-empty_line = record { queue = []; aside = none_aside; joined = false }
+empty_line = record { queue = []; aside = record { doors = []; reads = []; writes = [] }; joined = false }
 
 -- all that is ready
-abbrev pub hot_of : Line → Hot
+abbrev pub hot_of : Line → Thing → Bool
 hot_of line = set_of (line.queue ++ things_aside line.aside)
 
 -- nothing that is ready can be served, and no job waits

@@ -1,6 +1,7 @@
 -- A queue of things, in the order in which they are served (ours).
-use Rattle.std.specs.Prelude.{◌≡◌, Bool, false, List, [], ◌∷◌, Option, Some, None, not, if◌then◌else◌}
-use Rattle.std.specs.List.{filter}
+use Rattle.std.specs.Prelude.{◌≡◌, Bool, false, List, [], ◌∷◌, Option, not}
+use Rattle.std.specs.List.{filter, find}
+use Rattle.std.specs.Option.{option_map_or}
 use Rattle.agent_model.specs.State.{State}
 use Rattle.loop_model.specs.Servable.{is_servable}
 use Rattle.loop_model.specs.Things.{same_thing, set_of}
@@ -17,15 +18,8 @@ AreApart (thing ∷ things) = (set_of things thing ≡ false) × AreApart things
 
 -- the first thing of the queue that can be served
 abbrev pub first_servable : State → List Thing → Option Thing
-first_servable state [] = None
-first_servable state (thing ∷ things) =
-    if is_servable state thing then Some thing else first_servable state things
-
--- there is a thing, and it is this one
-abbrev pub is_thing : Thing → Option Thing → Bool
-is_thing thing None = false
-is_thing thing (Some other) = same_thing thing other
+first_servable state queue = find (is_servable state) queue
 
 -- nothing that can be served stands before this thing
 abbrev pub is_next : State → List Thing → Thing → Bool
-is_next state queue thing = is_thing thing (first_servable state queue)
+is_next state queue thing = option_map_or (same_thing thing) (first_servable state queue) false

@@ -2,12 +2,13 @@
 
 ghost use Rattle.std.specs.Prelude.{◌≡◌, ◌++◌, ◌∷◌, [], ℕ, List, None, Option, Some, false, true};
 ghost use Rattle.std.specs.List.{list_any};
+ghost use Rattle.std.specs.Option.{option_map_or};
 ghost use Rattle.world_ports.specs.declared.entry.Entry.{Entry};
 ghost use Rattle.world_ports.specs.declared.events.Moment.{Moment};
 ghost use Rattle.loop_model.specs.Aside.{things_aside};
 ghost use Rattle.loop_model.specs.Things.{same_thing, set_of};
 ghost use Rattle.loop_model.specs.declared.thing.Thing.{Thing};
-ghost use Rattle.loop_model.specs.Fairness.{GoesRound, KeepsOrder, if_any, is_service, waits_on};
+ghost use Rattle.loop_model.specs.Fairness.{GoesRound, KeepsOrder, is_service, waits_on};
 ghost use Rattle.loop_model.specs.LegalJournal.{LoopState, after_entries, after_if_legal};
 ghost use Rattle.agent_model.specs.Events.{Happening};
 ghost use Rattle.agent_model.specs.Sound.{IsRising};
@@ -47,7 +48,7 @@ pub fn all_wait_their_turn()
     ensures { (from to : LoopState) (thing other : Thing) (first last : Entry) (between : List Entry)
         → IsQuiet from.state from.line → after_entries from (first ∷ (between ++ last ∷ [])) ≡ Some to
         → is_service thing first ≡ true → is_service thing last ≡ true → same_thing thing other ≡ false
-        → if_any (λ after. waits_on other after between) (after_if_legal from first) ≡ true
+        → option_map_or (λ after. waits_on other after between) (after_if_legal from first) true ≡ true
         → list_any (is_service other) between ≡ true }
 {}
 
