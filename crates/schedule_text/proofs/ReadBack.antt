@@ -13,7 +13,7 @@ use Rattle.schedule_text.specs.declared.fault.LineFault.TheVariants.{Hex, Number
 use Rattle.schedule_text.specs.declared.step.Step.{Step}
 use Rattle.schedule_text.specs.declared.step.Step.TheVariants.{Skip, Format2, At, Join, Hear, End, Hold, Free, Take, Started, Failed}
 use Rattle.schedule_text.specs.Fields.{fields_of, is_space}
-use Rattle.schedule_text.specs.Lines.{◌>>=◌, at_least_one, at_step, bytes_field, count_field, hear_step, number_field, only_number, sixteen, started_step, step_of, step_of_fields, step_of_short, take_step, ticket_field}
+use Rattle.schedule_text.specs.Lines.{◌>>=◌, at_step, bytes_field, count_field, hear_step, number_field, only_number, started_step, step_of, step_of_fields, step_of_short, take_step, ticket_field}
 use Rattle.schedule_text.specs.Steps.{IsReadBack, bytes_text, one_text, two_text}
 use Rattle.schedule_text.proofs.NumberLemmas.{all_digits-decimal, bytes_of-encode_lower, number_of-decimal}
 use Rattle.schedule_text.proofs.Theorems.{step_of-empty}
@@ -107,7 +107,7 @@ hear_back port bytes small some are_bytes =
     ∙ ap (λ r. ok_or r Hex >>= (λ b. Ok (Hear port b))) (bytes_of-encode_lower bytes some are_bytes)
 
 -- a count that is no 0
-counted : (n : ℕ) → 0 < n → at_least_one n ≡ Ok n
+counted : (n : ℕ) → 0 < n → (if n == 0 then Err Number else Ok n) ≡ Ok n
 counted n some =
     let other : (n == 0) ≡ false = grind (arith, nat_tests) in
     ap (λ t. if t then Err Number else Ok n) other
@@ -116,11 +116,11 @@ take_back : (port count : ℕ) → port < 2 ^ 64 → count < 2 ^ 64 → 0 < coun
     → take_step (decimal port ∷ decimal count ∷ []) ≡ Ok (Take port count)
 take_back port count small_port small_count some =
     ap (λ r. ok_or r Number >>= (λ p. count_field (decimal count) >>= (λ n. Ok (Take p n)))) (number_of-decimal port small_port)
-    ∙ ap (λ r. (ok_or r Number >>= at_least_one) >>= (λ n. Ok (Take port n))) (number_of-decimal count small_count)
+    ∙ ap (λ r. (ok_or r Number >>= (λ n. if n == 0 then Err Number else Ok n)) >>= (λ n. Ok (Take port n))) (number_of-decimal count small_count)
     ∙ ap (λ r. r >>= (λ n. Ok (Take port n))) (counted count some)
 
 -- a one-time token has 16 bytes
-of_sixteen : (ticket : List ℕ) → length ticket ≡ 16 → sixteen ticket ≡ Ok ticket
+of_sixteen : (ticket : List ℕ) → length ticket ≡ 16 → (if length ticket == 16 then Ok ticket else Err Hex) ≡ Ok ticket
 of_sixteen ticket size =
     let is : (length ticket == 16) ≡ true = grind (arith, nat_tests) in
     ap (λ t. if t then Ok ticket else Err Hex) is
@@ -129,7 +129,7 @@ started_back : (job : ℕ) (ticket : List ℕ) → job < 2 ^ 64 → IsBytes tick
     → started_step (decimal job ∷ encode_lower ticket ∷ []) ≡ Ok (Started job ticket)
 started_back job ticket small are_bytes size =
     ap (λ r. ok_or r Number >>= (λ j. ticket_field (encode_lower ticket) >>= (λ t. Ok (Started j t)))) (number_of-decimal job small)
-    ∙ ap (λ r. (ok_or r Hex >>= sixteen) >>= (λ t. Ok (Started job t))) (bytes_of-encode_lower ticket (omega arith) are_bytes)
+    ∙ ap (λ r. (ok_or r Hex >>= (λ b. if length b == 16 then Ok b else Err Hex)) >>= (λ t. Ok (Started job t))) (bytes_of-encode_lower ticket (omega arith) are_bytes)
     ∙ ap (λ r. r >>= (λ t. Ok (Started job t))) (of_sixteen ticket size)
 
 -- the line of a word and a number

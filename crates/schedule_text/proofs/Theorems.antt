@@ -4,9 +4,9 @@ use Rattle.std.proofs.lemmas.Bool.Decides.{nat_tests}
 use Rattle.schedule_text.specs.declared.fault.LineFault.{LineFault}
 use Rattle.schedule_text.specs.declared.fault.LineFault.TheVariants.{Hex, Memory, Number, TooLong}
 use Rattle.schedule_text.specs.declared.step.Step.{Step}
-use Rattle.schedule_text.specs.declared.step.Step.TheVariants.{Skip, Started, Take}
+use Rattle.schedule_text.specs.declared.step.Step.TheVariants.{End, Failed, Free, Hold, Skip, Started, Take}
 use Rattle.schedule_text.specs.Fields.{fields_of}
-use Rattle.schedule_text.specs.Lines.{◌>>=◌, at_least_one, at_step, end_step, failed_step, format_step, free_step, hear_step, hold_step, join_step, sixteen, started_step, step_of, step_of_fields, step_of_short, take_step}
+use Rattle.schedule_text.specs.Lines.{◌>>=◌, at_step, format_step, hear_step, join_step, number_step, started_step, step_of, step_of_fields, step_of_short, take_step}
 use Rattle.schedule_text.specs.Numbers.{bytes_of, number_of}
 use Rattle.schedule_text.specs.Steps.{SaysSome}
 use Rattle.schedule_text.proofs.NumberLemmas.{length-bytes_of}
@@ -64,20 +64,10 @@ IsSound-hear (port ∷ bytes ∷ []) =
     IsSound-field (number_of port) Number _ tt (λ n _. IsSound-field (bytes_of bytes) Hex _ tt (λ heard read. length-bytes_of bytes heard read))
 IsSound-hear (port ∷ bytes ∷ next ∷ fields) = tt
 
-IsSound-end : (fields : List (List ℕ)) → IsSound (end_step fields)
-IsSound-end [] = tt
-IsSound-end (port ∷ []) = IsSound-field (number_of port) Number _ tt (λ n _. tt)
-IsSound-end (port ∷ next ∷ fields) = tt
-
-IsSound-hold : (fields : List (List ℕ)) → IsSound (hold_step fields)
-IsSound-hold [] = tt
-IsSound-hold (port ∷ []) = IsSound-field (number_of port) Number _ tt (λ n _. tt)
-IsSound-hold (port ∷ next ∷ fields) = tt
-
-IsSound-free : (fields : List (List ℕ)) → IsSound (free_step fields)
-IsSound-free [] = tt
-IsSound-free (port ∷ []) = IsSound-field (number_of port) Number _ tt (λ n _. tt)
-IsSound-free (port ∷ next ∷ fields) = tt
+IsSound-number : (step : ℕ → Step) → ((n : ℕ) → SaysSome (step n)) → (fields : List (List ℕ)) → IsSound (number_step step fields)
+IsSound-number step says [] = tt
+IsSound-number step says (field ∷ []) = IsSound-field (number_of field) Number _ tt (λ n _. says n)
+IsSound-number step says (field ∷ next ∷ fields) = tt
 
 -- by whether the count is 0
 IsSound-count_by : (port count : ℕ) (test : Bool) → (count == 0) ≡ test
@@ -85,7 +75,7 @@ IsSound-count_by : (port count : ℕ) (test : Bool) → (count == 0) ≡ test
 IsSound-count_by port count true is = tt
 IsSound-count_by port count false is = grind (arith, nat_tests)
 
-IsSound-count : (port : ℕ) (read : Option ℕ) → IsSound ((ok_or read Number >>= at_least_one) >>= (λ n. Ok (Take port n)))
+IsSound-count : (port : ℕ) (read : Option ℕ) → IsSound ((ok_or read Number >>= (λ n. if n == 0 then Err Number else Ok n)) >>= (λ n. Ok (Take port n)))
 IsSound-count port None = tt
 IsSound-count port (Some count) = IsSound-count_by port count (count == 0) refl
 
@@ -100,7 +90,7 @@ IsSound-sixteen : (job : ℕ) (bytes : List ℕ) (test : Bool) → IsSound ((if 
 IsSound-sixteen job bytes true = tt
 IsSound-sixteen job bytes false = tt
 
-IsSound-ticket : (job : ℕ) (read : Option (List ℕ)) → IsSound ((ok_or read Hex >>= sixteen) >>= (λ t. Ok (Started job t)))
+IsSound-ticket : (job : ℕ) (read : Option (List ℕ)) → IsSound ((ok_or read Hex >>= (λ b. if length b == 16 then Ok b else Err Hex)) >>= (λ t. Ok (Started job t)))
 IsSound-ticket job None = tt
 IsSound-ticket job (Some bytes) = IsSound-sixteen job bytes (length bytes == 16)
 
@@ -110,23 +100,18 @@ IsSound-started (job ∷ []) = tt
 IsSound-started (job ∷ ticket ∷ []) = IsSound-field (number_of job) Number _ tt (λ j _. IsSound-ticket j (bytes_of ticket))
 IsSound-started (job ∷ ticket ∷ next ∷ fields) = tt
 
-IsSound-failed : (fields : List (List ℕ)) → IsSound (failed_step fields)
-IsSound-failed [] = tt
-IsSound-failed (job ∷ []) = IsSound-field (number_of job) Number _ tt (λ n _. tt)
-IsSound-failed (job ∷ next ∷ fields) = tt
-
 IsSound-fields : (fields : List (List ℕ)) → IsSound (step_of_fields fields)
 IsSound-fields [] = tt
 IsSound-fields (word ∷ fields) =
     IsSound-if (bytes_eq word (codes "at")) _ _ (IsSound-at fields) (
     IsSound-if (bytes_eq word (codes "join")) _ _ (IsSound-join fields) (
     IsSound-if (bytes_eq word (codes "hear")) _ _ (IsSound-hear fields) (
-    IsSound-if (bytes_eq word (codes "end")) _ _ (IsSound-end fields) (
-    IsSound-if (bytes_eq word (codes "hold")) _ _ (IsSound-hold fields) (
-    IsSound-if (bytes_eq word (codes "free")) _ _ (IsSound-free fields) (
+    IsSound-if (bytes_eq word (codes "end")) _ _ (IsSound-number End (λ n. tt) fields) (
+    IsSound-if (bytes_eq word (codes "hold")) _ _ (IsSound-number Hold (λ n. tt) fields) (
+    IsSound-if (bytes_eq word (codes "free")) _ _ (IsSound-number Free (λ n. tt) fields) (
     IsSound-if (bytes_eq word (codes "take")) _ _ (IsSound-take fields) (
     IsSound-if (bytes_eq word (codes "started")) _ _ (IsSound-started fields) (
-    IsSound-if (bytes_eq word (codes "failed")) _ _ (IsSound-failed fields) (
+    IsSound-if (bytes_eq word (codes "failed")) _ _ (IsSound-number Failed (λ n. tt) fields) (
     IsSound-if (bytes_eq word (codes "schedule")) _ _ (IsSound-format fields) tt)))))))))
 
 IsSound-short : (line : List ℕ) → IsSound (step_of_short line)

@@ -22,29 +22,21 @@ Err fault >>= f = Err fault
 abbrev pub number_field : List ℕ → Result ℕ LineFault
 number_field field = ok_or (number_of field) Number
 
--- a number that is no 0
-abbrev pub at_least_one : ℕ → Result ℕ LineFault
-at_least_one number = if number == 0 then Err Number else Ok number
-
 -- the number that a field writes, which is no 0
 abbrev pub count_field : List ℕ → Result ℕ LineFault
 count_field field = do
   number ← number_field field
-  at_least_one number
+  if number == 0 then Err Number else Ok number
 
 -- the bytes that a field writes
 abbrev pub bytes_field : List ℕ → Result (List ℕ) LineFault
 bytes_field field = ok_or (bytes_of field) Hex
 
--- bytes that are a one-time token: there are 16 of them
-abbrev pub sixteen : List ℕ → Result (List ℕ) LineFault
-sixteen bytes = if length bytes == 16 then Ok bytes else Err Hex
-
--- the one-time token that a field writes
+-- the one-time token that a field writes: there are 16 bytes of it
 abbrev pub ticket_field : List ℕ → Result (List ℕ) LineFault
 ticket_field field = do
   bytes ← bytes_field field
-  sixteen bytes
+  if length bytes == 16 then Ok bytes else Err Hex
 
 -- the number that the only field writes
 abbrev pub only_number : List (List ℕ) → Result ℕ LineFault
@@ -80,23 +72,11 @@ hear_step (port ∷ bytes ∷ []) = do
   Ok (Hear port bytes)
 hear_step _ = Err Word
 
--- `end PORT`
-abbrev pub end_step : List (List ℕ) → Result Step LineFault
-end_step fields = do
-  port ← only_number fields
-  Ok (End port)
-
--- `hold PORT`
-abbrev pub hold_step : List (List ℕ) → Result Step LineFault
-hold_step fields = do
-  port ← only_number fields
-  Ok (Hold port)
-
--- `free PORT`
-abbrev pub free_step : List (List ℕ) → Result Step LineFault
-free_step fields = do
-  port ← only_number fields
-  Ok (Free port)
+-- a word and the number of a port or a job: `end PORT`, `hold PORT`, `free PORT` and `failed JOB`
+abbrev pub number_step : (ℕ → Step) → List (List ℕ) → Result Step LineFault
+number_step step fields = do
+  number ← only_number fields
+  Ok (step number)
 
 -- `take PORT N`
 abbrev pub take_step : List (List ℕ) → Result Step LineFault
@@ -114,12 +94,6 @@ started_step (job ∷ ticket ∷ []) = do
   Ok (Started job ticket)
 started_step _ = Err Word
 
--- `failed JOB`
-abbrev pub failed_step : List (List ℕ) → Result Step LineFault
-failed_step fields = do
-  job ← only_number fields
-  Ok (Failed job)
-
 -- what the fields ask for by the first of them, or their first fault
 abbrev pub step_of_fields : List (List ℕ) → Result Step LineFault
 step_of_fields [] = Err Word
@@ -127,12 +101,12 @@ step_of_fields (word ∷ fields) =
     if bytes_eq word (codes "at") then at_step fields
     else if bytes_eq word (codes "join") then join_step fields
     else if bytes_eq word (codes "hear") then hear_step fields
-    else if bytes_eq word (codes "end") then end_step fields
-    else if bytes_eq word (codes "hold") then hold_step fields
-    else if bytes_eq word (codes "free") then free_step fields
+    else if bytes_eq word (codes "end") then number_step End fields
+    else if bytes_eq word (codes "hold") then number_step Hold fields
+    else if bytes_eq word (codes "free") then number_step Free fields
     else if bytes_eq word (codes "take") then take_step fields
     else if bytes_eq word (codes "started") then started_step fields
-    else if bytes_eq word (codes "failed") then failed_step fields
+    else if bytes_eq word (codes "failed") then number_step Failed fields
     else if bytes_eq word (codes "schedule") then format_step fields
     else Err Word
 

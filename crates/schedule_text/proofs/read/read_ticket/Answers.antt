@@ -1,4 +1,4 @@
-use Rattle.std.proofs.Common.{◌≡◌, ◌*◌, ◌%◌, ℕ, List, [], ◌∷◌, length, ok_or, Result, Ok, Err, refl, ap, sym, ◌∙◌, inl, inr, arith}
+use Rattle.std.proofs.Common.{◌≡◌, ◌==◌, if◌then◌else◌, ◌*◌, ℕ, List, [], ◌∷◌, length, ok_or, Result, Ok, Err, refl, ap, sym, ◌∙◌, inl, inr, arith}
 use Rattle.std.proofs.lemmas.Bool.{cases_eq}
 use Rattle.std.proofs.lemmas.Bool.Decides.{nat_tests}
 use Rattle.std.specs.Prelude.{MatchResult}
@@ -6,17 +6,16 @@ use Rattle.std.specs.Result.{result_ok}
 use Rattle.hex.specs.Hex.{decode_of, decode_sized}
 use Rattle.hex.specs.declared.error.FromHexError.{FromHexError}
 use Rattle.hex.proofs.HexLemmas.{decode_of-ok, decode_sized-ok, decode_sized-twice}
-use Rattle.schedule_text.specs.declared.fault.LineFault.{LineFault}
 use Rattle.schedule_text.specs.declared.fault.LineFault.TheVariants.{Hex}
-use Rattle.schedule_text.specs.Lines.{◌>>=◌, sixteen, ticket_field}
+use Rattle.schedule_text.specs.Lines.{◌>>=◌, ticket_field}
 use Rattle.schedule_text.proofs.read.read_ticket.Goals as goal
 
 -- a one-time token has 32 digits
-not_sixteen : (bytes : List ℕ) → (length bytes ≡ 16 → ⊥) → sixteen bytes ≡ Err Hex
+not_sixteen : (bytes : List ℕ) → (length bytes ≡ 16 → ⊥) → (if length bytes == 16 then Ok bytes else Err Hex) ≡ Err Hex
 not_sixteen bytes other = grind (arith, nat_tests)
 
 other_size : (field : List ℕ) (read : Result (List ℕ) FromHexError) → decode_of field ≡ read → (length field ≡ 2 * 16 → ⊥)
-    → (ok_or (result_ok read) Hex >>= sixteen) ≡ Err Hex
+    → (ok_or (result_ok read) Hex >>= (λ b. if length b == 16 then Ok b else Err Hex)) ≡ Err Hex
 other_size field (Ok bytes) is other =
     let twice = (decode_of-ok field bytes is).2 in
     not_sixteen bytes (λ size. other (omega (arith, twice, size)))
@@ -28,7 +27,7 @@ not_read (digit ∷ digits) other = other_size (digit ∷ digits) (decode_of (di
 
 -- what is read in that many digits
 same_size : (field : List ℕ) (read : Result (List ℕ) FromHexError) → decode_of field ≡ read → length field ≡ 2 * 16
-    → (ok_or (result_ok read) Hex >>= sixteen) ≡ ok_or (result_ok read) Hex
+    → (ok_or (result_ok read) Hex >>= (λ b. if length b == 16 then Ok b else Err Hex)) ≡ ok_or (result_ok read) Hex
 same_size field (Ok bytes) is size =
     let twice = (decode_of-ok field bytes is).2 in
     let sixteen_is : length bytes ≡ 16 = omega (arith, twice, size) in
