@@ -41,10 +41,10 @@ is_one_alone (Some _) (Some _) = false
 is_one_alone None None = false
 is_one_alone _ _ = true
 
--- the word is there and says no lifetime
-abbrev pub is_no_life : Option (List ℕ) → Bool
-is_no_life None = false
-is_no_life (Some word) = not (is_some (life_of word))
+-- the word is there and isn't read so
+abbrev pub is_unread : (List ℕ → Option ℕ) → Option (List ℕ) → Bool
+is_unread reading None = false
+is_unread reading (Some word) = not (is_some (reading word))
 
 -- the flag was given
 abbrev pub is_set : Option (List ℕ) → Bool
@@ -59,36 +59,23 @@ is_recorded words = is_set (value_of (codes "record") words)
 abbrev pub ends_with_record : List (List ℕ) → Bool
 ends_with_record words = is_set (value_of (codes "record-or-stop") words)
 
--- a lifetime that is not 0
-abbrev pub some_life : ℕ → Option ℕ
-some_life seconds = if seconds == 0 then None else Some seconds
-
--- the seconds that a limit says: read as a lifetime, and 1 at least
-abbrev pub limit_of : List ℕ → Option ℕ
-limit_of word = option_and_then some_life (life_of word)
-
--- the word is there and says no limit
-abbrev pub is_no_limit : Option (List ℕ) → Bool
-is_no_limit None = false
-is_no_limit (Some word) = not (is_some (limit_of word))
+-- the seconds that a word says: read as a lifetime, and 1 at least
+abbrev pub seconds_of : List ℕ → Option ℕ
+seconds_of word = option_and_then (λ seconds. if seconds == 0 then None else Some seconds) (life_of word)
 
 -- the words are none of the forms
 abbrev pub is_usage : List (List ℕ) → Bool
 is_usage words = not (begins words && is_taken words
     && is_some (value_of (codes "path") words) && is_some (value_of (codes "helper") words))
     || is_one_alone (value_of (codes "relay") words) (value_of (codes "askpass") words)
-    || is_no_life (value_of (codes "lifetime") words)
-    || is_no_limit (value_of (codes "confirm-limit") words)
+    || is_unread life_of (value_of (codes "lifetime") words)
+    || is_unread seconds_of (value_of (codes "confirm-limit") words)
     || (ends_with_record words && not (is_recorded words))
 
--- the lifetime that a word says, where it is there: none for 0
-abbrev pub default_life : Option (List ℕ) → Option ℕ
-default_life word = option_and_then some_life (option_and_then life_of word)
-
--- the lifetime of identities that are added without one
+-- the lifetime of identities that are added without one, where the words say so: none for 0
 abbrev pub life_in : List (List ℕ) → Option ℕ
-life_in words = default_life (value_of (codes "lifetime") words)
+life_in words = option_and_then seconds_of (value_of (codes "lifetime") words)
 
 -- how long a question to the user may stay open, where the words say so
 abbrev pub limit_in : List (List ℕ) → Option ℕ
-limit_in words = option_and_then limit_of (value_of (codes "confirm-limit") words)
+limit_in words = option_and_then seconds_of (value_of (codes "confirm-limit") words)

@@ -1,7 +1,8 @@
 //! What the words of `serve` say, or why they are no such command.
 
 ghost use Rattle.std.specs.Prelude.{◌≡◌, ◌&&◌, IfOk, MatchResult, Some, codes, map, not, option_and_then, option_map, string_bytes, true, false};
-ghost use Rattle.serve_words.specs.Serve.{begins, default_life, ends_with_record, is_no_life, is_no_limit, is_one_alone, is_recorded, is_set, is_usage, life_in, limit_in, limit_of, value_of};
+ghost use Rattle.serve_words.specs.Serve.{begins, ends_with_record, is_one_alone, is_recorded, is_set, is_unread, is_usage, life_in, limit_in, seconds_of, value_of};
+ghost use Rattle.world_ports.specs.Life.{life_of};
 ghost use Rattle.serve_words.specs.declared.words.ServeFault.TheVariants.{Memory};
 
 use crate::command::serve_matches;
@@ -130,9 +131,9 @@ fn stands_alone(one: Option<&str>, other: Option<&str>) -> bool
 // The lifetime that a word says, where there is one; 0 stands for none.
 fn read_default(word: Option<&str>) -> Result<Option<u32>, ServeFault>
     ensures { MatchResult result
-        (λ life. (is_no_life (option_map (λ w. w.now) word.entry) ≡ false)
-        × (life ≡ default_life (option_map (λ w. w.now) word.entry)))
-        (λ _. is_no_life (option_map (λ w. w.now) word.entry) ≡ true) }
+        (λ life. (is_unread life_of (option_map (λ w. w.now) word.entry) ≡ false)
+        × (life ≡ option_and_then seconds_of (option_map (λ w. w.now) word.entry)))
+        (λ _. is_unread life_of (option_map (λ w. w.now) word.entry) ≡ true) }
 {
     let Some(text) = word else {
         return Ok(None);
@@ -147,9 +148,9 @@ fn read_default(word: Option<&str>) -> Result<Option<u32>, ServeFault>
 // The limit that a word says, where there is one: a second at least.
 fn read_limit(word: Option<&str>) -> Result<Option<u32>, ServeFault>
     ensures { MatchResult result
-        (λ limit. (is_no_limit (option_map (λ w. w.now) word.entry) ≡ false)
-        × (limit ≡ option_and_then limit_of (option_map (λ w. w.now) word.entry)))
-        (λ _. is_no_limit (option_map (λ w. w.now) word.entry) ≡ true) }
+        (λ limit. (is_unread seconds_of (option_map (λ w. w.now) word.entry) ≡ false)
+        × (limit ≡ option_and_then seconds_of (option_map (λ w. w.now) word.entry)))
+        (λ _. is_unread seconds_of (option_map (λ w. w.now) word.entry) ≡ true) }
 {
     let Some(text) = word else {
         return Ok(None);
