@@ -1,5 +1,6 @@
 -- What passphrases take only grows as bodies come.
-use Rattle.std.proofs.Common.{true, ◌≡◌, ℕ, ◌≤◌, List, [], ◌∷◌, le_refl, le_trans, arith, Option, Some, None, Result, Ok, Err}
+use Rattle.std.specs.Prelude.{is_some}
+use Rattle.std.proofs.Common.{true, ◌++◌, if◌then◌else◌, ◌≡◌, ℕ, ◌≤◌, List, [], ◌∷◌, le_refl, le_trans, arith, Option, Some, None, Result, Ok, Err}
 use Rattle.std.specs.Prelude.{nat_lt}
 use Rattle.std.specs.List.{position}
 use Rattle.std.proofs.lemmas.Bool.Decides.{nat_tests}
@@ -9,10 +10,10 @@ use Rattle.agent_msg.specs.Reading.{request_of}
 use Rattle.agent_msg.specs.Requests.{ClientRequest, ListIdentities, Sign, Add, Remove, RemoveAll, Lock, Unlock, Bind, OtherExtension, Unsupported}
 use Rattle.agent_msg.specs.declared.fault.MsgFault.{MsgFault}
 use Rattle.redact_core.specs.Places.{kept_len, most_kept, room_of}
-use Rattle.redact_core.specs.Redaction.{is_over, noted_by, numbered, redacted, redacted_all, redacted_as}
+use Rattle.redact_core.specs.Redaction.{is_over, numbered, redacted, redacted_all, redacted_as}
 
 noted_more : (place : Option ℕ) (passphrase : List ℕ) (early : List (List ℕ))
-    → kept_len early ≤ kept_len (noted_by place passphrase early)
+    → kept_len early ≤ kept_len (if is_some place then early else early ++ passphrase ∷ [])
 noted_more (Some place) passphrase early = le_refl (kept_len early)
 noted_more None passphrase early = omega (arith, sum_by_push room_of early passphrase)
 

@@ -1,5 +1,6 @@
 -- An ordered index of passphrases, and those that came in their order.
-use Rattle.std.proofs.Common.{◌≡◌, ℕ, zero, suc, ◌+◌, ◌<◌, ◌≤◌, Bool, true, false, cond, List, [], ◌∷◌, ◌++◌, length, map, Option, Some, None, refl, sym, ap, subst, ◌∙◌, arith}
+use Rattle.std.specs.Prelude.{is_some, unwrap_or}
+use Rattle.std.proofs.Common.{◌≡◌, ℕ, zero, suc, ◌+◌, ◌<◌, ◌≤◌, Bool, true, false, cond, if◌then◌else◌, List, [], ◌∷◌, ◌++◌, length, map, Option, Some, None, refl, sym, ap, subst, ◌∙◌, arith}
 use Rattle.std.specs.Prelude.{◌==◌, is_some}
 use Rattle.std.specs.Cmp.{partial_equiv_from_equiv}
 use Rattle.std.specs.Cmp.Lexicographic.{nat_list_eq_equiv, slice_cmp}
@@ -16,7 +17,7 @@ use Rattle.std.proofs.lemmas.List.Sums.{sum_by-cons, sum_by_push}
 use Rattle.std.proofs.lemmas.Map.Text.{is_eq-slice_cmp}
 use Rattle.std.proofs.lemmas.Slice.Eq.{bytes_eq-Decides}
 use Rattle.redact_core.specs.Places.{AreBelow, IsPlaced, kept_len, most_kept, passphrase_at, place_in, placed, room_of}
-use Rattle.redact_core.specs.Redaction.{is_over, noted, noted_by, number_by, number_of}
+use Rattle.redact_core.specs.Redaction.{is_over, noted, number_of}
 
 -- ---- positions
 
@@ -240,13 +241,13 @@ placed_then entries later passphrase kept place placed_is new at is_put updates 
 pub noted_there : (entries : List (List ℕ × ℕ)) (passphrase : List ℕ) (kept place : ℕ) → IsPlaced entries kept
     → place_in entries passphrase ≡ Some place → noted passphrase (placed entries) ≡ placed entries
 noted_there entries passphrase kept place placed_is there =
-    ap (λ at. noted_by at passphrase (placed entries)) (sym (placed_is.found passphrase) ∙ there)
+    ap (λ at. if is_some at then placed entries else placed entries ++ passphrase ∷ []) (sym (placed_is.found passphrase) ∙ there)
 
 -- a new one stands behind the others
 pub noted_new : (entries : List (List ℕ × ℕ)) (passphrase : List ℕ) (kept : ℕ) → IsPlaced entries kept
     → place_in entries passphrase ≡ None → noted passphrase (placed entries) ≡ placed entries ++ passphrase ∷ []
 noted_new entries passphrase kept placed_is new =
-    ap (λ at. noted_by at passphrase (placed entries)) (sym (placed_is.found passphrase) ∙ new)
+    ap (λ at. if is_some at then placed entries else placed entries ++ passphrase ∷ []) (sym (placed_is.found passphrase) ∙ new)
 
 -- they take no more room than they may
 pub not_over : (entries : List (List ℕ × ℕ)) (kept : ℕ) → IsPlaced entries kept → is_over (placed entries) ≡ false
@@ -278,7 +279,7 @@ noted_then entries later passphrase kept place placed_is new at is_put =
 pub number_new : (entries : List (List ℕ × ℕ)) (passphrase : List ℕ) (kept : ℕ) → IsPlaced entries kept
     → place_in entries passphrase ≡ None → number_of passphrase (placed entries) ≡ length entries + 1
 number_new entries passphrase kept placed_is new =
-    ap (λ at. number_by at (placed entries)) (sym (placed_is.found passphrase) ∙ new)
+    ap (λ at. suc (unwrap_or at (length (placed entries)))) (sym (placed_is.found passphrase) ∙ new)
     ∙ ap suc (length_placed entries) ∙ omega arith
 
 below_by : (bound : ℕ) (entry : List ℕ × ℕ) (entries : List (List ℕ × ℕ)) (passphrase : List ℕ) (place : ℕ) (b : Bool)

@@ -1,13 +1,13 @@
 -- Bodies of requests without their secrets: the private fields of an added key are zeros, a passphrase is the number
 -- under which it first came, and of a request that isn't served the number is left (ours).
-use Rattle.std.specs.Prelude.{ℕ, zero, suc, ◌+◌, ◌==◌, ◌||◌, nat_lt, Bool, true, false, List, [], ◌∷◌, ◌++◌, length, take, drop, replicate, decimal, Option, Some, None, Result, Ok, Err}
+use Rattle.std.specs.Prelude.{ℕ, zero, suc, ◌+◌, ◌==◌, ◌||◌, nat_lt, Bool, true, false, List, [], ◌∷◌, ◌++◌, length, take, drop, replicate, decimal, Option, Some, None, is_some, unwrap_or, if◌then◌else◌, Result, Ok, Err}
 use Rattle.std.specs.List.{position, sum_by}
 use Rattle.std.specs.Str.{bytes_eq}
 use Rattle.wire_text.specs.Wire.{string}
 use Rattle.wire_core.specs.Fields.{string_at}
 use Rattle.key_blob.specs.AddedKeys.{private_from}
 use Rattle.agent_msg.specs.Reading.{request_of}
-use Rattle.agent_msg.specs.Requests.{ClientRequest, ListIdentities, Sign, Add, Remove, RemoveAll, Lock, Unlock, Bind, OtherExtension, Unsupported}
+use Rattle.agent_msg.specs.Requests.{ClientRequest, Add, Lock, Unlock, Unsupported}
 use Rattle.agent_msg.specs.declared.fault.MsgFault.{MsgFault}
 
 -- ---- added keys
@@ -32,25 +32,15 @@ without_secrets key = take (private_from key) key ++ blank (drop (private_from k
 
 -- ---- passphrases
 
--- the number of a passphrase that stands there, or else the next one: they count from 1
-abbrev pub number_by : Option ℕ → List (List ℕ) → ℕ
-number_by (Some place) passphrases = suc place
-number_by None passphrases = suc (length passphrases)
-
--- the number of a passphrase among those that came, in order
+-- the number of a passphrase among those that came, in order, or else the next one: they count from 1
 abbrev pub number_of : List ℕ → List (List ℕ) → ℕ
 number_of passphrase passphrases =
-    number_by (position (bytes_eq passphrase) passphrases) passphrases
+    suc (unwrap_or (position (bytes_eq passphrase) passphrases) (length passphrases))
 
 -- those that came, and the passphrase behind them unless it stands there
-abbrev pub noted_by : Option ℕ → List ℕ → List (List ℕ) → List (List ℕ)
-noted_by (Some place) passphrase passphrases = passphrases
-noted_by None passphrase passphrases = passphrases ++ passphrase ∷ []
-
--- those that came, with this one
 abbrev pub noted : List ℕ → List (List ℕ) → List (List ℕ)
 noted passphrase passphrases =
-    noted_by (position (bytes_eq passphrase) passphrases) passphrase passphrases
+    if is_some (position (bytes_eq passphrase) passphrases) then passphrases else passphrases ++ passphrase ∷ []
 
 -- they take more room than 4 MiB, each its bytes and 64 for its place (ours)
 abbrev pub is_over : List (List ℕ) → Bool
@@ -95,13 +85,8 @@ redacted_as (Ok (Add addition)) number bytes passphrases =
     unchanged number (without_secrets key ++ drop (length key) bytes) passphrases
 redacted_as (Ok (Lock passphrase)) number bytes passphrases = numbered number passphrase passphrases
 redacted_as (Ok (Unlock passphrase)) number bytes passphrases = numbered number passphrase passphrases
-redacted_as (Ok ListIdentities) number bytes passphrases = unchanged number bytes passphrases
-redacted_as (Ok (Sign signing)) number bytes passphrases = unchanged number bytes passphrases
-redacted_as (Ok (Remove blob)) number bytes passphrases = unchanged number bytes passphrases
-redacted_as (Ok RemoveAll) number bytes passphrases = unchanged number bytes passphrases
-redacted_as (Ok (Bind bind)) number bytes passphrases = unchanged number bytes passphrases
-redacted_as (Ok (OtherExtension name)) number bytes passphrases = unchanged number bytes passphrases
 redacted_as (Ok (Unsupported other)) number bytes passphrases = unchanged number [] passphrases
+redacted_as (Ok other) number bytes passphrases = unchanged number bytes passphrases
 redacted_as (Err fault) number bytes passphrases = record {
   body = unread (holds_secrets number) number bytes;
   passphrases = passphrases;
