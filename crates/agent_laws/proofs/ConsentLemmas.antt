@@ -13,6 +13,7 @@ use Rattle.agent_laws.specs.History.{HasNumbers, IsConsented, IsPutBehind, onto}
 use Rattle.agent_laws.specs.Past.{PastAddition, last_addition}
 use Rattle.agent_laws.proofs.ConsequenceLemmas.{claimed}
 use Rattle.std.specs.Option.{option_map}
+use Rattle.agent_laws.proofs.GrantedLemmas.{claimed_by}
 
 -- a request claims no addition
 no_addition : (read : Result ClientRequest MsgFault) (port : ℕ) (claim : Claim)
@@ -41,10 +42,6 @@ pub record Consents (action : Action) (rest : List Stamped) (claim : Claim) (add
   pub asker : raising.port ≡ claim.port
   pub addition : raising.addition ≡ added.number
   pub what : raising.signing ≡ claim.signing
-
--- what a consent claims: what the user was asked for, of the very addition
-abbrev pub claimed_by : Raising → Claim
-claimed_by raising = record { port = raising.port; addition = Some raising.addition; signing = raising.signing }
 
 by_raised : (job : ℕ) (rest : List Stamped) (claim : Claim) (added : PastAddition) (raised : Option Raising)
     → raised_at job rest ≡ raised → option_map claimed_by raised ≡ Some claim

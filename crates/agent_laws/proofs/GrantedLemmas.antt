@@ -40,7 +40,6 @@ use Rattle.agent_laws.proofs.PastLemmas.{stamp}
 use Rattle.agent_laws.proofs.RaisedLemmas.{AllRaised, IsRaised, all_raised-kept, all_raised-more, all_raised-over}
 use Rattle.agent_laws.proofs.PlaceLemmas.{parts_of, place-same}
 use Rattle.agent_laws.proofs.StepLemmas.{Agrees, Goes, Opened, due_as, parts-append}
-use Rattle.agent_laws.proofs.ConsentLemmas.{claimed_by}
 
 -- ---- a confirmation ends
 
@@ -69,6 +68,10 @@ all_parts true true true false is = absurd (cc)
 all_parts true true false d is = absurd (cc)
 all_parts true false c d is = absurd (cc)
 all_parts false b c d is = absurd (cc)
+
+-- what a consent claims: what the user was asked for, of the very addition
+abbrev pub claimed_by : Raising → Claim
+claimed_by raising = record { port = raising.port; addition = Some raising.addition; signing = raising.signing }
 
 pub none_if_permitted : (result : Option Denial) → is_none result ≡ true → result ≡ None
 none_if_permitted None is = refl
