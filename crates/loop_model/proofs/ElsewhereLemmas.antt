@@ -1,28 +1,36 @@
 -- What an event leaves of the ports other than its own: none of them is to be read that wasn't, and where a client is
 -- served, no other client is owed bytes that wasn't.
-use Rattle.std.proofs.Common.{◌≡◌, ◌≢◌, ℕ, suc, List, [], ◌∷◌, ◌++◌, refl, ap, arith, sym, subst, ◌∙◌, ◌==◌, not, Option, Some, None, Bool, true, false}
+use Rattle.std.proofs.Common.{◌≡◌, ◌≢◌, ℕ, suc, ◌<◌, List, [], ◌∷◌, ◌++◌, length, ◌&&◌, ◌||◌, refl, ap, arith, sym, subst, ◌∙◌, ◌==◌, not, Option, Some, None, Bool, true, false}
 use Rattle.std.proofs.lemmas.Bool.Decides.{nat_tests}
+use Rattle.std.proofs.lemmas.List.{length-append}
+use Rattle.wire_text.proofs.WireLemmas.{length-string}
 use Rattle.world_ports.specs.declared.events.Door.{Door}
 use Rattle.world_ports.specs.declared.events.Door.TheVariants.{Clients, Children}
 use Rattle.world_ports.specs.declared.events.Moment.{Moment}
+use Rattle.wire_text.specs.Bounds.{longest_body}
+use Rattle.wire_text.specs.Frames.{front}
 use Rattle.confirm_desk.specs.Confirmations.{Confirmation, find_asker}
 use Rattle.agent_model.specs.Actions.{Outcome}
 use Rattle.agent_model.specs.Children.{changed, closed, heard_more}
 use Rattle.agent_model.specs.Consents.{over_if}
 use Rattle.agent_model.specs.Events.{Happening, Joined, Heard, Ended, Took, Started, StartFailed, Tick}
 use Rattle.agent_model.specs.Sound.{IsRising}
-use Rattle.agent_model.specs.State.{Client, Port, State, UnderWay, find_port, is_client, is_some_bytes, new_port, owed_as, owed_by, owed_of, role_of, wants, wants_more, wants_by}
+use Rattle.agent_model.specs.State.{Client, Nothing, Port, State, UnderWay, find_port, is_client, is_more, is_settled, is_some_bytes, new_port, owed_as, owed_by, owed_of, role_of, wants, wants_more, wants_by}
 use Rattle.agent_model.specs.Step.{admitted, ended_at, ended_by_role, handle, has_room, looked, step, took_some}
 use Rattle.agent_model.specs.Time.{at_moment, taken_in}
+use Rattle.agent_model.specs.Verdicts.{Success, Verdict, reply_text, verdict_text, verdict_waits}
+use Rattle.agent_msg.specs.Replies.{failure}
 use Rattle.agent_model.proofs.ClientLemmas.{handle-heard, handle-took, took-child}
 use Rattle.agent_model.proofs.JobLemmas.{asker_own}
 use Rattle.agent_model.proofs.MakeLemmas.{by_event_as}
 use Rattle.agent_model.proofs.PortsLemmas.{found_number}
 use Rattle.agent_model.proofs.RunLemmas.{at_moment-follows}
-use Rattle.agent_model.proofs.NewsLemmas.{IsNews, proves, says, told-moment}
+use Rattle.agent_model.proofs.NewsLemmas.{IsAnswer, IsNews, awaiting, proves, refusing, replying, says, told-moment}
+use Rattle.agent_model.proofs.ToldLemmas.{reply_is_some}
 use Rattle.loop_model.specs.Elsewhere.{ends_waits, is_clients, is_of, tells_others}
 use Rattle.loop_model.proofs.MomentLemmas.{quiet-moment, rising-moment}
 use Rattle.loop_model.proofs.SparedLemmas.{KeepsNumber, Spares, alters, elsewhere, holds-spared, removes, same, spared-looked, spared-makes, spares-close_confirmer, spares-told}
+use Rattle.loop_model.proofs.TestLemmas.{or_left}
 
 -- one more that joins leaves the others
 find-joined : (port last : ℕ) (door : Door) (ports : List Port) → port ≢ last
@@ -43,25 +51,57 @@ find-admitted true port last door ports other =
 
 -- ---- what is to be read
 
--- a change of a port that leaves its door, and what it has sent
+-- a change of a port that leaves its door, and what it has sent, and behind which it isn't settled
 pub record IsSilent (f : Port → Port) : Type 0 where
   pub door : (p : Port) → (f p).door ≡ p.door
   pub heard : (p : Port) → (f p).heard ≡ p.heard
+  pub unsettled : (p : Port) → is_settled (f p).waits (f p).owed ≡ false
+
+-- a client that is owed more isn't settled
+unsettled-more : (owed more : List ℕ) → 0 < length more → is_settled Nothing (owed ++ more) ≡ false
+unsettled-more owed more some = let long = length-append owed more in grind (arith, nat_tests)
+
+-- nor is one that was told something
+unsettled-answer : {verdict : Verdict} → IsAnswer verdict → (owed : List ℕ)
+    → is_settled (verdict_waits verdict) (owed ++ verdict_text verdict) ≡ false
+unsettled-answer (replying reply) owed = unsettled-more owed (reply_text reply) (reply_is_some reply)
+unsettled-answer (refusing cause) owed = unsettled-more owed failure (omega (arith, length-string (5 ∷ [])))
+unsettled-answer (awaiting ask) owed = refl
 
 -- what a client is told, and what its connection is bound to, is such a change
 pub silent-news : (f : Port → Port) → IsNews f → IsSilent f
-silent-news f (says verdict is) = record { door = λ p. refl; heard = λ p. refl }
-silent-news f (proves verification) = record { door = λ p. refl; heard = λ p. refl }
+silent-news f (says verdict is) =
+    record { door = λ p. refl; heard = λ p. refl; unsettled = λ p. unsettled-answer is p.owed }
+silent-news f (proves verification) =
+    record { door = λ p. refl; heard = λ p. refl; unsettled = λ p. unsettled-answer (replying Success) p.owed }
+
+-- a test that allows for another
+either_more : (more was is none : Bool) → (was ≡ true → is ≡ true) → (more && (was || none)) ≡ true
+    → (more && (is || none)) ≡ true
+either_more false was is none leads both = both
+either_more true true is none leads both = or_left is none (leads refl)
+either_more true false true none leads both = refl
+either_more true false false none leads both = both
+
+-- what is to be read is also where it is settled
+pub wanted-more : (door : Door) (was is : Bool) (heard : List ℕ) → (was ≡ true → is ≡ true)
+    → wants_more door was heard ≡ true → wants_more door is heard ≡ true
+wanted-more Clients was is heard leads wanted =
+    either_more (is_more (front longest_body heard)) was is (not (is_some_bytes heard)) leads wanted
+wanted-more Children was is heard leads wanted = refl
 
 -- what is to be read behind such changes was before them
-was_read : (f : Port → Port) → IsSilent f → (p : Port)
-    → wants_more (f p).door (f p).heard ≡ wants_more p.door p.heard
-was_read f is p =
-    ap (λ d. wants_more d (f p).heard) (is.door p) ∙ ap (wants_more p.door) (is.heard p)
+was_read : (f : Port → Port) → IsSilent f → (p : Port) → wants_by (Some (f p)) ≡ true
+    → wants_by (Some p) ≡ true
+was_read f is p wanted =
+    wanted-more p.door false (is_settled p.waits p.owed) p.heard (λ never. absurd (cc))
+    (sym (ap (λ d. wants_more d (is_settled (f p).waits (f p).owed) (f p).heard) (is.door p)
+    ∙ ap (λ b. wants_more p.door b (f p).heard) (is.unsettled p) ∙ ap (wants_more p.door false) (is.heard p))
+    ∙ wanted)
 
 -- where this port is to be read, it was before
 abbrev WasRead : ℕ → List Port → Port → Type 0
-WasRead port old at = wants_more at.door at.heard ≡ true → wants_by (find_port port old) ≡ true
+WasRead port old at = wants_by (Some at) ≡ true → wants_by (find_port port old) ≡ true
 
 -- one that is to be read where others changed was before
 wants-spared : (port low high : ℕ) (old : List Port) {new : List Port}
@@ -73,7 +113,7 @@ wants-spared port low high old {new} spares rising = by_found (find_port port ne
         → wants_by (find_port port old) ≡ true
     by_found None is wanted = absurd (cc)
     by_found (Some at) is wanted =
-        holds-spared IsSilent (WasRead port old) (λ f silent p was read. was (sym (was_read f silent p) ∙ read)) port low high old
+        holds-spared IsSilent (WasRead port old) (λ f silent p was read. was (was_read f silent p read)) port low high old
         spares rising (λ p there read. ap wants_by there ∙ read) at is wanted
 
 -- each event, after the moment was taken in

@@ -10,6 +10,7 @@ pub mod SparedLemmas
 pub mod MomentLemmas
 pub mod DueLemmas
 pub mod ElsewhereLemmas
+pub mod SettledLemmas
 pub mod LeftLemmas
 pub mod ClientOwedLemmas
 pub mod ClientsLemmas

@@ -13,6 +13,7 @@ use Rattle.agent_model.specs.Sound.{IsRising}
 use Rattle.agent_model.specs.State.{Port, Settings, State, UnderWay, find_port, first_state, is_client, is_linked_to, is_some_bytes, owed_as, owed_by, owed_of, role_by_helper, role_by_link, role_of}
 use Rattle.agent_model.specs.Step.{handle, has_room, step}
 use Rattle.agent_model.specs.Time.{at_moment}
+use Rattle.agent_model.proofs.FatedLemmas.{first-tied, step-fated, tied-opened}
 use Rattle.agent_model.proofs.MakeLemmas.{by_event_as, role-helper}
 use Rattle.agent_model.proofs.PortsLemmas.{find_port-below, found_above, found_number}
 use Rattle.agent_model.proofs.RunLemmas.{first_is_sound, step_keeps-sound}
@@ -58,6 +59,7 @@ orderly_at state moment orderly = record {
     staffed = orderly.staffed;
     owes = λ opened. absurd (none-zero state orderly.sound.rising opened);
   }).staffed;
+  tied = tied-opened moment state orderly.tied;
 }
 
 pub orderly_after : (state : State) (moment : Moment) (event : Happening) → IsOrderly state
@@ -67,6 +69,7 @@ orderly_after state moment event orderly =
     record {
       sound = step_keeps-sound state moment event orderly.sound;
       staffed = staffed_by event (at_moment moment state) begun.sound.rising begun.staffed;
+      tied = (step-fated state moment event orderly.tied).tied;
     }
 
 pub orderly_first : (settings : Settings) → IsOrderly (first_state settings)
@@ -76,6 +79,7 @@ orderly_first settings = record {
     jobs = record { order = omega arith; to_start = tt; started = tt; apart = λ number job found. absurd (cc) };
     coming = tt;
   };
+  tied = first-tied settings;
 }
 
 -- ---- what a child process is owed, as its port tells

@@ -121,7 +121,7 @@ servable_handled : (state : State) (event : Happening) (thing : Thing) → IsOrd
 servable_handled state event (Accept door) orderly never able opened =
     ap (λ n. nat_lt n (2 ^ 64 - 1)) (last_left event state never) ∙ able
 servable_handled state event (Read port) orderly never able opened =
-    wanted_after state event port orderly.sound.rising never able opened
+    wanted_after state event port orderly.tied never able opened
 servable_handled state event (Write port) orderly never able opened =
     owed_either (is_clients (find_port port state.ports)) state event port orderly never refl able opened
 
@@ -160,7 +160,7 @@ servable_at : (state : State) (moment : Moment) (thing : Thing) → IsOrderly st
 servable_at state moment (Accept door) orderly able opened =
     ap (λ n. nat_lt n (2 ^ 64 - 1)) (at_moment-follows moment state).last ∙ able
 servable_at state moment (Read port) orderly able opened =
-    wanted_at state moment port orderly.sound.rising able opened
+    wanted_at state moment port orderly.tied able opened
 servable_at state moment (Write port) orderly able opened =
     owed_either_at (is_clients (find_port port state.ports)) state moment port orderly refl able opened
 

@@ -1,10 +1,10 @@
--- What holds of the agent in every state that events lead to, so that who is owed bytes stays so (ours).
+-- What holds of the agent in every state that events lead to, so that who is owed bytes or to be read stays so (ours).
 use Rattle.std.specs.Prelude.{◌≡◌, ℕ, List, [], ◌∷◌}
 use Rattle.world_ports.specs.declared.events.JobKind.{JobKind}
 use Rattle.world_ports.specs.declared.events.JobKind.TheVariants as kinds
 use Rattle.helper_link.specs.declared.state.LinkState.{LinkState}
 use Rattle.helper_link.specs.declared.state.LinkState.TheVariants as states
-use Rattle.agent_model.specs.Sound.{IsSound}
+use Rattle.agent_model.specs.Sound.{IsSound, IsTied}
 use Rattle.agent_model.specs.State.{StartedJob, State, UnderWay}
 use Rattle.under_way.specs.Parts.{AreKept, jobs_of}
 
@@ -24,7 +24,8 @@ pub record IsStaffed (under_way : UnderWay) : Type 0 where
   pub jobs : AreKept under_way.last_job under_way.confirmations under_way.to_start (jobs_of under_way.started)
   pub coming : AreComing under_way.link.state under_way.started
 
--- the ports rise and are few, and what is under way fits together
+-- the ports rise and are few, what is under way fits together, and who waits is tied to it
 pub record IsOrderly (state : State) : Type 0 where
   pub sound : IsSound state
   pub staffed : IsStaffed state.under_way
+  pub tied : IsTied state
