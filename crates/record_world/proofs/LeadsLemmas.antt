@@ -1,5 +1,5 @@
 -- What a recorder wrote of one call.
-use Rattle.std.proofs.Common.{codes, ◌≡◌, ◌++◌, ◌||◌, ◌&&◌, Bool, true, false, not, ℕ, List, [], ◌∷◌, Option, refl, sym, ap, subst, ◌∙◌, append_assoc, append-nil, Result, Ok, Err, OnErr, ◌⊎◌, inl, inr, arith}
+use Rattle.std.proofs.Common.{codes, ◌≡◌, ◌++◌, ◌||◌, ◌&&◌, Bool, true, false, if◌then◌else◌, not, ℕ, List, [], ◌∷◌, Option, refl, sym, ap, subst, ◌∙◌, append_assoc, append-nil, Result, Ok, Err, OnErr, ◌⊎◌, inl, inr, arith}
 use Rattle.std.specs.Io.KnownBytes.{Appends}
 use Rattle.std.proofs.KnownBytes.{Appends-nil, Appends-trans}
 use Rattle.world_ports.specs.Journal.{Tells}
@@ -8,7 +8,7 @@ use Rattle.world_ports.specs.declared.Door.{Door}
 use Rattle.world_ports.specs.declared.answers.WorldFault.{WorldFault}
 use Rattle.world_ports.specs.declared.entry.Entry.{Entry}
 use Rattle.world_ports.specs.declared.entry.Entry.TheVariants as entry
-use Rattle.record_world.specs.Recording.{Recording, after, bind_text, is_full, record_from, recording_after, text_of}
+use Rattle.record_world.specs.Recording.{Recording, after, is_full, record_from, recording_after, text_of}
 use Rattle.record_world.specs.Leads.{EndsCalls, IsOrder, IsWritten, Leads, Puts, Says, SaysIf, Stays, Taped, Writes, WritesOf, is_stopped, no_room_line, taped}
 use Rattle.record_world.specs.Orders.{cause-none, grows-none, only-none, stays-same, writes-none, writes-twice, ends-none}
 
@@ -224,7 +224,7 @@ bind_wrote is_short door path answer sink later errors said broken short failed 
     subst (λ (b : Bool). WritesOf is_short (entry.Bind door path answer) (taped sink errors broken short kept) (taped later said failed b left)) (sym is_shortened)
     (subst (λ (r : Recording). WritesOf is_short (entry.Bind door path answer) (taped sink errors broken short kept) (taped later said failed (short || is_short) r)) (sym is_left)
     (written_by is_short (entry.Bind door path answer) sink later errors said broken short failed kept (codes "schedule 2\n" ++ []) (sym is_on ∙ goes) puts says
-    (sym (ap bind_text (not_true kept.is_bound (sym is_first ∙ is_one)))) (λ fine. fine)))
+    (sym (ap (λ (bound : Bool). if bound then [] else codes "schedule 2\n") (not_true kept.is_bound (sym is_first ∙ is_one)))) (λ fine. fine)))
 
 -- ---- no memory was wanted before
 

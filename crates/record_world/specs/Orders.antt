@@ -6,6 +6,7 @@ use Rattle.world_ports.specs.Journal.{Grows}
 use Rattle.world_ports.specs.Streams.{OnlyWrites, StreamView}
 use Rattle.world_ports.specs.declared.Door.{Door}
 use Rattle.world_ports.specs.declared.Door.TheVariants.{Clients, Children}
+use Rattle.world_ports.specs.declared.Job.{Job}
 use Rattle.world_ports.specs.declared.answers.Accepted.{Accepted}
 use Rattle.world_ports.specs.declared.answers.Accepted.TheVariants as accepted
 use Rattle.world_ports.specs.declared.answers.Got.{Got}
@@ -21,7 +22,7 @@ use Rattle.wire_text.specs.Frames.{Bad, Front, More, Whole, front, split}
 use Rattle.redact_core.specs.Places.{kept_len}
 use Rattle.redact_core.specs.Redaction.{Redacted, redacted_all}
 use Rattle.redact_core.proofs.GrowLemmas.{all_more, over_more}
-use Rattle.record_world.specs.Recording.{Port, Recording, after, at_accept, at_read, at_start, at_write, client_taken, find_port, heard, is_full, record_from, recording_after, rest_taken, taken_by, text_of}
+use Rattle.record_world.specs.Recording.{Port, Recording, after, client_taken, find_port, heard, is_full, left, record_from, recording_after, rest_taken, taken_by, text_of}
 use Rattle.record_world.specs.Leads.{BreaksFor, EndsCalls, FailsToWrite, IsFront, IsWritten, LacksRoom, Leads, Says, Stays, Taped, Writes, is_stopped, no_room_line, unwritten_line}
 
 -- inhabited by false alone
@@ -128,30 +129,30 @@ by_read : (found : Option Port) (piece : List ℕ) (recording : Recording)
 by_read None piece recording = le_refl (kept_len recording.passphrases)
 by_read (Some port) piece recording = taken_more port.door port piece recording.passphrases
 
-read-more : (port : ℕ) (bytes : List ℕ) (answer : Result Got WorldFault) (recording : Recording)
-    → kept_len recording.passphrases ≤ kept_len (at_read port bytes answer recording).kept.passphrases
-read-more port bytes (Ok (got.Bytes count)) recording = by_read (find_port port recording.ports) bytes recording
-read-more port bytes (Ok got.End) recording = le_refl (kept_len recording.passphrases)
-read-more port bytes (Ok got.NotNow) recording = le_refl (kept_len recording.passphrases)
-read-more port bytes (Err Failed) recording = le_refl (kept_len recording.passphrases)
-read-more port bytes (Err Memory) recording = le_refl (kept_len recording.passphrases)
+read-more : (port room : ℕ) (bytes : List ℕ) (answer : Result Got WorldFault) (recording : Recording)
+    → kept_len recording.passphrases ≤ kept_len (left (entry.Read port room bytes answer) recording).kept.passphrases
+read-more port room bytes (Ok (got.Bytes count)) recording = by_read (find_port port recording.ports) bytes recording
+read-more port room bytes (Ok got.End) recording = le_refl (kept_len recording.passphrases)
+read-more port room bytes (Ok got.NotNow) recording = le_refl (kept_len recording.passphrases)
+read-more port room bytes (Err Failed) recording = le_refl (kept_len recording.passphrases)
+read-more port room bytes (Err Memory) recording = le_refl (kept_len recording.passphrases)
 
 -- a call that reads nothing leaves the passphrases
 accept-same : (door : Door) (answer : Result Accepted WorldFault) (recording : Recording)
-    → (at_accept door answer recording).kept.passphrases ≡ recording.passphrases
+    → (left (entry.Accept door answer) recording).kept.passphrases ≡ recording.passphrases
 accept-same door (Ok (accepted.Port number)) recording = refl
 accept-same door (Ok accepted.NotNow) recording = refl
 accept-same door (Err fault) recording = refl
 
-write-same : (port : ℕ) (answer : Result Wrote WorldFault) (recording : Recording)
-    → (at_write port answer recording).kept.passphrases ≡ recording.passphrases
-write-same port (Ok (wrote.Took count)) recording = refl
-write-same port (Ok wrote.NotNow) recording = refl
-write-same port (Err Failed) recording = refl
-write-same port (Err Memory) recording = refl
+write-same : (port : ℕ) (offered : List ℕ) (answer : Result Wrote WorldFault) (recording : Recording)
+    → (left (entry.Write port offered answer) recording).kept.passphrases ≡ recording.passphrases
+write-same port offered (Ok (wrote.Took count)) recording = refl
+write-same port offered (Ok wrote.NotNow) recording = refl
+write-same port offered (Err Failed) recording = refl
+write-same port offered (Err Memory) recording = refl
 
-start-same : (job : ℕ) (answer : Result (List ℕ) WorldFault) (recording : Recording)
-    → (at_start job answer recording).kept.passphrases ≡ recording.passphrases
+start-same : (job : Job) (answer : Result (List ℕ) WorldFault) (recording : Recording)
+    → (left (entry.Start job answer) recording).kept.passphrases ≡ recording.passphrases
 start-same job (Ok ticket) recording = refl
 start-same job (Err Failed) recording = refl
 start-same job (Err Memory) recording = refl
@@ -163,11 +164,11 @@ one-more : (one : Entry) (recording : Recording)
     → kept_len recording.passphrases ≤ kept_len (after one recording).passphrases
 one-more (entry.Bind door path answer) recording = le_refl (kept_len recording.passphrases)
 one-more (entry.Poll wait items answer) recording = le_refl (kept_len recording.passphrases)
-one-more (entry.Accept door answer) recording = same-most recording.passphrases (at_accept door answer recording).kept.passphrases (accept-same door answer recording)
-one-more (entry.Read port room bytes answer) recording = read-more port bytes answer recording
-one-more (entry.Write port offered answer) recording = same-most recording.passphrases (at_write port answer recording).kept.passphrases (write-same port answer recording)
+one-more (entry.Accept door answer) recording = same-most recording.passphrases (left (entry.Accept door answer) recording).kept.passphrases (accept-same door answer recording)
+one-more (entry.Read port room bytes answer) recording = read-more port room bytes answer recording
+one-more (entry.Write port offered answer) recording = same-most recording.passphrases (left (entry.Write port offered answer) recording).kept.passphrases (write-same port offered answer recording)
 one-more (entry.Close port answer) recording = le_refl (kept_len recording.passphrases)
-one-more (entry.Start job answer) recording = same-most recording.passphrases (at_start job.number answer recording).kept.passphrases (start-same job.number answer recording)
+one-more (entry.Start job answer) recording = same-most recording.passphrases (left (entry.Start job answer) recording).kept.passphrases (start-same job answer recording)
 one-more (entry.Now answer) recording = le_refl (kept_len recording.passphrases)
 
 -- they take no less behind entries than before them

@@ -1,19 +1,14 @@
 -- The record of a journal, entry by entry (ours): docs/PROTOCOL.md, "Records". The file is read from its end.
-use Rattle.std.specs.Prelude.{ℕ, zero, suc, Bool, true, false, ◌||◌, not, List, [], ◌∷◌, ◌++◌, length, take, drop, map, codes, nat_lt, Option, Some, None, Result, Ok, Err, if◌then◌else◌}
+use Rattle.std.specs.Prelude.{ℕ, zero, suc, ◌==◌, Bool, true, false, ◌||◌, not, List, [], ◌∷◌, ◌++◌, length, take, drop, map, codes, Option, Some, None, Ok, Err, if◌then◌else◌}
 use Rattle.std.specs.List.{flat_map}
 use Rattle.wire_text.specs.Bounds.{longest_body}
-use Rattle.wire_text.specs.Frames.{Front, Split, front, split, Whole, Bad, More}
+use Rattle.wire_text.specs.Frames.{Front, front, split, Bad}
 use Rattle.lists.specs.Keyed.{change_by, find_by, remove_by}
 use Rattle.world_ports.specs.declared.Door.{Door}
 use Rattle.world_ports.specs.declared.Door.TheVariants.{Clients, Children}
-use Rattle.world_ports.specs.declared.Moment.{Moment}
-use Rattle.world_ports.specs.declared.answers.Accepted.{Accepted}
 use Rattle.world_ports.specs.declared.answers.Accepted.TheVariants as accepted
-use Rattle.world_ports.specs.declared.answers.Got.{Got}
 use Rattle.world_ports.specs.declared.answers.Got.TheVariants as got
-use Rattle.world_ports.specs.declared.answers.WorldFault.{WorldFault}
-use Rattle.world_ports.specs.declared.answers.WorldFault.TheVariants.{Failed, Memory}
-use Rattle.world_ports.specs.declared.answers.Wrote.{Wrote}
+use Rattle.world_ports.specs.declared.answers.WorldFault.TheVariants.{Failed}
 use Rattle.world_ports.specs.declared.answers.Wrote.TheVariants as wrote
 use Rattle.world_ports.specs.declared.entry.Entry.{Entry}
 use Rattle.world_ports.specs.declared.entry.Entry.TheVariants as entry
@@ -102,11 +97,6 @@ abbrev pub hold_text : Bool → ℕ → List ℕ
 hold_text true port = []
 hold_text false port = step_line (steps.Hold port)
 
--- there are bytes
-abbrev pub is_some : List ℕ → Bool
-is_some [] = false
-is_some (byte ∷ bytes) = true
-
 -- what leaves a port at one event: the port as that leaves it, the passphrases, and the bytes
 pub record Taken : Type 0 where
   pub port : Port
@@ -120,20 +110,15 @@ rest_taken (Bad announced) port frames rest = record {
   passphrases = frames.passphrases;
   bytes = frames.body ++ take 4 rest;
 }
-rest_taken (Whole body_len) port frames rest =
-    record { port = record port { unrecorded = rest }; passphrases = frames.passphrases; bytes = frames.body }
-rest_taken More port frames rest =
+rest_taken unfinished port frames rest =
     record { port = record port { unrecorded = rest }; passphrases = frames.passphrases; bytes = frames.body }
 
--- what leaves a client's port where its bytes have this split into frames and a rest
-abbrev pub split_taken : Split → Port → List (List ℕ) → Taken
-split_taken cut port passphrases =
-    rest_taken (front longest_body cut.rest) port (redacted_all cut.bodies passphrases) cut.rest
-
--- what comes behind a bad length isn't recorded
+-- what leaves a client's port: what comes behind a bad length isn't recorded
 abbrev pub client_taken : Bool → Port → List ℕ → List (List ℕ) → Taken
 client_taken true port piece passphrases = record { port = port; passphrases = passphrases; bytes = [] }
-client_taken false port piece passphrases = split_taken (split longest_body (port.unrecorded ++ piece)) port passphrases
+client_taken false port piece passphrases =
+    let cut = split longest_body (port.unrecorded ++ piece) in
+    rest_taken (front longest_body cut.rest) port (redacted_all cut.bodies passphrases) cut.rest
 
 -- a child's bytes are recorded as they come
 abbrev pub taken_by : Door → Port → List ℕ → List (List ℕ) → Taken
@@ -146,7 +131,7 @@ taken port piece passphrases = taken_by port.door port piece passphrases
 
 -- bytes that leave a port hold it
 abbrev pub held : List ℕ → Port → Port
-held bytes port = record port { is_held = port.is_held || is_some bytes }
+held bytes port = record port { is_held = port.is_held || not (length bytes == 0) }
 
 -- the steps that tell what left a port
 abbrev pub hear_lines : Taken → List Step
@@ -173,54 +158,23 @@ heard (Some port) piece recording = told (taken port piece recording.passphrases
 abbrev pub new_port : ℕ → Door → Port
 new_port number door = record { number = number; door = door; unrecorded = []; is_held = false; is_bad = false }
 
--- a connection was accepted as the port of this number
-abbrev pub joined : ℕ → Door → Recording → Left
-joined number door recording = record {
-  kept = record recording { ports = recording.ports ++ new_port number door ∷ [] };
-  steps = steps.Join door ∷ [];
-}
-
--- what an accept at this door leaves
-abbrev pub at_accept : Door → Result Accepted WorldFault → Recording → Left
-at_accept door (Ok (accepted.Port number)) recording = joined number door recording
-at_accept door (Ok accepted.NotNow) recording = only [] recording
-at_accept door (Err fault) recording = only [] recording
-
--- what a read of this port leaves; a failed one is the port's end
-abbrev pub at_read : ℕ → List ℕ → Result Got WorldFault → Recording → Left
-at_read port bytes (Ok (got.Bytes count)) recording = heard (find_port port recording.ports) bytes recording
-at_read port bytes (Ok got.End) recording = only (steps.End port ∷ []) recording
-at_read port bytes (Ok got.NotNow) recording = only [] recording
-at_read port bytes (Err Failed) recording = only (steps.End port ∷ []) recording
-at_read port bytes (Err Memory) recording = only [] recording
-
--- what a write to this port leaves; a failed one is the port's end
-abbrev pub at_write : ℕ → Result Wrote WorldFault → Recording → Left
-at_write port (Ok (wrote.Took count)) recording = only (steps.Take port count ∷ []) recording
-at_write port (Ok wrote.NotNow) recording = only [] recording
-at_write port (Err Failed) recording = only (steps.End port ∷ []) recording
-at_write port (Err Memory) recording = only [] recording
-
--- what is kept of a port goes when it is closed
-abbrev pub at_close : ℕ → Recording → Left
-at_close port recording = only [] (record recording { ports = remove_by number_of port recording.ports })
-
--- what the start of this job leaves
-abbrev pub at_start : ℕ → Result (List ℕ) WorldFault → Recording → Left
-at_start job (Ok ticket) recording = only (steps.Started job ticket ∷ []) recording
-at_start job (Err Failed) recording = only (steps.Failed job ∷ []) recording
-at_start job (Err Memory) recording = only [] recording
-
--- what a call on the world leaves, by its entry of the journal
+-- what a call on the world leaves, by its entry of the journal: a read or a write that failed is the port's end, and what
+-- is kept of a port goes when it is closed
 abbrev pub left : Entry → Recording → Left
 left (entry.Bind door path answer) recording = only [] (record recording { is_bound = true })
-left (entry.Poll wait items answer) recording = only [] recording
-left (entry.Accept door answer) recording = at_accept door answer recording
-left (entry.Read port room bytes answer) recording = at_read port bytes answer recording
-left (entry.Write port offered answer) recording = at_write port answer recording
-left (entry.Close port answer) recording = at_close port recording
-left (entry.Start job answer) recording = at_start job.number answer recording
-left (entry.Now answer) recording = only [] recording
+left (entry.Accept door (Ok (accepted.Port number))) recording =
+    only (steps.Join door ∷ []) (record recording { ports = recording.ports ++ new_port number door ∷ [] })
+left (entry.Read port room bytes (Ok (got.Bytes count))) recording =
+    heard (find_port port recording.ports) bytes recording
+left (entry.Read port room bytes (Ok got.End)) recording = only (steps.End port ∷ []) recording
+left (entry.Read port room bytes (Err Failed)) recording = only (steps.End port ∷ []) recording
+left (entry.Write port offered (Ok (wrote.Took count))) recording = only (steps.Take port count ∷ []) recording
+left (entry.Write port offered (Err Failed)) recording = only (steps.End port ∷ []) recording
+left (entry.Close port answer) recording =
+    only [] (record recording { ports = remove_by number_of port recording.ports })
+left (entry.Start job (Ok ticket)) recording = only (steps.Started job.number ticket ∷ []) recording
+left (entry.Start job (Err Failed)) recording = only (steps.Failed job.number ∷ []) recording
+left other recording = only [] recording
 
 -- what is kept then
 abbrev pub with_due : Left → Recording
@@ -232,26 +186,12 @@ after one recording = with_due (left one recording)
 
 -- ---- what is written
 
--- the first bind writes the line of the format
-abbrev pub bind_text : Bool → List ℕ
-bind_text true = []
-bind_text false = codes "schedule 2\n"
-
--- a moment writes its line, and behind it those that waited for it
-abbrev pub now_text : {E : Type 0} → Result Moment E → List ℕ → List ℕ
-now_text (Ok moment) due = step_line (steps.At moment) ++ due
-now_text (Err want) due = []
-
--- the lines of an entry
+-- the lines of an entry: the first bind writes that of the format, and a moment its own, and behind it those that waited
+-- for it
 abbrev pub text_of : Entry → Recording → List ℕ
-text_of (entry.Bind door path answer) recording = bind_text recording.is_bound
-text_of (entry.Poll wait items answer) recording = []
-text_of (entry.Accept door answer) recording = []
-text_of (entry.Read port room bytes answer) recording = []
-text_of (entry.Write port offered answer) recording = []
-text_of (entry.Close port answer) recording = []
-text_of (entry.Start job answer) recording = []
-text_of (entry.Now answer) recording = now_text answer recording.due
+text_of (entry.Bind door path answer) recording = if recording.is_bound then [] else codes "schedule 2\n"
+text_of (entry.Now (Ok moment)) recording = step_line (steps.At moment) ++ recording.due
+text_of other recording = []
 
 -- the lines of these entries, and what they leave
 abbrev pub record_from : Recording → List Entry → List ℕ

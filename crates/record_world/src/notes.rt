@@ -8,7 +8,7 @@ ghost use Rattle.schedule_text.specs.declared.step.Step.TheVariants as steps;
 ghost use Rattle.redact_core.specs.Redaction.{is_over};
 ghost use Rattle.redact_core.specs.declared.fault.RedactFault.TheVariants.{Full};
 ghost use Rattle.record_world.specs.Dues.{due_text};
-ghost use Rattle.record_world.specs.Recording.{at_close, find_port, first_recording, hear_lines, heard, held, is_full, joined, lines, number_of, only, taken, with_due};
+ghost use Rattle.record_world.specs.Recording.{find_port, first_recording, hear_lines, heard, held, is_full, lines, new_port, number_of, only, taken, with_due};
 
 use crate::due::Due;
 use crate::hears::put_hearing;
@@ -128,7 +128,8 @@ impl Notes {
 
     /// A connection was accepted.
     pub fn join(&mut self, door: Door, number: u64) -> Result<(), AllocError>
-        ensures { OnOk result (self.new ≡ with_due (joined number door self.old)) }
+        ensures { OnOk result (self.new ≡ with_due (only (steps.Join door ∷ [])
+            (record self.old { ports = self.old.ports ++ new_port number door ∷ [] }))) }
     {
         self.peers.push(Peer::new(self.alloc, number, door))?;
         self.wait(Due::Join(door));
@@ -189,7 +190,7 @@ impl Notes {
 
     /// A connection was closed.
     pub fn close(&mut self, port: u64)
-        ensures { self.new ≡ with_due (at_close port self.old) }
+        ensures { self.new ≡ with_due (only [] (record self.old { ports = remove_by number_of port self.old.ports })) }
     {
         forget(&mut self.peers, port);
         self.wait(Due::Nothing);
