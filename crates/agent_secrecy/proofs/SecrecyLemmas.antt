@@ -1,5 +1,5 @@
 -- Alike lists of events, from the first state on.
-use Rattle.std.proofs.Common.{◌≡◌, ◌≢◌, ℕ, ◌<◌, ◌≤◌, List, [], ◌∷◌, ◌++◌, length, refl, sym, ap, subst, ◌∙◌, arith, Option, Some, None}
+use Rattle.std.proofs.Common.{◌≡◌, ◌≢◌, ℕ, ◌<◌, ◌≤◌, List, [], ◌∷◌, ◌++◌, length, refl, sym, ap, subst, ◌∙◌, arith, Option, Some, None, Bool, nat_lt, not, ◌&&◌, ◌||◌}
 use Rattle.std.specs.Prelude.{IsSome}
 use Rattle.std.proofs.lemmas.List.{map-append}
 use Rattle.identity_table.specs.Deaths.{earlier}
@@ -12,7 +12,7 @@ use Rattle.agent_model.specs.Actions.{Outcome, behind}
 use Rattle.agent_model.specs.Events.{Happening, Timed, Joined, Heard, Ended, Took, Started, StartFailed, Tick}
 use Rattle.agent_model.specs.Runs.{AllFit, outcomes}
 use Rattle.agent_model.specs.Sound.{IsSound}
-use Rattle.agent_model.specs.State.{Client, Confirmer, Fits, Helper, Port, Role, Settings, State, UnderWay, Unnamed, client_count, find_port, first_state, is_linked_to, is_more, next_due, next_limit, numbers, owed_as, owed_by, owed_by_port, role_by_helper, role_of, wants, wants_more, wants_by}
+use Rattle.agent_model.specs.State.{Client, Confirmer, Fits, Helper, Port, Role, Settings, State, UnderWay, Unnamed, client_count, find_port, first_state, is_linked_to, is_more, is_settled, next_due, next_limit, numbers, owed_as, owed_by, owed_by_port, role_by_helper, role_of, wants, wants_more, wants_by}
 use Rattle.agent_model.specs.Step.{handle, in_order, step}
 use Rattle.agent_model.specs.Time.{at_moment, time_passes}
 use Rattle.agent_model.proofs.MakeLemmas.{role-client, role-helper}
@@ -163,16 +163,26 @@ more_in one other (both_whole body_len bodies streams) = refl
 more_in one other (both_bad first second) = refl
 more_in one other both_more = refl
 
+-- whether it is to be read, as the tests of it say
+abbrev reads : Bool → Bool → ℕ → Bool
+reads more settled count = more && (settled || not (nat_lt 0 count))
+
 wants_at_by : (door : ℕ → Door) (f g : ℕ → List ℕ) (s t : State) (number : ℕ) (p q : Port) (through : Door)
     → Tracks door f g s t → find_port number s.ports ≡ Some p → find_port number t.ports ≡ Some q
     → hide_port blanked p ≡ hide_port blanked q → p.door ≡ through
-    → wants_more through p.heard ≡ wants_more through q.heard
+    → wants_more through (is_settled p.waits p.owed) p.heard ≡ wants_more through (is_settled q.waits q.owed) q.heard
 wants_at_by door f g s t number p q Children tracks at_p at_q same is = refl
 wants_at_by door f g s t number p q Clients tracks at_p at_q same is =
     let client : door number ≡ Clients = sym (tracks.one.doors number p at_p) ∙ is in
     let q_is : q.door ≡ Clients = tracks.other.doors number q at_q ∙ client in
+    let lengths : length p.heard ≡ length q.heard = heard_lengths p q same is q_is in
+    let more : is_more (front longest_body p.heard) ≡ is_more (front longest_body q.heard) =
     more_in (front longest_body p.heard) (front longest_body q.heard)
-    (alike_fronts p.heard q.heard (f number) (g number) (heard_lengths p q same is q_is) (tracks.streams number p q at_p at_q client))
+    (alike_fronts p.heard q.heard (f number) (g number) lengths (tracks.streams number p q at_p at_q client)) in
+    let settled : is_settled p.waits p.owed ≡ is_settled q.waits q.owed = ap (λ (x : Port). is_settled x.waits x.owed) same in
+    ap (λ b. reads b (is_settled p.waits p.owed) (length p.heard)) more
+    ∙ ap (λ b. reads (is_more (front longest_body q.heard)) b (length p.heard)) settled
+    ∙ ap (reads (is_more (front longest_body q.heard)) (is_settled q.waits q.owed)) lengths
 
 wants-by : (door : ℕ → Door) (f g : ℕ → List ℕ) (s t : State) (number : ℕ) (one other : Option Port)
     → Tracks door f g s t → find_port number s.ports ≡ one → find_port number t.ports ≡ other
@@ -187,7 +197,7 @@ wants-by door f g s t number (Some p) (Some q) tracks is other_is =
     let q_is : pair.0 ≡ q = (let e : Some pair.0 ≡ Some q = sym pair.1 ∙ other_is in cc) in
     let same : hide_port blanked p ≡ hide_port blanked q = pair.2 ∙ ap (hide_port blanked) q_is in
     wants_at_by door f g s t number p q p.door tracks is other_is same refl
-    ∙ ap (λ (x : Port). wants_more x.door q.heard) same
+    ∙ ap (λ (x : Port). wants_more x.door (is_settled q.waits q.owed) q.heard) same
 
 next_due-hidden : (state : State) → next_due (without_secrets state) ≡ next_due state
 next_due-hidden state = ap (λ death. earlier death (next_limit state.under_way)) (next_death-hidden hidden state.held.table.identities)

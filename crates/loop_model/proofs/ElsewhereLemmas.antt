@@ -18,7 +18,7 @@ use Rattle.agent_model.specs.Sound.{IsRising}
 use Rattle.agent_model.specs.State.{Client, Nothing, Port, State, UnderWay, find_port, is_client, is_more, is_settled, is_some_bytes, new_port, owed_as, owed_by, owed_of, role_of, wants, wants_more, wants_by}
 use Rattle.agent_model.specs.Step.{admitted, ended_at, ended_by_role, handle, has_room, looked, step, took_some}
 use Rattle.agent_model.specs.Time.{at_moment, taken_in}
-use Rattle.agent_model.specs.Verdicts.{Success, Verdict, reply_text, verdict_text, verdict_waits}
+use Rattle.agent_model.specs.Verdicts.{Replies, Success, Verdict, verdict_text, verdict_waits}
 use Rattle.agent_msg.specs.Replies.{failure}
 use Rattle.agent_model.proofs.ClientLemmas.{handle-heard, handle-took, took-child}
 use Rattle.agent_model.proofs.JobLemmas.{asker_own}
@@ -64,7 +64,7 @@ unsettled-more owed more some = let long = length-append owed more in grind (ari
 -- nor is one that was told something
 unsettled-answer : {verdict : Verdict} → IsAnswer verdict → (owed : List ℕ)
     → is_settled (verdict_waits verdict) (owed ++ verdict_text verdict) ≡ false
-unsettled-answer (replying reply) owed = unsettled-more owed (reply_text reply) (reply_is_some reply)
+unsettled-answer (replying reply) owed = unsettled-more owed (verdict_text (Replies reply)) (reply_is_some reply)
 unsettled-answer (refusing cause) owed = unsettled-more owed failure (omega (arith, length-string (5 ∷ [])))
 unsettled-answer (awaiting ask) owed = refl
 
