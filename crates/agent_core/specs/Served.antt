@@ -1,5 +1,5 @@
 -- What the code tells of requests (ours).
-use Rattle.std.specs.Prelude.{◌≡◌, ℕ, ◌+◌, ◌≤◌, Bool, true, false, not, List, Option, None, Some, IfSome, length}
+use Rattle.std.specs.Prelude.{◌≡◌, ℕ, ◌+◌, ◌≤◌, Bool, true, false, not, List, Option, None, Some, IfSome, length, Ok}
 use Rattle.identity_table.specs.Identities.{HeldKey, TableState}
 use Rattle.dest_rule.specs.Hosts.{login_host}
 use Rattle.agent_msg.specs.Requests.{ClientRequest, ListIdentities, Sign, Add, Remove, RemoveAll, Lock, Unlock, Bind, OtherExtension, Unsupported}

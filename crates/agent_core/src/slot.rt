@@ -1,13 +1,13 @@
 //! One open port.
 
-ghost use Rattle.std.specs.Prelude.{◌≡◌, ◌+◌, ◌≤◌, ◌||◌, [], true, None, IfOk, OnOk, length};
+ghost use Rattle.std.specs.Prelude.{◌≡◌, ◌+◌, ◌≤◌, ◌||◌, [], true, None, Some, IfOk, OnOk, length};
 ghost use Rattle.wire_text.specs.Frames.{after_front, front, front_body, More, Whole};
 ghost use Rattle.frame_core.specs.Looks.{front_of};
 ghost use Rattle.agent_model.specs.Answers.{chain_with, prove};
 ghost use Rattle.agent_model.specs.Children.{heard_more, unheard};
 ghost use Rattle.wire_text.specs.Bounds.{longest_body};
 ghost use Rattle.agent_model.specs.Looks.{due};
-ghost use Rattle.agent_model.specs.State.{wants_more};
+ghost use Rattle.agent_model.specs.State.{is_settled, wants_by};
 ghost use Rattle.agent_model.specs.Step.{attempts, take_frame, took_some};
 ghost use Rattle.confirm_desk.specs.Confirmations.{find_asker};
 ghost use Rattle.agent_model.specs.Verdicts.{Verdict, tell};
@@ -15,7 +15,7 @@ ghost use Rattle.under_way.specs.Parts.{TellsOf};
 ghost use Rattle.agent_core.specs.Served.{served_at};
 ghost use Rattle.agent_core.specs.Settlings.{IsShortAnswer, verdict_of};
 ghost use Rattle.agent_model.specs.Sound.{IsRight};
-ghost use Rattle.agent_core.specs.Slots.{port_of};
+ghost use Rattle.agent_core.specs.Slots.{port_of, waits_of};
 ghost use Rattle.under_way.specs.Verifications.{verification_of};
 
 use crate::asker::Asker;
@@ -93,14 +93,29 @@ fn due(slot: &Slot) -> Look
     }
 }
 
-/// Whether it is to be read: a client until a request of it is whole, a child process always.
+/// Whether it is to be read: a client until a request of it is whole, and while it waits or is owed bytes only as long
+/// as nothing of its next request has come; a child process always.
 #[inline(always)]
 pub fn wants(slot: &Slot) -> bool
-    ensures { result ≡ wants_more slot.now.door slot.now.heard.live }
+    ensures { result ≡ wants_by (Some (port_of slot.now)) }
 {
+    let heard = slot.heard.live();
+    if heard.is_empty() {
+        return true;
+    }
     match slot.door {
-        Door::Clients => matches!(look(slot.heard.live(), LONGEST_BODY), Look::More),
+        Door::Clients => is_settled(slot) && matches!(look(heard, LONGEST_BODY), Look::More),
         Door::Children => true,
+    }
+}
+
+// Whether a client waits for no answer and has taken every reply.
+fn is_settled(slot: &Slot) -> bool
+    ensures { result ≡ is_settled (waits_of slot.now.waits) slot.now.owed }
+{
+    match slot.waits {
+        Waits::Nothing => slot.owed.bytes().is_empty(),
+        _ => false,
     }
 }
 

@@ -1,6 +1,7 @@
 //! A client's listing, and lifetimes.
 
-use crate::play::{NO_SETTINGS, ask_at, closes, finds, hear, holds, owes, starts, tell};
+use crate::helper_tests::SIGN_REQUEST;
+use crate::play::{NO_SETTINGS, ask_at, closes, finds, hear, holds, owes, starts, take_all, tell};
 use agent_core::{Agent, Event, Settings};
 use std::test::*;
 use world_ports::Door;
@@ -80,6 +81,34 @@ fn a_listing_is_answered_with_ample_memory(rt: HostRuntime) {
     closes(&rt, &agent, &[1], "its end");
     tell(&rt, &mut agent, &Event::Tick);
     closes(&rt, &agent, &[], "closed once");
+}
+
+#[test]
+fn a_client_is_read_until_its_next_request_has_begun(rt: HostRuntime) {
+    let mut agent = Agent::new(rt.alloc(), NO_SETTINGS);
+    tell(&rt, &mut agent, &JOINED);
+    hear(&rt, &mut agent, 1, &LIST[..4]);
+    holds(&rt, agent.wants(1), "the rest of its first");
+    hear(&rt, &mut agent, 1, &LIST[4..]);
+    holds(&rt, agent.wants(1), "nothing of its next");
+    hear(&rt, &mut agent, 1, &LIST[..1]);
+    holds(&rt, !agent.wants(1), "its reply isn't taken");
+    tell(&rt, &mut agent, &Event::Took { port: 1, count: 8 });
+    holds(&rt, !agent.wants(1), "a byte of it isn't");
+    tell(&rt, &mut agent, &Event::Took { port: 1, count: 1 });
+    holds(&rt, agent.wants(1), "all is taken");
+    hear(&rt, &mut agent, 1, &LIST[1..]);
+    take_all(&rt, &mut agent, 1);
+    hear(&rt, &mut agent, 1, ADD);
+    take_all(&rt, &mut agent, 1);
+    hear(&rt, &mut agent, 1, SIGN_REQUEST);
+    holds(&rt, agent.wants(1), "it waits and sent nothing more");
+    hear(&rt, &mut agent, 1, &LIST[..1]);
+    holds(&rt, !agent.wants(1), "it waits and sent a byte");
+    // A child process is always read.
+    tell(&rt, &mut agent, &Event::Joined(Door::Children));
+    hear(&rt, &mut agent, 2, &LIST[..1]);
+    holds(&rt, agent.wants(2), "its hello");
 }
 
 #[test]

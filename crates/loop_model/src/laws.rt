@@ -71,7 +71,7 @@ pub fn an_event_leaves_what_can_be_served()
         → is_servable (step state moment event).state thing ≡ true }
 {}
 
-/// The jobs of child processes fit what is under way, before the first event and after each.
+/// The jobs of child processes and the clients that wait fit what is under way, before the first event and after each.
 pub fn an_event_leaves_an_orderly_agent()
     ensures first { (settings : Settings) → IsOrderly (first_state settings) }
     ensures later { (state : State) (moment : Moment) (event : Happening) → IsOrderly state

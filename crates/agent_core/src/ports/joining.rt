@@ -1,6 +1,6 @@
 //! How ports come and go.
 
-ghost use Rattle.std.specs.Prelude.{◌≡◌, ◌↔◌, ◌-◌, ◌^◌, ◌<◌, [], true, suc, IsSome, IsTrue, OnOk};
+ghost use Rattle.std.specs.Prelude.{◌≡◌, ◌↔◌, ◌-◌, ◌^◌, ◌<◌, [], true, suc, IsSome, IsTrue, OnOk, if◌then◌else◌, ◌∷◌};
 ghost use Rattle.agent_model.specs.Actions.{closing};
 ghost use Rattle.agent_model.specs.NumberLists.{put_all};
 ghost use Rattle.agent_model.specs.Sound.{IsRising};
