@@ -1,5 +1,6 @@
 -- What each call leaves of how the journal reads, by its answer.
-use Rattle.std.proofs.Common.{◌≡◌, ◌∙◌, ℕ, suc, ◌+◌, ◌-◌, ◌^◌, ◌<◌, Bool, true, false, List, [], ◌∷◌, length, drop, get_or, Option, Some, None, Result, Ok, Err, refl, sym, ap, ◌==◌, ◌&&◌, nat_le, nat_lt, add-one, arith}
+use Rattle.std.proofs.Common.{◌≡◌, ◌∙◌, ℕ, suc, ◌+◌, ◌-◌, ◌^◌, ◌<◌, Bool, true, false, List, [], ◌∷◌, length, drop, get_or, Option, Some, None, Result, Ok, Err, refl, sym, ap, ◌==◌, ◌&&◌, nat_le, nat_lt, add-one, arith, nat_eq}
+use Rattle.std.specs.Option.{option_eq, option_map_or}
 use Rattle.std.proofs.Math.Seq.{drop-cons}
 use Rattle.std.specs.Prelude.{IsSome, is_some}
 use Rattle.std.specs.declared.alloc.AllocError.{AllocError}
@@ -24,11 +25,12 @@ use Rattle.agent_model.specs.Events.{Happening, Tick}
 use Rattle.agent_model.specs.State.{State, find_port, owed_of, starts}
 use Rattle.agent_model.specs.Step.{step}
 use Rattle.loop_model.specs.Calls.{served_of}
-use Rattle.loop_model.specs.Dues.{Closing, Free, NowFor, Polling, due_look, due_of, port_of, same_wait, wait_of}
+use Rattle.loop_model.specs.Dues.{Closing, Free, NowFor, Polling, due_look, due_of, port_of, wait_of}
 use Rattle.loop_model.specs.LegalJournal.{LoopState, after_entry, after_if_legal, in_state, is_first_job, is_read, is_taken}
 use Rattle.world_ports.specs.Worlds.{IsPiece, read_room}
 use Rattle.loop_model.specs.Lines.{Line, after_event, in_hand, is_idle}
-use Rattle.loop_model.specs.Queues.{first_servable, is_next, is_thing}
+use Rattle.loop_model.specs.Queues.{first_servable, is_next}
+use Rattle.loop_model.specs.Things.{same_thing}
 use Rattle.loop_model.specs.declared.thing.Thing.{Thing}
 use Rattle.loop_model.specs.declared.thing.Thing.TheVariants.{Accept, Read, Write}
 use Rattle.loop_model.proofs.JournalLemmas.{after_if_legal-is}
@@ -112,7 +114,7 @@ look-none [] idle none = refl
 look-none (port ∷ ports) idle none =
     let some : (suc (length ports) == 0) ≡ true = none in absurd (grind (arith, nat_tests))
 
-same_wait-refl : (wait : Option ℕ) → same_wait wait wait ≡ true
+same_wait-refl : (wait : Option ℕ) → option_eq nat_eq wait wait ≡ true
 same_wait-refl None = refl
 same_wait-refl (Some seconds) = (Decides-eqb seconds seconds).1 refl
 
@@ -122,7 +124,7 @@ pub poll-any : (state : State) (line : Line) (wait : Option ℕ) (items : List R
     ≡ Some (after_entry (in_state state line Polling) (entry.Poll wait items answer))
 poll-any state line wait items answer is =
     after_if_legal-is (in_state state line Polling) (entry.Poll wait items answer)
-    (ap (same_wait wait) (sym is) ∙ same_wait-refl wait)
+    (ap (option_eq nat_eq wait) (sym is) ∙ same_wait-refl wait)
 
 -- ---- what is served
 
@@ -130,7 +132,7 @@ poll-any state line wait items answer is =
 next_is : (state : State) (queue : List Thing) (thing : Thing)
     → first_servable state queue ≡ Some thing
     → is_next state queue thing ≡ true
-next_is state queue thing found = ap (is_thing thing) found ∙ same_thing-refl thing
+next_is state queue thing found = ap (λ (t : Option Thing). option_map_or (same_thing thing) t false) found ∙ same_thing-refl thing
 
 pub accept-any : (state : State) (line : Line) (door : Door) (answer : Result Accepted WorldFault)
     → first_servable state line.queue ≡ Some (Accept door)

@@ -1,5 +1,5 @@
 -- Ports to write to come back from aside, one after another.
-use Rattle.std.proofs.Common.{◌≡◌, ◌∙◌, ℕ, ◌<◌, Bool, true, false, List, [], ◌∷◌, ◌++◌, refl, sym, ap, subst, not, ◌&&◌, ◌||◌, ◌==◌, if◌then◌else◌, append_assoc, arith}
+use Rattle.std.proofs.Common.{◌≡◌, ◌∙◌, ℕ, ◌<◌, Bool, true, false, List, [], ◌∷◌, ◌++◌, refl, sym, ap, subst, not, ◌&&◌, ◌||◌, ◌==◌, if◌then◌else◌, append_assoc, arith, map}
 use Rattle.std.proofs.lemmas.Bool.Decides.{nat_tests}
 use Rattle.std.proofs.lemmas.List.{append-nil}
 use Rattle.std.specs.List.{filter}
@@ -8,7 +8,7 @@ use Rattle.lists.proofs.RisingLemmas.{is_among-above, rising_list}
 use Rattle.loop_model.specs.Things.{set_of}
 use Rattle.loop_model.specs.declared.thing.Thing.{Thing}
 use Rattle.loop_model.specs.declared.thing.Thing.TheVariants.{Write}
-use Rattle.loop_model.specs.Aside.{Aside, taken_back, things_aside, writes_of}
+use Rattle.loop_model.specs.Aside.{Aside, taken_back, things_aside}
 use Rattle.loop_model.specs.Lines.{Line, brought}
 use Rattle.loop_model.proofs.AsideLemmas.{aside-write, is_among-filter, or_false}
 use Rattle.ready_loop.proofs.FilterLemmas.{kept, numbers_all, numbers_alike, numbers_none}
@@ -25,7 +25,7 @@ without_number port ports = filter (λ other. not (port == other)) ports
 -- some ports to write to come back, and some are left
 abbrev pub back : Line → List ℕ → List ℕ → Line
 back line ports left =
-    record line { queue = line.queue ++ writes_of ports; aside = record line.aside { writes = left } }
+    record line { queue = line.queue ++ map Write ports; aside = record line.aside { writes = left } }
 
 -- those that pass the test come back
 abbrev pub called_by : (ℕ → Bool) → Line → Line
@@ -157,7 +157,7 @@ filter-left test next port (first ∷ ports) step =
         ∙ sym (ap (λ (b : Bool). kept (not b) first (others next ports)) is)
 
 writes-more : (ports : List ℕ) (port : ℕ)
-    → writes_of (ports ++ port ∷ []) ≡ writes_of ports ++ Write port ∷ []
+    → map Write (ports ++ port ∷ []) ≡ map Write ports ++ Write port ∷ []
 writes-more [] port = refl
 writes-more (first ∷ ports) port =
     ap (λ (ts : List Thing). Write first ∷ ts) (writes-more ports port)
@@ -192,10 +192,10 @@ brought-next test next port line step rising = by_place (is_among port line.asid
         } else called_by test line) (there_by true is)
         ∙ ap (λ (aside : Aside). record line { queue = (called_by test line).queue ++ Write port ∷ []; aside = aside }) left
         ∙ ap (λ (things : List Thing). record line { queue = things; aside = (called_by next line).aside })
-        (append_assoc line.queue (writes_of (filter test line.aside.writes)) (Write port ∷ [])
+        (append_assoc line.queue (map Write (filter test line.aside.writes)) (Write port ∷ [])
         ∙ ap (λ (things : List Thing). line.queue ++ things)
         (sym (writes-more (filter test line.aside.writes) port)
-        ∙ ap writes_of (sym (filter-there test next port line.aside.writes step rising is))))
+        ∙ ap (map Write) (sym (filter-there test next port line.aside.writes step rising is))))
     by_place false is =
         ap (λ (b : Bool). if b then record (called_by test line) {
           queue = (called_by test line).queue ++ Write port ∷ [];

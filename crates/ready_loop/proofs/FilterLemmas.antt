@@ -1,9 +1,9 @@
 -- What a test lets pass of numbers and of doors, and a thing that is taken from beside.
-use Rattle.std.proofs.Common.{◌≡◌, ◌∙◌, Bool, true, false, List, [], ◌∷◌, refl, sym, ap, cond, not, ◌||◌, ℕ, ◌==◌, arith}
+use Rattle.std.proofs.Common.{◌≡◌, ◌∙◌, Bool, true, false, List, [], ◌∷◌, refl, sym, ap, cond, not, ◌||◌, ℕ, ◌==◌, arith, map}
 use Rattle.std.specs.List.{filter}
 use Rattle.loop_model.specs.Things.{set_of, same_door}
 use Rattle.loop_model.specs.declared.thing.Thing.{Thing}
-use Rattle.loop_model.specs.Aside.{Aside, taken_back, things_aside, accepts_of}
+use Rattle.loop_model.specs.Aside.{Aside, taken_back, things_aside}
 use Rattle.std.proofs.lemmas.Bool.Decides.{nat_tests}
 use Rattle.world_ports.specs.declared.events.Door.{Door}
 use Rattle.lists.specs.Rising.{is_among}
@@ -49,14 +49,14 @@ numbers_none (first ∷ ports) = numbers_none ports
 -- ---- of listeners
 
 pub doors_all : (test : Door → Bool) (doors : List Door)
-    → ((door : Door) → set_of (accepts_of doors) (Accept door) ≡ true → test door ≡ true)
+    → ((door : Door) → set_of (map Accept doors) (Accept door) ≡ true → test door ≡ true)
     → filter test doors ≡ doors
 doors_all test [] all = refl
 doors_all test (first ∷ doors) all =
     ap (λ (b : Bool). cond b (first ∷ filter test doors) (filter test doors))
-    (all first (ap (λ (b : Bool). b || set_of (accepts_of doors) (Accept first)) (same_thing-refl (Accept first))))
+    (all first (ap (λ (b : Bool). b || set_of (map Accept doors) (Accept first)) (same_thing-refl (Accept first))))
     ∙ ap (λ (ds : List Door). first ∷ ds)
-    (doors_all test doors (λ door there. all door (or_right (same_door first door) (set_of (accepts_of doors) (Accept door)) there)))
+    (doors_all test doors (λ door there. all door (or_right (same_door first door) (set_of (map Accept doors) (Accept door)) there)))
 
 without_absent : (ports : List ℕ) (port : ℕ) → is_among port ports ≡ false
     → filter (λ other. not (port == other)) ports ≡ ports
@@ -71,16 +71,16 @@ without_absent ports port absent =
         cc
     other_than other false is there = refl
 
-without_door : (doors : List Door) (door : Door) → set_of (accepts_of doors) (Accept door) ≡ false
+without_door : (doors : List Door) (door : Door) → set_of (map Accept doors) (Accept door) ≡ false
     → filter (λ other. not (same_door door other)) doors ≡ doors
 without_door doors door absent =
     doors_all (λ other. not (same_door door other)) doors (λ other there. other_than other (same_door door other) refl there)
   where
     other_than : (other : Door) (same : Bool) → same_door door other ≡ same
-        → set_of (accepts_of doors) (Accept other) ≡ true → not same ≡ true
+        → set_of (map Accept doors) (Accept other) ≡ true → not same ≡ true
     other_than other true is there =
         let here : Accept door ≡ Accept other = same_thing-true (Accept door) (Accept other) is in
-        let also : set_of (accepts_of doors) (Accept door) ≡ true = ap (set_of (accepts_of doors)) here ∙ there in
+        let also : set_of (map Accept doors) (Accept door) ≡ true = ap (set_of (map Accept doors)) here ∙ there in
         cc
     other_than other false is there = refl
 

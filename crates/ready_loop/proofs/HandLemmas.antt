@@ -7,7 +7,7 @@ use Rattle.loop_model.specs.Aside.{Aside, put_aside, taken_back, things_aside}
 use Rattle.loop_model.specs.Lines.{IsOrdered, Line, all_aside, gone_aside, hot_of, in_hand, is_stuck, placed, queued, queued_port, recalled, settled}
 use Rattle.loop_model.specs.Elsewhere.{stands}
 use Rattle.loop_model.specs.Servable.{is_servable}
-use Rattle.loop_model.specs.Things.{Hot, same_thing, set_of}
+use Rattle.loop_model.specs.Things.{same_thing, set_of}
 use Rattle.loop_model.specs.declared.thing.Thing.{Thing}
 use Rattle.loop_model.specs.declared.thing.Thing.TheVariants.{Accept, Read, Write}
 use Rattle.loop_model.proofs.AheadLemmas.{gone_at}
@@ -58,7 +58,7 @@ cold_placed false thing other line apart cold =
     let both = parts_of (set_of line.queue thing) (set_of (things_aside line.aside) thing) (sym (hot-parts thing line) ∙ cold) in
     hot-parts thing (record line { aside = put_aside other line.aside })
     ∙ neither (set_of line.queue thing) (set_of (things_aside (put_aside other line.aside)) thing) both.0
-    (ap (λ (hot : Hot). hot thing) (set_of-put_aside other line.aside)
+    (ap (λ (hot : Thing → Bool). hot thing) (set_of-put_aside other line.aside)
     ∙ neither (same_thing other thing) (set_of (things_aside line.aside) thing) apart both.1)
   where
     parts_of : (a b : Bool) → (a || b) ≡ false → (a ≡ false) × (b ≡ false)
@@ -90,9 +90,9 @@ gone-less (port ∷ ports) aside thing there =
     let mid = taken_back (Read port) aside in
     let more = gone-less ports (taken_back (Write port) mid) thing there in
     let once = (and_both (not (same_thing (Write port) thing)) (set_of (things_aside mid) thing)
-    (sym (ap (λ (hot : Hot). hot thing) (set_of-taken_back (Write port) mid)) ∙ more)).1 in
+    (sym (ap (λ (hot : Thing → Bool). hot thing) (set_of-taken_back (Write port) mid)) ∙ more)).1 in
     (and_both (not (same_thing (Read port) thing)) (set_of (things_aside aside) thing)
-    (sym (ap (λ (hot : Hot). hot thing) (set_of-taken_back (Read port) aside)) ∙ once)).1
+    (sym (ap (λ (hot : Thing → Bool). hot thing) (set_of-taken_back (Read port) aside)) ∙ once)).1
 
 all-either : (things : List Thing) (aside : Aside) (thing : Thing)
     → set_of (things_aside (all_aside things aside)) thing ≡ true
@@ -100,7 +100,7 @@ all-either : (things : List Thing) (aside : Aside) (thing : Thing)
 all-either [] aside thing there = there
 all-either (first ∷ things) aside thing there =
     swapped (set_of things thing) (same_thing first thing) (set_of (things_aside aside) thing)
-    (ap (λ (b : Bool). set_of things thing || b) (sym (ap (λ (hot : Hot). hot thing) (set_of-put_aside first aside)))
+    (ap (λ (b : Bool). set_of things thing || b) (sym (ap (λ (hot : Thing → Bool). hot thing) (set_of-put_aside first aside)))
     ∙ all-either things (put_aside first aside) thing there)
   where
     swapped : (a b c : Bool) → (a || (b || c)) ≡ true → ((b || a) || c) ≡ true

@@ -5,7 +5,7 @@ use Rattle.loop_model.specs.Aside.{Aside, put_aside, taken_back, things_aside}
 use Rattle.loop_model.specs.Lines.{Line, hot_of, placed, returned}
 use Rattle.loop_model.specs.Queues.{dropped}
 use Rattle.loop_model.specs.Servable.{is_servable}
-use Rattle.loop_model.specs.Things.{Hot, same_thing, set_of}
+use Rattle.loop_model.specs.Things.{same_thing, set_of}
 use Rattle.loop_model.specs.declared.thing.Thing.{Thing}
 use Rattle.loop_model.specs.declared.thing.Thing.TheVariants.{Read, Write}
 use Rattle.loop_model.proofs.AheadLemmas.{gone_at}
@@ -36,7 +36,7 @@ set_of-more thing queue = same_sets (set_of (queue ++ thing ∷ [])) (heated thi
 taken-absent : (thing : Thing) (aside : Aside)
     → set_of (things_aside (taken_back thing aside)) thing ≡ false
 taken-absent thing aside =
-    ap (λ (hot : Hot). hot thing) (set_of-taken_back thing aside)
+    ap (λ (hot : Thing → Bool). hot thing) (set_of-taken_back thing aside)
     ∙ ap (λ (b : Bool). not b && set_of (things_aside aside) thing) (same_thing-refl thing)
 
 module _ (thing : Thing) (queue : List Thing) (standings : Standings) (is : IsMarked queue standings) where
@@ -139,5 +139,5 @@ pub marked-hot : (thing : Thing) (queue : List Thing) (standings : Standings)
     → (set_of (things_aside standings.listed) thing || set_of (things_aside standings.aside) thing)
     ≡ set_of (queue ++ things_aside standings.aside) thing
 marked-hot thing queue standings is =
-    ap (λ (hot : Hot). hot thing || set_of (things_aside standings.aside) thing) is.listed
+    ap (λ (hot : Thing → Bool). hot thing || set_of (things_aside standings.aside) thing) is.listed
     ∙ sym (set_of-append queue (things_aside standings.aside) thing)

@@ -1,5 +1,5 @@
 -- What comes back to the queue after an event.
-use Rattle.std.proofs.Common.{◌≡◌, ◌∙◌, ℕ, Bool, true, false, List, [], ◌∷◌, ◌++◌, Option, Some, None, refl, sym, ap, subst, cond, nat_lt, not, ◌&&◌, ◌||◌, if◌then◌else◌}
+use Rattle.std.proofs.Common.{◌≡◌, ◌∙◌, ℕ, Bool, true, false, List, [], ◌∷◌, ◌++◌, Option, Some, None, refl, sym, ap, subst, cond, nat_lt, not, ◌&&◌, ◌||◌, if◌then◌else◌, map}
 use Rattle.std.proofs.lemmas.List.Elements.{filter-append}
 use Rattle.std.specs.List.{filter}
 use Rattle.world_ports.specs.declared.events.Door.{Door}
@@ -9,10 +9,10 @@ use Rattle.agent_model.specs.State.{Port, State, UnderWay, find_port, is_client,
 use Rattle.agent_core.specs.Owing.{next_child_owed_in}
 use Rattle.loop_model.specs.Elsewhere.{is_clients}
 use Rattle.loop_model.specs.Servable.{is_servable}
-use Rattle.loop_model.specs.Things.{Hot, same_thing, set_of}
+use Rattle.loop_model.specs.Things.{same_thing, set_of}
 use Rattle.loop_model.specs.declared.thing.Thing.{Thing}
 use Rattle.loop_model.specs.declared.thing.Thing.TheVariants.{Accept, Read, Write}
-use Rattle.loop_model.specs.Aside.{Aside, accepts_of, reads_of, taken_back, things_aside, writes_of}
+use Rattle.loop_model.specs.Aside.{Aside, taken_back, things_aside}
 use Rattle.loop_model.specs.Lines.{Line, brought, called, called_all, called_own}
 use Rattle.ready_loop.specs.Standing.{IsStirred, may_stir, next_called}
 use Rattle.loop_model.proofs.TestLemmas.{both_if}
@@ -50,7 +50,7 @@ called_by-all state all line stirred =
     left : List ℕ
     left = filter (λ port. not (is_servable state (Write port))) line.aside.writes
 
-    no_door : (door : Door) → set_of (accepts_of line.aside.doors) (Accept door) ≡ true
+    no_door : (door : Door) → set_of (map Accept line.aside.doors) (Accept door) ≡ true
         → is_servable state (Accept door) ≡ false
     no_door door there = false_by (is_servable state (Accept door)) (λ is.
         let stirs : may_stir state None all (Accept door) ≡ true = stirred (Accept door) (aside-accept line.aside door ∙ there) is in
@@ -62,38 +62,38 @@ called_by-all state all line stirred =
         let stirs : may_stir state None all (Read port) ≡ true = stirred (Read port) (aside-read line.aside port ∙ there) is in
         cc)
 
-    of_door : (thing : Thing) → set_of (accepts_of line.aside.doors) thing ≡ true
+    of_door : (thing : Thing) → set_of (map Accept line.aside.doors) thing ≡ true
         → is_servable state thing ≡ false
     of_door (Accept door) there = no_door door there
-    of_door (Read port) there = let none : set_of (accepts_of line.aside.doors) (Read port) ≡ false = accepts-read line.aside.doors port in cc
-    of_door (Write port) there = let none : set_of (accepts_of line.aside.doors) (Write port) ≡ false = accepts-write line.aside.doors port in cc
+    of_door (Read port) there = let none : set_of (map Accept line.aside.doors) (Read port) ≡ false = accepts-read line.aside.doors port in cc
+    of_door (Write port) there = let none : set_of (map Accept line.aside.doors) (Write port) ≡ false = accepts-write line.aside.doors port in cc
 
-    of_read : (thing : Thing) → set_of (reads_of line.aside.reads) thing ≡ true
+    of_read : (thing : Thing) → set_of (map Read line.aside.reads) thing ≡ true
         → is_servable state thing ≡ false
-    of_read (Accept door) there = let none : set_of (reads_of line.aside.reads) (Accept door) ≡ false = reads-accept line.aside.reads door in cc
+    of_read (Accept door) there = let none : set_of (map Read line.aside.reads) (Accept door) ≡ false = reads-accept line.aside.reads door in cc
     of_read (Read port) there = no_read port (sym (reads-read line.aside.reads port) ∙ there)
-    of_read (Write port) there = let none : set_of (reads_of line.aside.reads) (Write port) ≡ false = reads-write line.aside.reads port in cc
+    of_read (Write port) there = let none : set_of (map Read line.aside.reads) (Write port) ≡ false = reads-write line.aside.reads port in cc
 
     of_writes : (ports : List ℕ)
-        → filter (is_servable state) (writes_of ports) ≡ writes_of (filter (λ port. is_servable state (Write port)) ports)
+        → filter (is_servable state) (map Write ports) ≡ map Write (filter (λ port. is_servable state (Write port)) ports)
     of_writes [] = refl
     of_writes (first ∷ ports) = by_test (is_servable state (Write first)) first (of_writes ports)
       where
         by_test : (b : Bool) (first : ℕ)
-            → filter (is_servable state) (writes_of ports) ≡ writes_of (filter (λ port. is_servable state (Write port)) ports)
-            → cond b (Write first ∷ filter (is_servable state) (writes_of ports)) (filter (is_servable state) (writes_of ports))
-            ≡ writes_of (kept b first (filter (λ port. is_servable state (Write port)) ports))
+            → filter (is_servable state) (map Write ports) ≡ map Write (filter (λ port. is_servable state (Write port)) ports)
+            → cond b (Write first ∷ filter (is_servable state) (map Write ports)) (filter (is_servable state) (map Write ports))
+            ≡ map Write (kept b first (filter (λ port. is_servable state (Write port)) ports))
         by_test true first rest = ap (λ (ts : List Thing). Write first ∷ ts) rest
         by_test false first rest = rest
 
-    served : filter (is_servable state) (things_aside line.aside) ≡ writes_of (filter (λ port. is_servable state (Write port)) line.aside.writes)
+    served : filter (is_servable state) (things_aside line.aside) ≡ map Write (filter (λ port. is_servable state (Write port)) line.aside.writes)
     served =
-        filter-append (is_servable state) (accepts_of line.aside.doors ++ reads_of line.aside.reads) (writes_of line.aside.writes)
-        ∙ ap (λ (ts : List Thing). ts ++ filter (is_servable state) (writes_of line.aside.writes))
-        (filter-append (is_servable state) (accepts_of line.aside.doors) (reads_of line.aside.reads)
-        ∙ ap (λ (ts : List Thing). ts ++ filter (is_servable state) (reads_of line.aside.reads))
-        (filter_none (is_servable state) (accepts_of line.aside.doors) of_door)
-        ∙ filter_none (is_servable state) (reads_of line.aside.reads) of_read)
+        filter-append (is_servable state) (map Accept line.aside.doors ++ map Read line.aside.reads) (map Write line.aside.writes)
+        ∙ ap (λ (ts : List Thing). ts ++ filter (is_servable state) (map Write line.aside.writes))
+        (filter-append (is_servable state) (map Accept line.aside.doors) (map Read line.aside.reads)
+        ∙ ap (λ (ts : List Thing). ts ++ filter (is_servable state) (map Read line.aside.reads))
+        (filter_none (is_servable state) (map Accept line.aside.doors) of_door)
+        ∙ filter_none (is_servable state) (map Read line.aside.reads) of_read)
         ∙ of_writes line.aside.writes
 
 -- ---- all ports that are owed bytes, or those of child processes alone
@@ -209,7 +209,7 @@ called-aside state thing line other there serves =
         → (set_of (things_aside line.aside) other ≡ true) × (same_thing thing other ≡ false)
     by_test true is there =
         parts_of (same_thing thing other) (set_of (things_aside line.aside) other)
-        (sym (ap (λ (hot : Hot). hot other) (set_of-taken_back thing line.aside)) ∙ there)
+        (sym (ap (λ (hot : Thing → Bool). hot other) (set_of-taken_back thing line.aside)) ∙ there)
     by_test false is there = (there, apart (same_thing thing other) refl is there)
 
 -- with its own port back in the queue, it is another's

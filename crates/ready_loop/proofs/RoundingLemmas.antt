@@ -1,5 +1,6 @@
 -- A turn takes what stands first, and leaves it last or gone.
 use Rattle.std.proofs.Common.{◌≡◌, ◌∙◌, ℕ, Bool, true, false, List, [], ◌∷◌, ◌++◌, Option, Some, None, Result, Ok, Err, refl, sym, ap, subst, append_assoc}
+use Rattle.std.specs.Option.{option_map_or}
 use Rattle.std.specs.Prelude.{OnOk}
 use Rattle.std.proofs.lemmas.List.{append-nil}
 use Rattle.std.proofs.lemmas.List.Elements.{filter-append}
@@ -9,9 +10,9 @@ use Rattle.agent_model.specs.Sound.{IsRising}
 use Rattle.agent_model.specs.State.{State, is_open}
 use Rattle.loop_model.specs.Fairness.{GoesRound, KeepsOrder, only_if}
 use Rattle.loop_model.specs.Lines.{IsListed, Line, after_event, in_hand}
-use Rattle.loop_model.specs.Queues.{AreApart, dropped, first_servable, is_thing}
+use Rattle.loop_model.specs.Queues.{AreApart, dropped, first_servable}
 use Rattle.loop_model.specs.Servable.{is_servable}
-use Rattle.loop_model.specs.Things.{set_of}
+use Rattle.loop_model.specs.Things.{same_thing, set_of}
 use Rattle.loop_model.specs.declared.thing.Thing.{Thing}
 use Rattle.loop_model.proofs.AddingLemmas.{Adds}
 use Rattle.loop_model.proofs.AheadLemmas.{gone_at}
@@ -31,7 +32,7 @@ stood-first : (state : State) (thing : Thing) (queue : List Thing) → IsListed 
     → AreApart queue
     → first_servable state queue ≡ Some thing → queue ≡ thing ∷ dropped thing queue
 stood-first state thing queue listed apart found =
-    first_is state thing queue listed apart (ap (is_thing thing) found ∙ same_thing-refl thing)
+    first_is state thing queue listed apart (ap (λ (t : Option Thing). option_map_or (same_thing thing) t false) found ∙ same_thing-refl thing)
 
 -- with more behind the others
 round-more : (thing : Thing) (queue others news after : List Thing) → queue ≡ thing ∷ others

@@ -1,5 +1,6 @@
 -- A whole run, from the listeners on.
-use Rattle.std.proofs.Common.{◌≡◌, ◌∙◌, ◌⊎◌, inl, inr, ℕ, Bool, true, false, List, [], ◌∷◌, ◌++◌, Option, Some, None, Result, Ok, Err, refl, ap, subst, append_assoc, not, ◌==◌, ◌&&◌, ◌||◌}
+use Rattle.std.proofs.Common.{◌≡◌, ◌∙◌, ◌⊎◌, inl, inr, ℕ, Bool, true, false, List, [], ◌∷◌, ◌++◌, Option, Some, None, Result, Ok, Err, refl, ap, subst, append_assoc, not, ◌==◌, ◌&&◌, ◌||◌, if◌then◌else◌, nat_eq}
+use Rattle.std.specs.Option.{option_eq}
 use Rattle.std.specs.Prelude.{option_and_then, option_map}
 use Rattle.std.specs.List.{list_any}
 use Rattle.std.specs.Str.{bytes_eq}
@@ -18,11 +19,11 @@ use Rattle.agent_model.specs.Events.{Tick}
 use Rattle.agent_model.specs.Sound.{IsRising}
 use Rattle.agent_model.specs.State.{State, client_count}
 use Rattle.agent_model.specs.Step.{step}
-use Rattle.loop_model.specs.Dues.{Free, due_look, is_polling, same_wait, wait_of}
+use Rattle.loop_model.specs.Dues.{Free, due_look, is_polling, wait_of}
 use Rattle.loop_model.specs.Lines.{Line, is_idle}
 use Rattle.loop_model.specs.LegalJournal.{LoopState, after_entries, after_entry, after_if, after_if_legal, in_state}
 use Rattle.ready_loop.specs.Moves.{Advances, LooksAndPolls, Stops, Turns, is_poll}
-use Rattle.ready_loop.specs.Serving.{HalfBound, Opens, Refused, Running, Runs, RunsUpTo, Serves, Setting, Stage, Unbound, begun, children_path, gone_on, is_deserted, may_come, ran, running_if, stage_if}
+use Rattle.ready_loop.specs.Serving.{HalfBound, Opens, Refused, Running, Runs, RunsUpTo, Serves, Setting, Stage, Unbound, begun, children_path, gone_on, is_deserted, may_come, ran}
 use Rattle.ready_loop.specs.declared.outcome.HubFault.{HubFault}
 use Rattle.ready_loop.specs.declared.outcome.HubFault.TheVariants as faults
 use Rattle.ready_loop.specs.declared.outcome.Turn.{Turn}
@@ -107,7 +108,7 @@ quiet_step : (setting : Setting) (from to : LoopState) (next : Entry) (later : L
     → option_and_then (λ after. ran setting after later) (gone_on setting (Running from) next) ≡ Some (Running to)
 quiet_step setting from to next later None quiet is legal rest = cc
 quiet_step setting from to next later (Some after) quiet is legal rest =
-    ap (λ (b : Bool). option_and_then (λ (s : Stage). ran setting s later) (running_if (not (b && (setting.until_idle && is_deserted from))) from next)) quiet
+    ap (λ (b : Bool). option_and_then (λ (s : Stage). ran setting s later) (if not (b && (setting.until_idle && is_deserted from)) then option_map Running (after_if_legal from next) else None)) quiet
     ∙ ap (λ (t : Option LoopState). option_and_then (λ (s : Stage). ran setting s later) (option_map Running t)) is
     ∙ rest after legal
 
@@ -125,9 +126,9 @@ quiet_runs setting from to (next ∷ later) quiet legal =
 poll_step : (setting : Setting) (mid to : LoopState) (poll : Entry) (found : Option LoopState) (may : Bool)
     → may ≡ true → after_if_legal mid poll ≡ found
     → option_and_then (λ after. after_entries after []) found ≡ Some to
-    → option_and_then (λ after. ran setting after []) (running_if may mid poll) ≡ Some (Running to)
+    → option_and_then (λ after. ran setting after []) (if may then option_map Running (after_if_legal mid poll) else None) ≡ Some (Running to)
 poll_step setting mid to poll found may may_is is legal =
-    ap (λ (b : Bool). option_and_then (λ (s : Stage). ran setting s []) (running_if b mid poll)) may_is
+    ap (λ (b : Bool). option_and_then (λ (s : Stage). ran setting s []) (if b then option_map Running (after_if_legal mid poll) else None)) may_is
     ∙ ap (λ (t : Option LoopState). option_and_then (λ (s : Stage). ran setting s []) (option_map Running t)) is
     ∙ (elim found as (λ t. option_and_then (λ (after : LoopState). after_entries after []) t ≡ Some to → option_and_then (λ (s : Stage). ran setting s []) (option_map Running t) ≡ Some (Running to)) [
       | None ↦ λ none. cc
@@ -168,7 +169,7 @@ look_step setting state line moment wait items answer to false rising done legal
 look_step setting state line moment wait items answer to true rising done legal =
     let mid : LoopState = after_entry (in_state state line Free) (entry.Now (Ok moment)) in
     let poll = entry.Poll wait items answer in
-    let polls : is_polling mid.due ≡ true = polls_at (is_polling mid.due) (same_wait wait (wait_of mid.state)) mid to poll legal in
+    let polls : is_polling mid.due ≡ true = polls_at (is_polling mid.due) (option_eq nat_eq wait (wait_of mid.state)) mid to poll legal in
     let none : (step state moment Tick).closes ≡ [] = none_closed (step state moment Tick).closes (is_idle mid.state mid.line) polls in
     let may : may_come setting.until_idle mid poll ≡ true =
     on_still setting.until_idle line.joined (client_count state.ports == 0) (client_count mid.state.ports == 0)
@@ -276,14 +277,14 @@ bytes_same : (bytes : List ℕ) → bytes_eq bytes bytes ≡ true
 bytes_same bytes = (bytes_decides bytes bytes).1 refl
 
 first_bind : (setting : Setting) (stage : Stage)
-    → stage_if (bytes_eq setting.path setting.path) stage ≡ Some stage
-first_bind setting stage = ap (λ (b : Bool). stage_if b stage) (bytes_same setting.path)
+    → (if bytes_eq setting.path setting.path then Some stage else None) ≡ Some stage
+first_bind setting stage = ap (λ (b : Bool). if b then Some stage else None) (bytes_same setting.path)
 
 later_bind : (setting : Setting) (at : List ℕ) (stage : Stage) → at ≡ children_path setting.path
-    → stage_if (bytes_eq at (children_path setting.path)) stage ≡ Some stage
+    → (if bytes_eq at (children_path setting.path) then Some stage else None) ≡ Some stage
 later_bind setting at stage is =
-    ap (λ (xs : List ℕ). stage_if (bytes_eq xs (children_path setting.path)) stage) is
-    ∙ ap (λ (b : Bool). stage_if b stage) (bytes_same (children_path setting.path))
+    ap (λ (xs : List ℕ). if bytes_eq xs (children_path setting.path) then Some stage else None) is
+    ∙ ap (λ (b : Bool). if b then Some stage else None) (bytes_same (children_path setting.path))
 
 ran_one : (setting : Setting) (from to : Stage) (next : Entry) → gone_on setting from next ≡ Some to
     → ran setting from (next ∷ []) ≡ Some to

@@ -1,7 +1,7 @@
 -- What stands in the queue or aside, and nowhere twice.
 use Rattle.std.proofs.Common.{◌≡◌, ◌∙◌, Bool, true, false, List, [], ◌∷◌, ◌++◌, drop, refl, sym, ap, cond, not, ◌&&◌, ◌||◌}
 use Rattle.std.specs.List.{filter}
-use Rattle.loop_model.specs.Things.{Hot, same_thing, set_of}
+use Rattle.loop_model.specs.Things.{same_thing, set_of}
 use Rattle.loop_model.specs.declared.thing.Thing.{Thing}
 use Rattle.loop_model.specs.Aside.{Aside, put_aside, taken_back, things_aside}
 use Rattle.loop_model.specs.Queues.{AreApart, dropped}
@@ -73,7 +73,7 @@ module _ (queue : List Thing) (aside : Aside) (once : IsOnce queue aside) where
   once-taken thing = record {
     apart = once.apart;
     either = λ other there.
-        ap (λ (hot : Hot). hot other) (set_of-taken_back thing aside)
+        ap (λ (hot : Thing → Bool). hot other) (set_of-taken_back thing aside)
         ∙ and_false (not (same_thing thing other)) (set_of (things_aside aside) other) (once.either other there);
   }
     where
@@ -106,7 +106,7 @@ pub once-put : (thing : Thing) (queue : List Thing) (aside : Aside) → IsOnce q
 once-put thing queue aside once absent = record {
   apart = once.apart;
   either = λ other there.
-      ap (λ (hot : Hot). hot other) (set_of-put_aside thing aside)
+      ap (λ (hot : Thing → Bool). hot other) (set_of-put_aside thing aside)
       ∙ neither (same_thing thing other) (set_of (things_aside aside) other)
       (false_by (same_thing thing other) (λ same.
       true_false (set_of queue thing) (ap (set_of queue) (same_thing-true thing other same) ∙ there) absent))

@@ -1,8 +1,8 @@
 -- Where things stand by the marks, once one is put, changed or taken.
-use Rattle.std.proofs.Common.{◌≡◌, ◌∙◌, ℕ, Bool, true, false, List, refl, sym, ap, ◌||◌, if◌then◌else◌}
+use Rattle.std.proofs.Common.{◌≡◌, ◌∙◌, ℕ, Bool, true, false, List, refl, sym, ap, ◌||◌, if◌then◌else◌, map}
 use Rattle.world_ports.specs.declared.events.Door.{Door}
 use Rattle.lists.specs.Rising.{IsRisingList, is_among}
-use Rattle.loop_model.specs.Aside.{accepts_of, things_aside}
+use Rattle.loop_model.specs.Aside.{things_aside}
 use Rattle.loop_model.specs.Things.{set_of}
 use Rattle.loop_model.specs.declared.thing.Thing.{Thing}
 use Rattle.loop_model.specs.declared.thing.Thing.TheVariants.{Accept, Read, Write}
@@ -92,10 +92,10 @@ module _ (listed aside : List Door) where
       (sym (aside-write_mark port marks rise))
 
   pub has-accept : (door : Door) (marks : List Mark)
-      → (set_of (accepts_of listed) (Accept door) || set_of (accepts_of aside) (Accept door))
+      → (set_of (map Accept listed) (Accept door) || set_of (map Accept aside) (Accept door))
       ≡ is_ready (standings_of listed aside marks) (Accept door)
   has-accept door marks =
-      ap (λ (b : Bool). b || set_of (accepts_of aside) (Accept door)) (sym (aside-accept (standings_of listed aside marks).listed door))
+      ap (λ (b : Bool). b || set_of (map Accept aside) (Accept door)) (sym (aside-accept (standings_of listed aside marks).listed door))
       ∙ ap (λ (b : Bool). set_of (things_aside (standings_of listed aside marks).listed) (Accept door) || b)
       (sym (aside-accept (standings_of listed aside marks).aside door))
 

@@ -4,7 +4,8 @@ use Rattle.std.specs.Prelude.{◌≡◌, ℕ, ◌<◌, ◌≤◌, Bool, true, fa
 use Rattle.std.specs.List.{insert, remove}
 use Rattle.lists.specs.Rising.{is_among}
 use Rattle.world_ports.specs.declared.events.Door.{Door}
-use Rattle.loop_model.specs.Aside.{Aside, none_aside, put_aside, taken_back, things_aside}
+use Rattle.loop_model.specs.Aside.{Aside, put_aside, taken_back, things_aside}
+use Rattle.loop_model.specs.Lines.{empty_line}
 use Rattle.loop_model.specs.Things.{set_of}
 use Rattle.loop_model.specs.declared.thing.Thing.{Thing}
 use Rattle.loop_model.specs.declared.thing.Thing.TheVariants.{Read, Write}
@@ -99,7 +100,7 @@ pub record Standings : Type 0 where
 
 -- nothing stands anywhere
 abbrev pub none_standing : Standings
-none_standing = record { listed = none_aside; aside = none_aside }
+none_standing = record { listed = empty_line.aside; aside = empty_line.aside }
 
 -- listeners that stand in the list, others that are set aside, and what the marks say
 abbrev pub standings_of : List Door → List Door → List Mark → Standings

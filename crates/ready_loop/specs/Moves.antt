@@ -21,14 +21,8 @@ use Rattle.ready_loop.specs.declared.outcome.HubFault.TheVariants as faults
 
 -- the call is a poll
 abbrev pub is_poll : Entry → Bool
-is_poll (entry.Bind door path answer) = false
 is_poll (entry.Poll wait items answer) = true
-is_poll (entry.Accept door answer) = false
-is_poll (entry.Read port room bytes answer) = false
-is_poll (entry.Write port offered answer) = false
-is_poll (entry.Close port answer) = false
-is_poll (entry.Start job answer) = false
-is_poll (entry.Now answer) = false
+is_poll other = false
 
 -- the calls that were added may come from the first reading on, lead to the second, and none of them is a poll
 pub record Continues (from : LoopState) (old new : Option (List Entry)) (to : LoopState) : Type 0 where

@@ -1,6 +1,6 @@
 -- A whole run of the loop (ours): both listeners are bound, the clients' first, and then the calls come as
 -- LegalJournal.antt of loop_model says. Read from the end.
-use Rattle.std.specs.Prelude.{◌≡◌, ℕ, Bool, true, false, List, [], ◌∷◌, ◌++◌, Option, Some, None, Result, Ok, Err, ◌==◌, ◌&&◌, not, codes, option_and_then, option_map}
+use Rattle.std.specs.Prelude.{◌≡◌, ℕ, Bool, true, List, [], ◌∷◌, ◌++◌, Option, Some, None, Result, Ok, Err, ◌==◌, ◌&&◌, not, if◌then◌else◌, codes, option_and_then, option_map}
 use Rattle.std.specs.Str.{bytes_eq}
 use Rattle.world_ports.specs.Journal.{Grows}
 use Rattle.world_ports.specs.declared.answers.Polled.{Polled}
@@ -50,22 +50,11 @@ abbrev pub after_bind : {E : Type 0} → Result Unit E → Stage → Stage
 after_bind (Ok unit) next = next
 after_bind (Err fault) next = Refused
 
--- this stage, where the test holds
-abbrev pub stage_if : Bool → Stage → Option Stage
-stage_if true stage = Some stage
-stage_if false stage = None
-
 -- this listener is to be bound, at this path
 abbrev pub bound : Door → List ℕ → Stage → Entry → Option Stage
 bound door path next (entry.Bind other at answer) =
-    stage_if (same_door door other && bytes_eq at path) (after_bind answer next)
-bound door path next (entry.Poll wait items answer) = None
-bound door path next (entry.Accept other answer) = None
-bound door path next (entry.Read port room bytes answer) = None
-bound door path next (entry.Write port offered answer) = None
-bound door path next (entry.Close port answer) = None
-bound door path next (entry.Start job answer) = None
-bound door path next (entry.Now answer) = None
+    if same_door door other && bytes_eq at path then Some (after_bind answer next) else None
+bound door path next other = None
 
 -- ---- turns
 
@@ -77,18 +66,14 @@ is_deserted reading = reading.line.joined && (client_count reading.state.ports =
 abbrev pub may_come : Bool → LoopState → Entry → Bool
 may_come until_idle reading next = not (is_poll next && (until_idle && is_deserted reading))
 
--- where the test holds, the entry may come in its turn
-abbrev pub running_if : Bool → LoopState → Entry → Option Stage
-running_if true reading next = option_map Running (after_if_legal reading next)
-running_if false reading next = None
-
 -- ---- a run
 
 -- the entry may come, and this is how far the run is then
 abbrev pub gone_on : Setting → Stage → Entry → Option Stage
 gone_on setting Unbound next = bound Clients setting.path HalfBound next
 gone_on setting HalfBound next = bound Children (children_path setting.path) (begun setting) next
-gone_on setting (Running reading) next = running_if (may_come setting.until_idle reading next) reading next
+gone_on setting (Running reading) next =
+    if may_come setting.until_idle reading next then option_map Running (after_if_legal reading next) else None
 gone_on setting Refused next = None
 
 -- the entries may come one after another

@@ -1,8 +1,8 @@
 //! Where each thing that is ready stands: in the list, or aside under its door or port.
 
-ghost use Rattle.std.specs.Prelude.{◌≡◌, ◌||◌, List, OnErr, OnOk, filter, not};
+ghost use Rattle.std.specs.Prelude.{◌≡◌, ◌||◌, List, OnErr, OnOk, filter, map, not};
 ghost use Rattle.lists.specs.Rising.{IsRisingList};
-ghost use Rattle.loop_model.specs.Aside.{accepts_of, things_aside};
+ghost use Rattle.loop_model.specs.Aside.{things_aside};
 ghost use Rattle.loop_model.specs.Things.{same_door, set_of};
 ghost use Rattle.loop_model.specs.declared.thing.Thing.TheVariants.{Accept, Read, Write};
 ghost use Rattle.ready_loop.specs.Marks.{forgotten, is_aside, is_listed, none_standing, standings_of, stood};
@@ -139,7 +139,7 @@ fn is_ready(standing: Standing) -> bool
 
 // Whether the listener is among these.
 fn has_door(doors: &[Door], door: Door) -> bool
-    ensures { result ≡ set_of (accepts_of doors.now) (Accept door) }
+    ensures { result ≡ set_of (map Accept doors.now) (Accept door) }
 {
     'doors: for other in doors {
         if is_same_door(*other, door) {
@@ -152,7 +152,7 @@ fn has_door(doors: &[Door], door: Door) -> bool
 // Whether the listener is among either.
 fn has_either(listed: &[Door], aside: &[Door], door: Door) -> bool
     ensures { result
-        ≡ (set_of (accepts_of listed.now) (Accept door) || set_of (accepts_of aside.now) (Accept door)) }
+        ≡ (set_of (map Accept listed.now) (Accept door) || set_of (map Accept aside.now) (Accept door)) }
 {
     has_door(listed, door) || has_door(aside, door)
 }

@@ -1,6 +1,6 @@
-use Rattle.std.proofs.Common.{◌∙◌, List, ap, subst, sym}
+use Rattle.std.proofs.Common.{◌∙◌, List, ap, subst, sym, Bool}
 use Rattle.loop_model.specs.Queues.{dropped}
-use Rattle.loop_model.specs.Things.{Hot, set_of}
+use Rattle.loop_model.specs.Things.{set_of}
 use Rattle.loop_model.specs.declared.thing.Thing.{Thing}
 use Rattle.loop_model.specs.declared.thing.Thing.TheVariants.{Read, Write}
 use Rattle.loop_model.proofs.AsideLemmas.{set_of-dropped}
@@ -10,12 +10,12 @@ use Rattle.ready_loop.proofs.queue.Queue.close.Goals as goal
 
 pub drop_if-requires : goal.drop_if-requires
 drop_if-requires c =
-    c.forget-read.ensures.read ∙ ap (λ (hot : Hot). hot (Read c.args.port)) c.self.invariant.listed
+    c.forget-read.ensures.read ∙ ap (λ (hot : Thing → Bool). hot (Read c.args.port)) c.self.invariant.listed
 
 pub drop_if-requires-2 : goal.drop_if-requires-2
 drop_if-requires-2 c =
-    c.forget-read.ensures.write ∙ ap (λ (hot : Hot). hot (Write c.args.port)) c.self.invariant.listed
-    ∙ sym (ap (λ (hot : Hot). hot (Write c.args.port)) (set_of-dropped (Read c.args.port) c.self.inside.things.items))
+    c.forget-read.ensures.write ∙ ap (λ (hot : Thing → Bool). hot (Write c.args.port)) c.self.invariant.listed
+    ∙ sym (ap (λ (hot : Thing → Bool). hot (Write c.args.port)) (set_of-dropped (Read c.args.port) c.self.inside.things.items))
     ∙ sym (ap (λ (things : List Thing). set_of things (Write c.args.port)) c.drop_if.ensures)
 
 pub invariant_of-self : goal.invariant_of-self

@@ -1,6 +1,5 @@
-use Rattle.std.proofs.Common.{◌∙◌, List, ap, ◌||◌}
+use Rattle.std.proofs.Common.{◌∙◌, List, ap, ◌||◌, map}
 use Rattle.world_ports.specs.declared.events.Door.{Door}
-use Rattle.loop_model.specs.Aside.{accepts_of}
 use Rattle.loop_model.specs.Things.{set_of}
 use Rattle.loop_model.specs.declared.thing.Thing.TheVariants.{Accept, Read, Write}
 use Rattle.ready_loop.specs.Marks.{is_aside, is_listed, standings_of}
@@ -15,8 +14,8 @@ returns-in-Accept-clause-there c =
     told is_ready c.has_either.result (standings_of listed aside c.self.inside.marks) c.args.self.now c.args.thing
     (Accept c.in-Accept.door) c.self.view_is c.in-Accept.is
     (c.has_either.ensures
-    ∙ ap (λ (doors : List Door). set_of (accepts_of doors) (Accept c.in-Accept.door) || set_of (accepts_of c.deref-in-Accept.result.now) (Accept c.in-Accept.door)) c.deref.ensures.value
-    ∙ ap (λ (doors : List Door). set_of (accepts_of listed) (Accept c.in-Accept.door) || set_of (accepts_of doors) (Accept c.in-Accept.door)) c.deref-in-Accept.ensures.value
+    ∙ ap (λ (doors : List Door). set_of (map Accept doors) (Accept c.in-Accept.door) || set_of (map Accept c.deref-in-Accept.result.now) (Accept c.in-Accept.door)) c.deref.ensures.value
+    ∙ ap (λ (doors : List Door). set_of (map Accept listed) (Accept c.in-Accept.door) || set_of (map Accept doors) (Accept c.in-Accept.door)) c.deref-in-Accept.ensures.value
     ∙ has-accept listed aside c.in-Accept.door c.self.inside.marks)
 
 pub returns-in-Read-clause-there : goal.returns-in-Read-clause-there

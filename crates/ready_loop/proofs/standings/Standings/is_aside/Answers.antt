@@ -1,6 +1,5 @@
-use Rattle.std.proofs.Common.{◌∙◌, List, ap, sym}
+use Rattle.std.proofs.Common.{◌∙◌, List, ap, sym, map}
 use Rattle.world_ports.specs.declared.events.Door.{Door}
-use Rattle.loop_model.specs.Aside.{accepts_of}
 use Rattle.loop_model.specs.Things.{set_of}
 use Rattle.loop_model.specs.declared.thing.Thing.TheVariants.{Accept, Read, Write}
 use Rattle.loop_model.proofs.AsideLemmas.{aside-accept}
@@ -14,7 +13,7 @@ returns-in-Accept-clause-there c =
     let view : Standings = standings_of c.self.inside.listed.items c.self.inside.aside.items c.self.inside.marks in
     told is_set_aside c.has_door.result view c.args.self.now c.args.thing (Accept c.in-Accept.door) c.self.view_is c.in-Accept.is
     (c.has_door.ensures
-    ∙ ap (λ (doors : List Door). set_of (accepts_of doors) (Accept c.in-Accept.door)) c.deref.ensures.value
+    ∙ ap (λ (doors : List Door). set_of (map Accept doors) (Accept c.in-Accept.door)) c.deref.ensures.value
     ∙ sym (aside-accept view.aside c.in-Accept.door))
 
 pub returns-in-Read-clause-there : goal.returns-in-Read-clause-there
