@@ -238,7 +238,7 @@ broken_by : (journal later : Option (List Entry)) (old new errors said : StreamV
     → Breaks journal later old new errors said
 broken_by journal later old new errors said entries grows (inl fails) = inl fails
 broken_by journal later old new errors said entries grows (inr lacks) =
-    inr (record { over = full_by journal later entries grows lacks.over; kept = lacks.kept; says = lacks.says })
+    inr (full_by journal later entries grows lacks.over, lacks.kept, lacks.says)
 
 -- and else nothing was said
 says_by : (failed : Bool) (journal later : Option (List Entry)) (old new errors said : StreamView) (entries : List Entry)

@@ -1,5 +1,6 @@
 -- The calls of a loop serve each thing in its turn.
-use Rattle.std.proofs.Common.{◌≡◌, ◌∙◌, ℕ, List, [], ◌∷◌, ◌++◌, ap, append_assoc, refl, subst, sym, Option, Some, None, Bool, true, false, Result, Ok, Err, ◌&&◌, option_and_then, option_map}
+use Rattle.std.proofs.Common.{◌≡◌, ◌∙◌, ℕ, List, [], ◌∷◌, ◌++◌, ap, append_assoc, refl, subst, sym, Option, Some, None, Bool, true, false, Result, Ok, Err, ◌&&◌, if◌then◌else◌, option_and_then, option_map}
+use Rattle.std.specs.Option.{option_map_or}
 use Rattle.std.specs.Str.{bytes_eq}
 use Rattle.std.specs.List.{list_any}
 use Rattle.world_ports.specs.declared.answers.WorldFault.{WorldFault}
@@ -7,14 +8,14 @@ use Rattle.world_ports.specs.declared.entry.Entry.{Entry}
 use Rattle.world_ports.specs.declared.entry.Entry.TheVariants as entry
 use Rattle.world_ports.specs.declared.events.Door.{Door}
 use Rattle.world_ports.specs.declared.events.Door.TheVariants.{Clients, Children}
-use Rattle.loop_model.specs.Fairness.{if_any, is_service, waits_on}
+use Rattle.loop_model.specs.Fairness.{is_service, waits_on}
 use Rattle.loop_model.specs.LegalJournal.{LoopState, after_entries, after_if_legal}
 use Rattle.loop_model.specs.Lines.{IsQuiet}
 use Rattle.loop_model.specs.Things.{same_door, same_thing}
 use Rattle.loop_model.specs.declared.thing.Thing.{Thing}
 use Rattle.loop_model.proofs.FairnessLemmas.{served_between}
 use Rattle.loop_model.proofs.QuietLemmas.{quiet_taken}
-use Rattle.ready_loop.specs.Serving.{Setting, Stage, Unbound, HalfBound, Running, Refused, after_bind, begun, bound, children_path, gone_on, may_come, ran, running_if, stage_if}
+use Rattle.ready_loop.specs.Serving.{Setting, Stage, Unbound, HalfBound, Running, Refused, after_bind, begun, bound, children_path, gone_on, may_come, ran}
 use Rattle.ready_loop.proofs.ServingLemmas.{ran-append}
 use Rattle.agent_top.specs.ServeFair.{IsFair, ServesFairly}
 
@@ -42,7 +43,7 @@ mapped None to is = cc
 mapped (Some after) to is = let same : Running after ≡ to = cc in (after, refl, same)
 
 turns_by : (may : Bool) (from : LoopState) (next : Entry) (to : Stage)
-    → running_if may from next ≡ Some to
+    → (if may then option_map Running (after_if_legal from next) else None) ≡ Some to
     → (after : LoopState) × (after_if_legal from next ≡ Some after) × (Running after ≡ to)
 turns_by true from next to is = mapped (after_if_legal from next) to is
 turns_by false from next to is = cc
@@ -97,7 +98,7 @@ IsStill (Running reading) = IsQuiet reading.state reading.line
 IsStill Refused = Unit {0}
 
 still_if : (test : Bool) (answer : Result Unit WorldFault) (stage to : Stage) → IsStill stage
-    → stage_if test (after_bind answer stage) ≡ Some to → IsStill to
+    → (if test then Some (after_bind answer stage) else None) ≡ Some to → IsStill to
 still_if true (Ok unit) stage to still is = let same : stage ≡ to = cc in subst IsStill same still
 still_if true (Err fault) stage to still is = let same : Refused ≡ to = cc in subst IsStill same tt
 still_if false answer stage to still is = cc
@@ -157,22 +158,22 @@ fair_by setting from reading to thing other between after first last quiet legal
     (ap (ran setting (Running from)) more ∙ legal) in
     let front = after_entries-all setting from (first ∷ (between ++ last ∷ [])) up_to.0 up_to.1 in
     served_between from front.0 thing other first last between quiet front.1 service again apart
-    (ap (if_any (λ (t : LoopState). waits_on other t between)) (leads_there setting from reading first reached) ∙ waits)
+    (ap (λ (found : Option LoopState). option_map_or (λ (t : LoopState). waits_on other t between) found true) (leads_there setting from reading first reached) ∙ waits)
 
 fair : (setting : Setting) (calls : List Entry) (to : Stage) → ran setting Unbound calls ≡ Some to
     → IsFair setting calls
-fair setting calls to legal = λ thing other before between after first last reading twice apart reached waits.
-    let whole = ap (ran setting Unbound) (sym twice.split) ∙ legal in
+fair setting calls to legal = λ thing other before between after first last reading split once again apart reached waits.
+    let whole = ap (ran setting Unbound) (sym split) ∙ legal in
     let start = ran-split setting Unbound to before (first ∷ (between ++ last ∷ after)) whole in
     let next = then_some (λ (stage : Stage). ran setting stage (between ++ last ∷ after)) (gone_on setting start.0 first) to start.2 in
-    let runs = serving-runs setting start.0 next.0 thing first twice.once next.1 in
+    let runs = serving-runs setting start.0 next.0 thing first once next.1 in
     let still = subst IsStill runs.1 (still-all setting Unbound start.0 before tt start.1) in
     let there = ran-split setting Unbound (Running reading) before (first ∷ []) reached in
     let same : there.0 ≡ start.0 = (let both : Some there.0 ≡ Some start.0 = sym there.1 ∙ start.1 in cc) in
     fair_by setting runs.0 reading to thing other between after first last still
     (ap (λ (stage : Stage). ran setting stage (first ∷ (between ++ last ∷ after))) (sym runs.1) ∙ start.2)
     (ap (λ (stage : Stage). ran setting stage (first ∷ [])) (sym (same ∙ runs.1)) ∙ there.2)
-    twice.once twice.again apart waits
+    once again apart waits
 
 pub serves_fairly : (setting : Setting) (old new : Option (List Entry))
     → ServesFairly setting old new

@@ -1,5 +1,6 @@
 -- The calls of a loop lead to the state of the events that they bring, and the law of history holds of these.
-use Rattle.std.proofs.Common.{◌≡◌, ◌∙◌, ℕ, List, [], ◌∷◌, ◌++◌, ap, refl, subst, sym, Option, Some, None, IfSome, Bool, true, false, Result, Ok, Err, ◌&&◌, option_and_then, option_map}
+use Rattle.std.proofs.Common.{◌≡◌, ◌∙◌, ℕ, List, [], ◌∷◌, ◌++◌, ap, refl, subst, sym, Option, Some, None, IfSome, Bool, true, false, Result, Ok, Err, ◌&&◌, if◌then◌else◌, option_and_then, option_map}
+use Rattle.std.specs.Option.{option_map_or}
 use Rattle.std.specs.Str.{bytes_eq}
 use Rattle.world_ports.specs.declared.answers.WorldFault.{WorldFault}
 use Rattle.world_ports.specs.declared.entry.Entry.{Entry}
@@ -9,12 +10,12 @@ use Rattle.world_ports.specs.declared.events.Door.TheVariants.{Clients, Children
 use Rattle.agent_model.specs.Events.{Timed}
 use Rattle.agent_model.specs.Runs.{AllFit, run}
 use Rattle.agent_model.specs.State.{Settings, State, first_state}
-use Rattle.loop_model.specs.LegalJournal.{LoopState, after_if, comes_next, events_brought}
+use Rattle.loop_model.specs.LegalJournal.{LoopState, after_if, after_if_legal, comes_next, events_brought}
 use Rattle.loop_model.specs.Lines.{empty_line}
 use Rattle.loop_model.specs.Things.{same_door}
 use Rattle.loop_model.proofs.FittingLemmas.{IsAwaited, entry-fits, first_awaited, fit-append}
-use Rattle.ready_loop.specs.Serving.{Setting, Stage, Unbound, HalfBound, Running, Refused, after_bind, begun, bound, children_path, gone_on, may_come, ran, running_if, stage_if}
-use Rattle.agent_top.specs.ServeLaw.{ServesLawfully, agent_at, call_events, calls_events, later_events}
+use Rattle.ready_loop.specs.Serving.{Setting, Stage, Unbound, HalfBound, Running, Refused, after_bind, begun, bound, children_path, gone_on, may_come, ran}
+use Rattle.agent_top.specs.ServeLaw.{ServesLawfully, agent_at, call_events, calls_events}
 use Rattle.agent_top.proofs.LawfulRunLemmas.{lawful_run}
 use Rattle.agent_top.proofs.ServeFairLemmas.{then_some, turns}
 use Rattle.replay_run.proofs.DrillLemmas.{run-append}
@@ -31,13 +32,13 @@ turn-leads setting true reading next = refl
 turn-leads setting false reading next = tt
 
 running-leads : (setting : Setting) (may : Bool) (reading : LoopState) (next : Entry)
-    → LeadsTo setting (run reading.state (events_brought reading.due next)) (running_if may reading next)
+    → LeadsTo setting (run reading.state (events_brought reading.due next)) (if may then option_map Running (after_if_legal reading next) else None)
 running-leads setting true reading next = turn-leads setting (comes_next reading next) reading next
 running-leads setting false reading next = tt
 
 bind-leads : (setting : Setting) (stage : Stage) (test : Bool) (answer : Result Unit WorldFault)
     → agent_at setting stage ≡ setting.state
-    → LeadsTo setting setting.state (stage_if test (after_bind answer stage))
+    → LeadsTo setting setting.state (if test then Some (after_bind answer stage) else None)
 bind-leads setting stage true (Ok unit) is = is
 bind-leads setting stage true (Err fault) is = refl
 bind-leads setting stage false answer is = tt
@@ -76,7 +77,7 @@ runs-on : (setting : Setting) (stage to : Stage) (found : Option Stage) (events 
     → LeadsTo setting (run (agent_at setting stage) events) found
     → option_and_then (λ after. ran setting after later) found ≡ Some to
     → ((after : Stage) → ran setting after later ≡ Some to → agent_at setting to ≡ run (agent_at setting after) (calls_events setting after later))
-    → agent_at setting to ≡ run (agent_at setting stage) (events ++ later_events (λ after. calls_events setting after later) found)
+    → agent_at setting to ≡ run (agent_at setting stage) (events ++ option_map_or (λ after. calls_events setting after later) found [])
 runs-on setting stage to None events later leads legal runs = absurd (none_legal legal)
 runs-on setting stage to (Some after) events later leads legal runs =
     runs after legal
@@ -101,7 +102,7 @@ IsFit (Running reading) = IsAwaited reading
 IsFit Refused = Unit {0}
 
 fit_if : (test : Bool) (answer : Result Unit WorldFault) (stage to : Stage) → IsFit stage
-    → stage_if test (after_bind answer stage) ≡ Some to → IsFit to
+    → (if test then Some (after_bind answer stage) else None) ≡ Some to → IsFit to
 fit_if true (Ok unit) stage to fit is = let same : stage ≡ to = cc in subst IsFit same fit
 fit_if true (Err fault) stage to fit is = let same : Refused ≡ to = cc in subst IsFit same tt
 fit_if false answer stage to fit is = absurd (cc)
@@ -141,7 +142,7 @@ calls-fit setting stage to (next ∷ later) fit legal =
     subst (LeadsTo setting (run (agent_at setting stage) (call_events stage next))) step.1 (stage-leads setting stage next) in
     let rest = subst (λ (state : State). AllFit state (calls_events setting step.0 later)) leads
     (calls-fit setting step.0 to later both.1 step.2) in
-    subst (λ (found : Option Stage). AllFit (agent_at setting stage) (call_events stage next ++ later_events (λ after. calls_events setting after later) found))
+    subst (λ (found : Option Stage). AllFit (agent_at setting stage) (call_events stage next ++ option_map_or (λ after. calls_events setting after later) found []))
     (sym step.1)
     (fit-append (agent_at setting stage) (call_events stage next) (calls_events setting step.0 later) both.0 rest)
 

@@ -43,14 +43,10 @@ HoldsOfAdded (Some before) journal fact = (calls : List Entry) → Grows (Some b
 abbrev pub IsUnbroken : StreamView → StreamView → StreamView → StreamView → Type 0
 IsUnbroken old new errors said = (new.write_faults ≡ old.write_faults) × (said ≡ errors)
 
--- no write failed, the passphrases of the calls that were added have no room, and that was said
-pub record BreaksFull (journal later : Option (List Entry)) (old new errors said : StreamView) : Type 0 where
-  pub over : HoldsOfAdded journal later HaveNoRoom
-  pub kept : new.write_faults ≡ old.write_faults
-  pub says : Says no_room_line errors said
-
--- the record broke, and one line says why: a write failed, or the passphrases have no room
+-- the record broke, and one line says why: a write failed, or none did and the passphrases of the calls that were added
+-- have no room
 abbrev pub Breaks : Option (List Entry) → Option (List Entry) → StreamView → StreamView → StreamView → StreamView
     → Type 0
 Breaks journal later old new errors said =
-    FailsToWrite old.write_faults new.write_faults errors said ⊎ BreaksFull journal later old new errors said
+    FailsToWrite old.write_faults new.write_faults errors said
+    ⊎ (HoldsOfAdded journal later HaveNoRoom × (new.write_faults ≡ old.write_faults) × Says no_room_line errors said)

@@ -11,18 +11,12 @@ use Rattle.loop_model.specs.Things.{same_thing}
 use Rattle.loop_model.specs.declared.thing.Thing.{Thing}
 use Rattle.ready_loop.specs.Serving.{Setting, Stage, Unbound, Running, ran}
 
--- the calls are two services of this thing, with others before, between and after them
-pub record ServeTwice (thing : Thing) (calls before between after : List Entry) (first last : Entry) : Type 0 where
-  pub split : calls ≡ before ++ first ∷ (between ++ last ∷ after)
-  pub once : is_service thing first ≡ true
-  pub again : is_service thing last ≡ true
-
 -- between two services of one thing each other thing is served that is ready and can be served all the while
 abbrev pub IsFair : Setting → List Entry → Type 0
 IsFair setting calls = (thing other : Thing) (before between after : List Entry) (first last : Entry) (reading : LoopState)
-    → ServeTwice thing calls before between after first last → same_thing thing other ≡ false
-    → ran setting Unbound (before ++ first ∷ []) ≡ Some (Running reading) → waits_on other reading between ≡ true
-    → list_any (is_service other) between ≡ true
+    → calls ≡ before ++ first ∷ (between ++ last ∷ after) → is_service thing first ≡ true → is_service thing last ≡ true
+    → same_thing thing other ≡ false → ran setting Unbound (before ++ first ∷ []) ≡ Some (Running reading)
+    → waits_on other reading between ≡ true → list_any (is_service other) between ≡ true
 
 -- the calls that were added are fair, from the start of the loop on
 abbrev pub ServesFairly : Setting → Option (List Entry) → Option (List Entry) → Type 0

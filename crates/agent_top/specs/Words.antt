@@ -37,9 +37,8 @@ rounds_in text = option_and_then (λ rounds. if nat_le rounds 100000 then Some r
 
 -- both numbers, where there are both
 abbrev pub drilling : Option ℕ → Option ℕ → Option Drilling
-drilling None seed = None
-drilling (Some rounds) None = None
 drilling (Some rounds) (Some seed) = Some record { rounds = rounds; seed = seed }
+drilling rounds seed = None
 
 -- where the words are `drill N SEED`: both numbers
 abbrev pub drill_words : List (List ℕ) → Option Drilling
