@@ -1,7 +1,6 @@
 -- The run of a schedule is that of the events which it brings.
 use Rattle.std.proofs.Common.{◌≡◌, ℕ, suc, ◌+◌, ◌≤◌, ◌==◌, ◌&&◌, nat_lt, if◌then◌else◌, Bool, true, false, List, [], ◌∷◌, ◌++◌, length, refl, ap, arith, sym, subst, ◌∙◌, Option, None, Some, Result, Ok, Err}
 use Rattle.std.specs.List.{list_any}
-use Rattle.world_ports.specs.declared.Job.{Job}
 use Rattle.agent_laws.specs.History.{HasNumbers, IsLawful}
 use Rattle.agent_laws.proofs.HistoryLemmas.{first-lawful}
 use Rattle.agent_model.specs.Events.{Timed, Heard, Ended, StartFailed, Started as JobStarted, Took}
@@ -15,8 +14,8 @@ use Rattle.schedule_text.proofs.Theorems.{step_of-empty}
 use Rattle.schedule_text.specs.declared.step.Step.{Step}
 use Rattle.schedule_text.specs.declared.step.Step.TheVariants.{Skip, Format2, At, Join, Hear, End, Hold, Free, Take, Started, Failed}
 use Rattle.replay_run.specs.Holding.{free_port, hold_port}
-use Rattle.replay_run.specs.Formats.{is_format, is_second, names_format, settings_by}
-use Rattle.replay_run.specs.Replay.{Brought, Brings, Refuses, Run, Turned, at_job, at_peer, at_port, brought_turned, course, events_of, happens, last_turned, line_brings, longest_schedule, parts_of, run_of, settings_of, settles, skips, start_run, step_at, step_brings, turned, turned_by, whole_turned}
+use Rattle.replay_run.specs.Formats.{is_second, names_format, settings_by}
+use Rattle.replay_run.specs.Replay.{Brought, Brings, Refuses, Run, Turned, at_peer, brought_turned, course, events_of, happens, if_found, last_turned, line_brings, longest_schedule, parts_of, run_of, settings_of, settles, skips, start_run, step_at, step_brings, turned, turned_by, whole_turned}
 use Rattle.replay_run.specs.Told.{Told, Barred, Came, events_in, told_from}
 use Rattle.replay_run.proofs.FormatLemmas.{IsPlain, asked_is_short, begun-turned, names_the_format, plain_at, plain_later}
 use Rattle.replay_run.proofs.RunLemmas.{turned-step}
@@ -72,15 +71,10 @@ led-brought (Brings found events) size before same =
     (told-course (suc before.line) found.agent events)
 led-brought (Refuses fault) size before same = refl
 
-finds-port : (found : Option Port) (brought : Brought) (before : Run) → FindsAgent brought before
-    → FindsAgent (at_port found brought) before
-finds-port None brought before is = tt
-finds-port (Some port) brought before is = is
-
-finds-job : (found : Option Job) (brought : Brought) (before : Run) → FindsAgent brought before
-    → FindsAgent (at_job found brought) before
-finds-job None brought before is = tt
-finds-job (Some job) brought before is = is
+finds-found : {A : Type 0} (found : Option A) (fault : LineFault) (brought : Brought) (before : Run)
+    → FindsAgent brought before → FindsAgent (if_found found fault brought) before
+finds-found None fault brought before is = tt
+finds-found (Some one) fault brought before is = is
 
 finds-if : (test : Bool) (one other : Brought) (before : Run) → FindsAgent one before
     → FindsAgent other before → FindsAgent (if test then one else other) before
@@ -98,7 +92,7 @@ finds-later : (first : Bool) (begun : Brought) (before : Run) → first ≡ fals
 finds-later true begun before later = absurd cc
 finds-later false begun before later = tt
 
-finds-step : (step : Step) (before : Run) → (is_format step && (before.line == 0)) ≡ false
+finds-step : (step : Step) (before : Run) → (names_format (Ok step) && (before.line == 0)) ≡ false
     → FindsAgent (step_brings step before) before
 finds-step Skip before plain = refl
 finds-step Format2 before plain = finds-later (before.line == 0) _ before plain
@@ -107,13 +101,13 @@ finds-step (Join door) before plain = refl
 finds-step (Hear port bytes) before plain = finds-peer (find_port port before.agent.ports) port (happens (Heard port bytes) before) before refl
 finds-step (End port) before plain =
     finds-peer (find_port port before.agent.ports) port (happens (Ended port) before) before refl
-finds-step (Hold port) before plain = finds-port (find_port port before.agent.ports) (settles (record before { held = hold_port port before.held })) before refl
-finds-step (Free port) before plain = finds-port (find_port port before.agent.ports) (settles (record before { held = free_port port before.held })) before refl
+finds-step (Hold port) before plain = finds-found (find_port port before.agent.ports) UnknownPort (settles (record before { held = hold_port port before.held })) before refl
+finds-step (Free port) before plain = finds-found (find_port port before.agent.ports) UnknownPort (settles (record before { held = free_port port before.held })) before refl
 finds-step (Take port count) before plain =
     finds-peer (find_port port before.agent.ports) port (if nat_lt (length (owed_of port before.agent)) count then Refuses Order else happens (Took port count) before) before
     (finds-if (nat_lt (length (owed_of port before.agent)) count) (Refuses Order) (happens (Took port count) before) before tt refl)
-finds-step (Started job ticket) before plain = finds-job (find_to_start job (starts before.agent)) (happens (JobStarted job ticket) before) before refl
-finds-step (Failed job) before plain = finds-job (find_to_start job (starts before.agent)) (happens (StartFailed job) before) before refl
+finds-step (Started job ticket) before plain = finds-found (find_to_start job (starts before.agent)) Order (happens (JobStarted job ticket) before) before refl
+finds-step (Failed job) before plain = finds-found (find_to_start job (starts before.agent)) Order (happens (StartFailed job) before) before refl
 
 finds-line : (read : Result Step LineFault) (before : Run)
     → (names_format read && (before.line == 0)) ≡ false
@@ -212,6 +206,14 @@ pub run-schedule : (settings : Settings) (text : List ℕ)
     → (run_of settings text).agent ≡ run (first_state (settings_of settings text)) (events_of settings text)
 run-schedule settings text = sym (course-run (first_state (settings_of settings text)) (course true (start_run settings) (parts_of text)).told (run_of settings text).agent (schedule-course settings text))
 
+-- the format leaves the lifetime as it was chosen
+same-life : (second : Bool) (settings : Settings) → (settings_by second settings).life ≡ settings.life
+same-life true settings = refl
+same-life false settings = refl
+
 pub schedule-lawful : (settings : Settings) (text : List ℕ) → HasNumbers (run_of settings text).agent
     → IsLawful settings.life [] (history (first_state (settings_of settings text)) (events_of settings text))
-schedule-lawful settings text numbers = first-lawful (settings_of settings text) (events_of settings text) (subst HasNumbers (run-schedule settings text) numbers)
+schedule-lawful settings text numbers =
+    subst (λ (life : Option ℕ). IsLawful life [] (history (first_state (settings_of settings text)) (events_of settings text)))
+    (same-life (is_second (parts_of text)) settings)
+    (first-lawful (settings_of settings text) (events_of settings text) (subst HasNumbers (run-schedule settings text) numbers))

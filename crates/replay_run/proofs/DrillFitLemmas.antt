@@ -11,8 +11,8 @@ use Rattle.agent_model.specs.Sound.{IsSteady}
 use Rattle.agent_model.specs.State.{Fits, State, find_port, find_to_start, first_state, no_settings, starts}
 use Rattle.agent_model.specs.Step.{step}
 use Rattle.replay_run.specs.Draws.{Draws, draws_of}
-use Rattle.replay_run.specs.Drill.{Drilled, agent_of, drawn_asking, drilled, heard, heard_by, helped, helped_by, helper_port, joined, lined, moment_of, round_by, round_of, signed, signed_by, start_drill, ticket}
-use Rattle.replay_run.proofs.DrillLemmas.{drilled-last_port, heard-last_port, joined-last_port, lined-last_port}
+use Rattle.replay_run.specs.Drill.{Drilled, agent_of, drawn_asking, drilled, heard, helped, helper_port, joined, lined, moment_of, round_of, signed, signed_by, start_drill, ticket}
+use Rattle.replay_run.proofs.DrillLemmas.{drilled-last_port, heard-last_port, heard_by, helped_by, joined-last_port, lined-last_port, round_by}
 use Rattle.replay_run.proofs.FitLemmas.{comes-fit, first-steady, run-steady}
 use Rattle.replay_run.proofs.TallyLemmas.{some_string}
 

@@ -1,5 +1,5 @@
 -- Lemmas on drills: what is kept of one follows its events, and few ports join.
-use Rattle.std.proofs.Common.{◌≡◌, ℕ, zero, suc, ◌+◌, ◌≤◌, List, [], ◌∷◌, ◌++◌, refl, ap, sym, subst, ◌∙◌, arith, Option, Some, None, IsSome, Bool, true, false, is_some, rules}
+use Rattle.std.proofs.Common.{◌≡◌, ℕ, zero, suc, ◌+◌, ◌≤◌, List, [], ◌∷◌, ◌++◌, refl, ap, sym, subst, ◌∙◌, arith, Option, Some, None, IsSome, Bool, true, false, if◌then◌else◌, is_some, rules}
 use Rattle.world_ports.specs.declared.Door.TheVariants.{Clients, Children}
 use Rattle.world_ports.specs.declared.Moment.{Moment}
 use Rattle.wire_text.specs.Wire.{string, uint64}
@@ -11,7 +11,7 @@ use Rattle.agent_model.specs.State.{State, find_port, find_to_start, first_state
 use Rattle.agent_model.specs.Step.{step}
 use Rattle.agent_model.proofs.RunLemmas.{last_after, step-last_port}
 use Rattle.replay_run.specs.Draws.{Draws, draws_of}
-use Rattle.replay_run.specs.Drill.{Drilled, agent_of, drawn_asking, drilled, heard, heard_by, helped, helped_by, helper_port, joined, lined, moment_of, round_by, round_of, signed, signed_by, start_drill, ticket}
+use Rattle.replay_run.specs.Drill.{Drilled, agent_of, drawn_asking, drilled, heard, helped, helper_port, joined, lined, moment_of, round_of, signed, signed_by, start_drill, ticket}
 use Rattle.replay_run.specs.Drilling.{Keeps, Kept, kept}
 use Rattle.replay_run.specs.Settling.{after_event, takings}
 use Rattle.replay_run.proofs.SettlingLemmas.{settled-last_port}
@@ -39,6 +39,10 @@ lined-last_port moment event drill =
     ∙ settled-last_port moment [] (after_event moment (agent_of drill) event)
     ∙ step-last_port (agent_of drill) moment event
 
+-- by whether the port is open
+abbrev pub heard_by : Bool → Moment → ℕ → List ℕ → Drilled → Drilled
+heard_by there moment port body drill = if there then lined moment (Heard port (string body)) drill else drill
+
 heard_by-last_port : (there : Bool) (moment : Moment) (port : ℕ) (body : List ℕ) (drill : Drilled)
     → (agent_of (heard_by there moment port body drill)).last_port ≡ (agent_of drill).last_port
 heard_by-last_port true moment port body drill = lined-last_port moment _ drill
@@ -49,6 +53,12 @@ pub heard-last_port : (moment : Moment) (port : ℕ) (body : List ℕ) (drill : 
 unfolding heard
 heard-last_port moment port body drill =
     heard_by-last_port (is_some (find_port port (agent_of drill).ports)) moment port body drill
+
+-- by whether job 1 waits
+abbrev pub helped_by : Bool → Moment → Drilled → Drilled
+helped_by waits moment drill =
+    if waits then heard moment helper_port (from_child_body (Hello 1 ticket))
+    (lined moment (Joined Children) (lined moment (Started 1 ticket) drill)) else drill
 
 helped_by-last_port : (waits : Bool) (moment : Moment) (drill : Drilled)
     → (agent_of (helped_by waits moment drill)).last_port ≤ suc (agent_of drill).last_port
@@ -79,6 +89,13 @@ signed-last_port : (moment : Moment) (round : ℕ) (drill : Drilled)
     → (agent_of (signed moment round drill)).last_port ≡ (agent_of drill).last_port
 unfolding signed
 signed-last_port moment round drill = signed_by-last_port drill.ask moment round drill
+
+-- the round of these draws, behind the moment's line
+abbrev pub round_by : Moment → ℕ → Draws → Drilled → Drilled
+round_by moment round draws drill =
+    let asking = drawn_asking round draws in
+    signed moment round (helped moment
+    (heard moment (1 + draws.one) asking.body (record drill { number = asking.number })))
 
 -- a round lets one join at most
 round_by-last_port : (moment : Moment) (round : ℕ) (draws : Draws) (drill : Drilled)

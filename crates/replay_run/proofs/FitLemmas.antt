@@ -2,7 +2,6 @@
 use Rattle.std.proofs.Common.{◌≡◌, ℕ, zero, suc, ◌+◌, ◌-◌, ◌^◌, ◌<◌, ◌≤◌, ◌==◌, nat_lt, if◌then◌else◌, Bool, true, false, List, [], ◌∷◌, ◌++◌, length, refl, arith, sym, subst, Option, None, Some, IsSome, Result, Ok, Err}
 use Rattle.std.specs.List.{list_any}
 use Rattle.std.proofs.lemmas.Bool.Decides.{nat_tests}
-use Rattle.world_ports.specs.declared.Job.{Job}
 use Rattle.world_ports.specs.declared.Moment.{Moment}
 use Rattle.agent_model.specs.Events.{Happening, Timed, Joined, Heard, Ended, StartFailed, Started as JobStarted, Tick, Took}
 use Rattle.agent_model.specs.Runs.{AllFit, run}
@@ -20,7 +19,7 @@ use Rattle.schedule_text.specs.declared.step.Step.TheVariants.{Skip, Format2, At
 use Rattle.replay_run.specs.Counts.{IsCounted}
 use Rattle.replay_run.specs.Formats.{settings_by}
 use Rattle.replay_run.specs.Holding.{free_port, hold_port}
-use Rattle.replay_run.specs.Replay.{Brought, Brings, Refuses, Run, Turned, at_job, at_peer, at_port, brought_turned, course, events_of, happens, last_turned, line_brings, longest_schedule, parts_of, run_of, settings_of, settles, skips, start_run, step_at, step_brings, turned, turned_by, whole_turned}
+use Rattle.replay_run.specs.Replay.{Brought, Brings, Refuses, Run, Turned, at_peer, brought_turned, course, events_of, happens, if_found, last_turned, line_brings, longest_schedule, parts_of, run_of, settings_of, settles, skips, start_run, step_at, step_brings, turned, turned_by, whole_turned}
 use Rattle.replay_run.specs.Settling.{after_event, comes, delivered, next_to_take, takings, takings_by, takings_from}
 use Rattle.replay_run.specs.Told.{Told, Barred, Came, events_in, told_from}
 use Rattle.replay_run.proofs.BroughtLemmas.{IsCourse, schedule-course}
@@ -105,10 +104,6 @@ fit-if : (test : Bool) (one other : Brought) → IsFit one → IsFit other
 fit-if true one other is also = is
 fit-if false one other is also = also
 
-fit-port : (found : Option Port) (brought : Brought) → IsFit brought → IsFit (at_port found brought)
-fit-port None brought is = tt
-fit-port (Some port) brought is = is
-
 fit-peer : (found : Option Port) (number : ℕ) (brought : Brought) (before : Run)
     → IsSteady before.agent → (IsSome found → IsFit brought)
     → IsFit (at_peer found number brought before)
@@ -116,10 +111,10 @@ fit-peer None number brought before steady is =
     fit-if (list_any (λ other. other == number) before.closed) (skips before) (Refuses UnknownPort) (steady, tt) tt
 fit-peer (Some port) number brought before steady is = is refl
 
-fit-job : (found : Option Job) (brought : Brought) → (IsSome found → IsFit brought)
-    → IsFit (at_job found brought)
-fit-job None brought is = tt
-fit-job (Some job) brought is = is refl
+fit-found : {A : Type 0} (found : Option A) (fault : LineFault) (brought : Brought) → (IsSome found → IsFit brought)
+    → IsFit (if_found found fault brought)
+fit-found None fault brought is = tt
+fit-found (Some one) fault brought is = is refl
 
 module _ (before : Run) (steady : IsSteady before.agent) where
   happens-fit : (event : Happening) → Fits event before.agent → IsFit (happens event before)
@@ -150,16 +145,16 @@ module _ (before : Run) (steady : IsSteady before.agent) where
   step-fits (End port) last some =
       fit-peer (find_port port before.agent.ports) port (happens (Ended port) before) before steady (happens-fit (Ended port))
   step-fits (Hold port) last some =
-      fit-port (find_port port before.agent.ports) (settles (record before { held = hold_port port before.held })) (settles-fit (hold_port port before.held))
+      fit-found (find_port port before.agent.ports) UnknownPort (settles (record before { held = hold_port port before.held })) (λ there. settles-fit (hold_port port before.held))
   step-fits (Free port) last some =
-      fit-port (find_port port before.agent.ports) (settles (record before { held = free_port port before.held })) (settles-fit (free_port port before.held))
+      fit-found (find_port port before.agent.ports) UnknownPort (settles (record before { held = free_port port before.held })) (λ there. settles-fit (free_port port before.held))
   step-fits (Take port count) last some =
       fit-peer (find_port port before.agent.ports) port (if nat_lt (length (owed_of port before.agent)) count then Refuses Order else happens (Took port count) before) before steady
       (λ there. take-fits port count (nat_lt (length (owed_of port before.agent)) count) some refl)
   step-fits (Started job ticket) last some =
-      fit-job (find_to_start job (starts before.agent)) (happens (JobStarted job ticket) before) (happens-fit (JobStarted job ticket))
+      fit-found (find_to_start job (starts before.agent)) Order (happens (JobStarted job ticket) before) (happens-fit (JobStarted job ticket))
   step-fits (Failed job) last some =
-      fit-job (find_to_start job (starts before.agent)) (happens (StartFailed job) before) (happens-fit (StartFailed job))
+      fit-found (find_to_start job (starts before.agent)) Order (happens (StartFailed job) before) (happens-fit (StartFailed job))
 
 -- what a line leaves may be gone on from, and its events may come
 record Fitting (turned : Turned) : Type 0 where

@@ -7,12 +7,12 @@ use Rattle.schedule_text.specs.declared.step.Step.{Step}
 use Rattle.schedule_text.specs.declared.step.Step.TheVariants.{Skip, Format2, At, Join, Hear, End, Hold, Free, Take, Started, Failed}
 use Rattle.schedule_text.specs.Lines.{step_of}
 use Rattle.schedule_text.proofs.Theorems.{step_of-long}
-use Rattle.replay_run.specs.Formats.{is_format, names_format}
+use Rattle.replay_run.specs.Formats.{names_format}
 use Rattle.replay_run.specs.Replay.{Brought, Brings, Refuses, Run, brought_turned, line_brings, step_at, turned, turned_by}
 
 -- ---- which line it is
 
-pub is_the_format : (step : Step) → is_format step ≡ true → step ≡ Format2
+pub is_the_format : (step : Step) → names_format (Ok step) ≡ true → step ≡ Format2
 is_the_format Skip is = absurd cc
 is_the_format Format2 is = refl
 is_the_format (At moment) is = absurd cc

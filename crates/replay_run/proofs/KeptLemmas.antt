@@ -14,7 +14,7 @@ use Rattle.agent_model.specs.Sound.{IsSteady}
 use Rattle.agent_model.specs.State.{Port, State, find_port, first_state, next_owed, no_settings, owed_of}
 use Rattle.agent_model.specs.Step.{step}
 use Rattle.agent_model.proofs.RunLemmas.{last_after, step-last_port}
-use Rattle.replay_run.specs.Drill.{Drilled, Tally, agent_of, ask_of, counts_of, has_number, is_child_at, last_ask, lined, replies, taken, taken_at, with_events}
+use Rattle.replay_run.specs.Drill.{Drilled, Tally, agent_of, ask_of, counts_of, has_number, is_child_at, last_ask, lined, replies, taken, taken_at}
 use Rattle.replay_run.specs.Drilling.{Keeps, Kept, TakesNothing, counts_with, kept, kept_after, noted}
 use Rattle.replay_run.specs.Settling.{after_event, at_moment, comes, delivered, next_to_take, takings}
 use Rattle.replay_run.proofs.DrillLemmas.{run-append}
@@ -91,6 +91,13 @@ kept_after-append : (some more : List Timed) (before : Kept)
 kept_after-append some more before =
     same_kept before.number (run-append before.agent some more) (counts-then before.agent some more before.counts)
     (ask-then before.agent some more before.ask)
+
+-- these events come too
+abbrev with_events : List Timed → Drilled → Drilled
+with_events events drill = record drill {
+  events = drill.events ++ events;
+  ask = last_ask (taken is_child_at (agent_of drill) events) drill.ask;
+}
 
 -- what is kept of a drill to which events come
 kept-with : (events : List Timed) (drill : Drilled) → kept (with_events events drill) ≡ kept_after events (kept drill)

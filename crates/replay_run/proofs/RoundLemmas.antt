@@ -97,7 +97,8 @@ ends_by settings (Refused line fault) start new bytes run read reads halts = rec
   read = read;
   text = halts.text;
   wrote = halts.wrote.written;
-  faults = record { reads = reads; writes = halts.wrote.kept };
+  reads = reads;
+  writes = halts.wrote.kept;
   refused = holds_of new.input.left bytes (IsRefused settings line fault halts.text) (λ more.
       let same = halts.goes.ran_same true more ∙ ran-refused true run fault (parts_of more) halts.refused in
       record {
@@ -237,7 +238,8 @@ ends_at_end settings Done start mid new old run under finishes taken left end re
       end = end;
       wrote = all_wrote settings start mid new old under finishes.wrote.written;
       accepted = ap (λ (r : Run). r.refused) (all_run settings under.bytes old start.output mid.output under.feeds) ∙ finishes.accepted;
-      faults = record { reads = reads ∙ under.reads; writes = finishes.wrote.kept ∙ under.feeds.wrote.kept };
+      reads = reads ∙ under.reads;
+      writes = finishes.wrote.kept ∙ under.feeds.wrote.kept;
     }
 ends_at_end settings (Refused line fault) start mid new old run under finishes taken left end reads =
     let same = all_run settings under.bytes old start.output mid.output under.feeds in
@@ -251,7 +253,8 @@ ends_at_end settings (Refused line fault) start mid new old run under finishes t
         refused = ap (λ (r : Run). r.refused) same ∙ finishes.refused;
         number = ap (λ (r : Run). r.line) same ∙ finishes.number;
       });
-      faults = record { reads = reads ∙ under.reads; writes = finishes.wrote.kept ∙ under.feeds.wrote.kept };
+      reads = reads ∙ under.reads;
+      writes = finishes.wrote.kept ∙ under.feeds.wrote.kept;
     }
 ends_at_end settings Memory start mid new old run under finishes taken left end reads =
     early_at_end settings start mid new old under (read_kept settings start mid new old under taken left) end finishes

@@ -2,7 +2,6 @@
 use Rattle.std.proofs.Common.{◌≡◌, ℕ, suc, ◌+◌, ◌<◌, ◌≤◌, List, length, refl, ap, sym, ◌∙◌, arith, Option, Some, None, Bool, true, false, nat_lt, ◌==◌, if◌then◌else◌, Result, Ok, Err}
 use Rattle.std.proofs.lemmas.Bool.Decides.{nat_tests}
 use Rattle.std.specs.List.{list_any}
-use Rattle.world_ports.specs.declared.Job.{Job}
 use Rattle.world_ports.specs.declared.Moment.{Moment}
 use Rattle.agent_model.specs.Events.{Happening, Joined, Heard, Ended, Took, Started, StartFailed, Tick}
 use Rattle.agent_model.specs.Runs as runs
@@ -16,7 +15,7 @@ use Rattle.schedule_text.specs.Lines.{step_of}
 use Rattle.replay_run.specs.Holding.{free_port, hold_port}
 use Rattle.replay_run.specs.Settling.{after_event, closed_at, comes, settled}
 use Rattle.replay_run.specs.Formats.{settings_by}
-use Rattle.replay_run.specs.Replay.{Brought, Brings, Refuses, Run, at_job, at_peer, at_port, brought_turned, happens, line_brings, longest_schedule, settles, skips, step_brings, turned, turned_by}
+use Rattle.replay_run.specs.Replay.{Brought, Brings, Refuses, Run, at_peer, brought_turned, happens, if_found, line_brings, longest_schedule, settles, skips, step_brings, turned, turned_by}
 use Rattle.replay_run.specs.Counts.{IsCounted, IsNext}
 use Rattle.replay_run.proofs.SettlingLemmas.{settled-last_port}
 
@@ -64,15 +63,10 @@ small-comes event run =
     small-settled run.moment run.held (after_event run.moment run.agent event) (suc run.agent.last_port)
     (omega (arith, step-last_port run.agent run.moment event, last_after-most event run.agent.last_port))
 
-small-port : (found : Option Port) (brought : Brought) (run : Run) → IsSmall brought run
-    → IsSmall (at_port found brought) run
-small-port None brought run is = tt
-small-port (Some port) brought run is = is
-
-small-job : (found : Option Job) (brought : Brought) (run : Run) → IsSmall brought run
-    → IsSmall (at_job found brought) run
-small-job None brought run is = tt
-small-job (Some job) brought run is = is
+small-found : {A : Type 0} (found : Option A) (fault : LineFault) (brought : Brought) (run : Run)
+    → IsSmall brought run → IsSmall (if_found found fault brought) run
+small-found None fault brought run is = tt
+small-found (Some one) fault brought run is = is
 
 small-if : (test : Bool) (one other : Brought) (run : Run) → IsSmall one run → IsSmall other run
     → IsSmall (if test then one else other) run
@@ -97,18 +91,18 @@ small-step (Hear port bytes) run =
 small-step (End port) run =
     small-peer (find_port port run.agent.ports) port (happens (Ended port) run) run (small-comes (Ended port) run)
 small-step (Hold port) run =
-    small-port (find_port port run.agent.ports) (settles (record run { held = hold_port port run.held })) run
+    small-found (find_port port run.agent.ports) UnknownPort (settles (record run { held = hold_port port run.held })) run
     (small-settled run.moment (hold_port port run.held) run.agent (suc run.agent.last_port) (omega arith))
 small-step (Free port) run =
-    small-port (find_port port run.agent.ports) (settles (record run { held = free_port port run.held })) run
+    small-found (find_port port run.agent.ports) UnknownPort (settles (record run { held = free_port port run.held })) run
     (small-settled run.moment (free_port port run.held) run.agent (suc run.agent.last_port) (omega arith))
 small-step (Take port count) run =
     small-peer (find_port port run.agent.ports) port (if nat_lt (length (owed_of port run.agent)) count then Refuses Order else happens (Took port count) run) run
     (small-if (nat_lt (length (owed_of port run.agent)) count) (Refuses Order) (happens (Took port count) run) run tt (small-comes (Took port count) run))
 small-step (StartedStep job ticket) run =
-    small-job (find_to_start job (starts run.agent)) (happens (Started job ticket) run) run (small-comes (Started job ticket) run)
+    small-found (find_to_start job (starts run.agent)) Order (happens (Started job ticket) run) run (small-comes (Started job ticket) run)
 small-step (Failed job) run =
-    small-job (find_to_start job (starts run.agent)) (happens (StartFailed job) run) run (small-comes (StartFailed job) run)
+    small-found (find_to_start job (starts run.agent)) Order (happens (StartFailed job) run) run (small-comes (StartFailed job) run)
 
 -- ---- a line
 

@@ -21,11 +21,6 @@ pub record HasRead (old new : Seen) (bytes : List ℕ) : Type 0 where
   pub taken : Appends old.input.taken new.input.taken bytes
   pub left : Consumes old.input.left new.input.left bytes
 
--- no read and no write failed
-pub record NoneFailed (old new : Seen) : Type 0 where
-  pub reads : new.input.read_faults ≡ old.input.read_faults
-  pub writes : new.output.write_faults ≡ old.output.write_faults
-
 -- it holds of what was read, and of the whole input, where that is told
 pub record HoldsOfInput (left : Option (List ℕ)) (bytes : List ℕ) (P : List ℕ → Type 0) : Type 0 where
   pub read : P bytes
@@ -42,23 +37,25 @@ pub record IsFront (text all : List ℕ) : Type 0 where
   pub more : List ℕ
   pub is : text ++ more ≡ all
 
--- the input was read to its end, no line of it is refused, and all that it prints is written
+-- the input was read to its end, no line of it is refused, all that it prints is written, and no read and no write failed
 pub record EndsDone (settings : Settings) (old new : Seen) : Type 0 where
   pub bytes : List ℕ
   pub read : HasRead old new bytes
   pub end : IsAtEnd new.input.left
   pub wrote : Appends old.output.written new.output.written (output_of settings bytes)
   pub accepted : (run_of settings bytes).refused ≡ None
-  pub faults : NoneFailed old new
+  pub reads : new.input.read_faults ≡ old.input.read_faults
+  pub writes : new.output.write_faults ≡ old.output.write_faults
 
--- the input's first refused line is this one, and all that it prints is written
+-- the input's first refused line is this one, all that it prints is written, and no read and no write failed
 pub record EndsRefused (settings : Settings) (line : ℕ) (fault : LineFault) (old new : Seen) : Type 0 where
   pub bytes : List ℕ
   pub read : HasRead old new bytes
   pub text : List ℕ
   pub wrote : Appends old.output.written new.output.written text
   pub refused : HoldsOfInput new.input.left bytes (IsRefused settings line fault text)
-  pub faults : NoneFailed old new
+  pub reads : new.input.read_faults ≡ old.input.read_faults
+  pub writes : new.output.write_faults ≡ old.output.write_faults
 
 -- what is written is a front of what the input prints
 pub record EndsEarly (settings : Settings) (old new : Seen) : Type 0 where

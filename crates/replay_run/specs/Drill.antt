@@ -1,14 +1,14 @@
 -- The drill: what comes of the requests that a seed draws, and the line that sums it up, `summary` (ours: docs/PROTOCOL.md,
 -- "The drill"). The file is read from its end. Requests are drawn by specs/Draws.antt; each line is an event of the
 -- abstract agent and a settling, as those of a schedule are (specs/Settling.antt), and a drill is the run of its events.
-use Rattle.std.specs.Prelude.{ℕ, zero, suc, ◌+◌, ◌==◌, Bool, true, false, if◌then◌else◌, is_some, not, List, [], ◌∷◌, ◌++◌, length, replicate, take, count_by, Option, None, Some, Result, Ok, Err, codes, decimal}
+use Rattle.std.specs.Prelude.{ℕ, zero, suc, ◌+◌, ◌==◌, Bool, false, if◌then◌else◌, is_some, not, List, [], ◌∷◌, ◌++◌, length, replicate, take, count_by, Option, None, Some, Result, Ok, codes, decimal}
 use Rattle.world_ports.specs.declared.Door.TheVariants.{Clients, Children}
 use Rattle.world_ports.specs.declared.Moment.{Moment}
 use Rattle.wire_text.specs.Bounds.{longest_to_child}
 use Rattle.wire_text.specs.Frames.{split}
 use Rattle.wire_text.specs.Wire.{string, uint64}
 use Rattle.child_msg.specs.ChildFrames.{from_child_body}
-use Rattle.child_msg.specs.Messages.{Hello, Signed, Sign, ToChildMessage, Verify, Confirm}
+use Rattle.child_msg.specs.Messages.{Hello, Signed, Sign, ToChildMessage}
 use Rattle.child_msg.specs.Reading.{to_child_of}
 use Rattle.child_msg.specs.declared.fault.ChildFault.{ChildFault}
 use Rattle.agent_core.specs.Owing.{is_client_at}
@@ -67,9 +67,7 @@ counts_of bodies = record {
 -- the ask of a message to the helper, if it is one to sign
 abbrev pub ask_of : Result ToChildMessage ChildFault → Option ℕ → Option ℕ
 ask_of (Ok (Sign signing)) before = Some signing.ask
-ask_of (Ok (Verify verification)) before = before
-ask_of (Ok (Confirm job prompt)) before = before
-ask_of (Err fault) before = before
+ask_of other before = before
 
 -- the last ask to sign among these messages, or the one before them
 abbrev pub last_ask : List (List ℕ) → Option ℕ → Option ℕ
@@ -98,26 +96,19 @@ replies drill = taken is_client_at (first_state no_settings) drill.events
 
 -- ---- a line
 
--- these events come too: what child processes take at them may be an ask
-abbrev pub with_events : List Timed → Drilled → Drilled
-with_events events drill = record drill {
-  events = drill.events ++ events;
-  ask = last_ask (taken is_child_at (agent_of drill) events) drill.ask;
-}
-
--- a line's event, and the settling after it
+-- a line's event comes, and the settling after it: what child processes take at them may be an ask
 unfoldable pub lined : Moment → Happening → Drilled → Drilled
-lined moment event drill = with_events (comes moment [] (agent_of drill) event) drill
-
--- the line `hear` with the frame of this body, where the port is open
-abbrev pub heard_by : Bool → Moment → ℕ → List ℕ → Drilled → Drilled
-heard_by true moment port body drill = lined moment (Heard port (string body)) drill
-heard_by false moment port body drill = drill
+lined moment event drill =
+    let events = comes moment [] (agent_of drill) event in
+    record drill {
+      events = drill.events ++ events;
+      ask = last_ask (taken is_child_at (agent_of drill) events) drill.ask;
+    }
 
 -- the line `hear` with the frame of this body at the port, which does nothing where that one is closed
 unfoldable pub heard : Moment → ℕ → List ℕ → Drilled → Drilled
 heard moment port body drill =
-    heard_by (is_some (find_port port (agent_of drill).ports)) moment port body drill
+    if is_some (find_port port (agent_of drill).ports) then lined moment (Heard port (string body)) drill else drill
 
 -- ---- a round
 
@@ -129,16 +120,13 @@ helper_port = 9
 abbrev pub ticket : List ℕ
 ticket = replicate 16 0
 
--- where job 1 waits, the helper is started, joins, and says hello
-abbrev pub helped_by : Bool → Moment → Drilled → Drilled
-helped_by true moment drill =
-    heard moment helper_port (from_child_body (Hello 1 ticket))
-    (lined moment (Joined Children) (lined moment (Started 1 ticket) drill))
-helped_by false moment drill = drill
-
--- the lines that start the helper and let it say hello, where job 1 waits to be started
+-- the lines that start the helper, let it join and say hello, where job 1 waits to be started
 unfoldable pub helped : Moment → Drilled → Drilled
-helped moment drill = helped_by (is_some (find_to_start 1 (starts (agent_of drill)))) moment drill
+helped moment drill =
+    if is_some (find_to_start 1 (starts (agent_of drill)))
+    then heard moment helper_port (from_child_body (Hello 1 ticket))
+    (lined moment (Joined Children) (lined moment (Started 1 ticket) drill))
+    else drill
 
 -- where the helper was asked, it signs with the bytes of the round
 abbrev pub signed_by : Option ℕ → Moment → ℕ → Drilled → Drilled
@@ -150,30 +138,24 @@ signed_by (Some ask) moment round drill =
 unfoldable pub signed : Moment → ℕ → Drilled → Drilled
 signed moment round drill = signed_by drill.ask moment round drill
 
--- the request of these draws, and all that comes of it
-abbrev pub asked : Moment → ℕ → Asking → ℕ → Drilled → Drilled
-asked moment round asking client drill =
-    signed moment round (helped moment (heard moment client asking.body (record drill { number = asking.number })))
-
 -- the request of three draws: a client, a key and a kind
 abbrev pub drawn_asking : ℕ → Draws → Asking
 drawn_asking round draws = asking_of draws.three draws.two round draws.number
-
--- the round of these draws, behind the moment's line
-abbrev pub round_by : Moment → ℕ → Draws → Drilled → Drilled
-round_by moment round draws drill = asked moment round (drawn_asking round draws) (1 + draws.one) drill
 
 -- the moment of a round: its second, by the clock that never falls
 abbrev pub moment_of : ℕ → Moment
 moment_of round = record { mono = round; wall = 0 }
 
--- behind the moment's line, by three draws below 8, 64 and 8
-abbrev pub round_at : Moment → ℕ → Drilled → Drilled
-round_at moment round drill = round_by moment round (draws_of 8 64 8 drill.number) drill
-
--- the round of this number: the line of its moment, and then its request and all that comes of it
+-- the round of this number: the line of its moment, and then the request of three draws below 8, 64 and 8, and all that
+-- comes of it
 unfoldable pub round_of : ℕ → Drilled → Drilled
-round_of round drill = round_at (moment_of round) round (lined (moment_of round) Tick drill)
+round_of round drill =
+    let moment = moment_of round in
+    let timed = lined moment Tick drill in
+    let draws = draws_of 8 64 8 timed.number in
+    let asking = drawn_asking round draws in
+    signed moment round (helped moment
+    (heard moment (1 + draws.one) asking.body (record timed { number = asking.number })))
 
 -- so many clients join
 abbrev pub joined : ℕ → Drilled → Drilled

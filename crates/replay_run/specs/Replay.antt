@@ -5,7 +5,6 @@
 -- each is in specs/Told.antt.
 use Rattle.std.specs.Prelude.{ℕ, suc, ◌+◌, ◌^◌, ◌==◌, ◌||◌, nat_lt, Bool, true, false, if◌then◌else◌, List, [], ◌∷◌, ◌++◌, length, Option, None, Some, Result, Ok, Err}
 use Rattle.std.specs.List.{flat_map, list_any, slice_split}
-use Rattle.world_ports.specs.declared.Job.{Job}
 use Rattle.world_ports.specs.declared.Moment.{Moment}
 use Rattle.agent_model.specs.Events.{Happening, Timed, Joined, Heard, Ended, Took, StartFailed, Started as JobStarted, Tick}
 use Rattle.agent_model.specs.Runs as runs
@@ -65,10 +64,10 @@ settles run = Brings (record run { closed = [] }) (takings run.moment run.held r
 abbrev pub happens : Happening → Run → Brought
 happens event run = Brings (record run { closed = [] }) (comes run.moment run.held run.agent event)
 
--- what the line of a port brings, where that one is open
-abbrev pub at_port : Option Port → Brought → Brought
-at_port None brought = Refuses UnknownPort
-at_port (Some port) brought = brought
+-- what a line brings whose port is open, or whose job waits to be started; or why it is refused
+abbrev pub if_found : {A : Type 0} → Option A → LineFault → Brought → Brought
+if_found None fault brought = Refuses fault
+if_found (Some found) fault brought = brought
 
 -- a port that isn't open hears, ends and takes nothing: the line is refused, unless the moment of the line before
 -- closed the port
@@ -76,11 +75,6 @@ abbrev pub at_peer : Option Port → ℕ → Brought → Run → Brought
 at_peer None number brought run =
     if list_any (λ other. other == number) run.closed then skips run else Refuses UnknownPort
 at_peer (Some port) number brought run = brought
-
--- what the line of a job brings, where that one waits to be started
-abbrev pub at_job : Option Job → Brought → Brought
-at_job None brought = Refuses Order
-at_job (Some job) brought = brought
 
 -- by what the line asks for: `schedule 2` may stand in line 1 alone, where nothing was run yet; which ports a moment
 -- closes is known to the next line; and a port takes no more than it is owed
@@ -96,15 +90,15 @@ step_brings (Hear port bytes) run =
     at_peer (find_port port run.agent.ports) port (happens (Heard port bytes) run) run
 step_brings (End port) run = at_peer (find_port port run.agent.ports) port (happens (Ended port) run) run
 step_brings (Hold port) run =
-    at_port (find_port port run.agent.ports) (settles (record run { held = hold_port port run.held }))
+    if_found (find_port port run.agent.ports) UnknownPort (settles (record run { held = hold_port port run.held }))
 step_brings (Free port) run =
-    at_port (find_port port run.agent.ports) (settles (record run { held = free_port port run.held }))
+    if_found (find_port port run.agent.ports) UnknownPort (settles (record run { held = free_port port run.held }))
 step_brings (Take port count) run =
     at_peer (find_port port run.agent.ports) port
     (if nat_lt (length (owed_of port run.agent)) count then Refuses Order else happens (Took port count) run) run
 step_brings (Started job ticket) run =
-    at_job (find_to_start job (starts run.agent)) (happens (JobStarted job ticket) run)
-step_brings (Failed job) run = at_job (find_to_start job (starts run.agent)) (happens (StartFailed job) run)
+    if_found (find_to_start job (starts run.agent)) Order (happens (JobStarted job ticket) run)
+step_brings (Failed job) run = if_found (find_to_start job (starts run.agent)) Order (happens (StartFailed job) run)
 
 -- ---- a line
 
@@ -177,23 +171,17 @@ last_turned (byte ∷ bytes) run = turned (byte ∷ bytes) (length (byte ∷ byt
 abbrev pub is_too_long : ℕ → List ℕ → Bool
 is_too_long end bytes = nat_lt longest_line (length bytes) || nat_lt longest_schedule end
 
--- the front of a line brings nothing but its refusal
-abbrev pub begun_turned : List ℕ → Run → Turned
-begun_turned bytes run =
-    if is_too_long (run.read + length bytes) bytes
-    then turned bytes (length bytes) run
-    else unturned run
-
--- the last part of a text, where the schedule ends there, or where it goes on
+-- the last part of a text, where the schedule ends there; where it goes on, the front of a line brings nothing but its
+-- refusal
 abbrev pub part_turned : Bool → List ℕ → Run → Turned
 part_turned true bytes run = last_turned bytes run
-part_turned false bytes run = begun_turned bytes run
+part_turned false bytes run =
+    if is_too_long (run.read + length bytes) bytes then turned bytes (length bytes) run else unturned run
 
 -- `end` stands at the end of a schedule that wasn't refused
 abbrev pub ending : Bool → Option LineFault → List ℕ
 ending true None = end_line
-ending true (Some fault) = []
-ending false refused = []
+ending ended refused = []
 
 -- the parts of a text: its lines, and what stands after the last LF
 abbrev pub parts_of : List ℕ → List (List ℕ)

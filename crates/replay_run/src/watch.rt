@@ -1,10 +1,12 @@
 //! Who watches the run of a schedule: what is told of it, and the text that it prints.
 
 ghost use Rattle.std.specs.Prelude.{◌≡◌, ◌≢◌, ◌++◌, ℕ, List, OnOk, is_some};
+ghost use Rattle.std.specs.List.{flat_map};
 ghost use Rattle.agent_core.specs.Happenings.{happening};
-ghost use Rattle.agent_model.specs.State.{Fits, find_to_start};
+ghost use Rattle.agent_model.specs.State.{Fits, find_to_start, starts};
 ghost use Rattle.replay_run.specs.Settling.{after_event, at_moment, closed_at};
-ghost use Rattle.replay_run.specs.Told.{Barred, Came, Told, close_lines, event_lines, start_lines, taken_lines, text_of};
+ghost use Rattle.schedule_text.specs.Deeds.{close_line};
+ghost use Rattle.replay_run.specs.Told.{Barred, Came, Told, start_lines, taken_lines, text_of};
 
 use agent_core::{Agent, Event};
 use schedule_text::{Deed, LineFault, put_deed};
@@ -66,7 +68,7 @@ fn put_starts(before: &[Job], jobs: &[Job], out: &mut Vec<u8>) -> Result<(), All
 
 // Prints a line for each port that the last event closed.
 fn put_closes(closes: &[u64], out: &mut Vec<u8>) -> Result<(), AllocError>
-    ensures { OnOk result (out.new.items ≡ out.old.items ++ close_lines closes.now) }
+    ensures { OnOk result (out.new.items ≡ out.old.items ++ flat_map close_line closes.now) }
 {
     'closes: for port in closes {
         put_deed(out, &Deed::Close(*port))?;
@@ -101,7 +103,8 @@ fn print_step(
     ensures closes { OnOk result
         (agent.new.closes ≡ closed_at moment agent.old.state (happening event.now)) }
     ensures out { OnOk result (out.new.items ≡ out.old.items
-        ++ event_lines moment agent.old.state (happening event.now)) }
+        ++ (start_lines (starts agent.old.state) (starts (after_event moment agent.old.state (happening event.now)))
+        ++ flat_map close_line (closed_at moment agent.old.state (happening event.now)))) }
 {
     let before = Vec::from_slice(alloc, agent.starts())?;
     agent.step(moment, event)?;

@@ -5,7 +5,8 @@ ghost use Rattle.std.specs.List.{flat_map};
 ghost use Rattle.agent_core.specs.Happenings.{happening};
 ghost use Rattle.agent_model.specs.State.{Fits, find_port, find_to_start, starts};
 ghost use Rattle.replay_run.specs.Counts.{IsCounted};
-ghost use Rattle.replay_run.specs.Replay.{at_job, at_peer, brought_turned, happens, longest_schedule, skips, step_brings};
+ghost use Rattle.schedule_text.specs.declared.fault.LineFault.TheVariants.{Order};
+ghost use Rattle.replay_run.specs.Replay.{at_peer, brought_turned, happens, if_found, longest_schedule, skips, step_brings};
 ghost use Rattle.schedule_text.specs.declared.step.Step.TheVariants.{At, Format2, Free, Hold, Take};
 
 use crate::replay::Replay;
@@ -198,11 +199,11 @@ impl Replay {
         requires fits { IsSome (find_to_start job (starts self.old.agent)) →
             Fits (happening event.now) self.old.agent }
         ensures run { OnOk result (self.new
-            ≡ (brought_turned (at_job (find_to_start job (starts self.old.agent))
+            ≡ (brought_turned (if_found (find_to_start job (starts self.old.agent)) Order
             (happens (happening event.now) self.old)) size self.old).run) }
         ensures notes { OnOk result (W.notes watch.new ≡ W.notes watch.old
             ++ flat_map W.notes_of
-            (brought_turned (at_job (find_to_start job (starts self.old.agent))
+            (brought_turned (if_found (find_to_start job (starts self.old.agent)) Order
             (happens (happening event.now) self.old)) size self.old).told) }
     {
         if !is_among(self.agent.starts(), job) {
