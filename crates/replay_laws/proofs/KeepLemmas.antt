@@ -1,5 +1,6 @@
 -- What a recorder tells of a piece is what is told of the client's bytes with it, behind what was told of them before.
-use Rattle.std.proofs.Common.{◌≡◌, ℕ, ◌≤◌, List, [], ◌∷◌, ◌++◌, length, take, map, refl, sym, ap, subst, ◌∙◌, append_assoc, append-nil, Bool, true, false, Option, Some, None, Result, Ok, Err}
+use Rattle.std.proofs.Common.{◌≡◌, ℕ, ◌≤◌, List, [], ◌∷◌, ◌++◌, length, take, map, refl, sym, ap, subst, ◌∙◌, append_assoc, append-nil, Bool, true, false, if◌then◌else◌, Option, Some, None, Result, Ok, Err}
+use Rattle.std.specs.Prelude.{is_some}
 use Rattle.std.specs.List.{position}
 use Rattle.std.specs.Str.{bytes_eq}
 use Rattle.std.proofs.lemmas.List.{take-append-le}
@@ -13,9 +14,9 @@ use Rattle.wire_text.proofs.SplitLemmas.{split-append, split-append_bad}
 use Rattle.agent_msg.specs.Reading.{request_of}
 use Rattle.agent_msg.specs.Requests.{ClientRequest, ListIdentities, Sign, Add, Remove, RemoveAll, Lock, Unlock, Bind, OtherExtension, Unsupported}
 use Rattle.agent_msg.specs.declared.fault.MsgFault.{MsgFault}
-use Rattle.redact_core.specs.Redaction.{Redacted, noted_by, numbered, redacted, redacted_all, redacted_as}
+use Rattle.redact_core.specs.Redaction.{Redacted, numbered, redacted, redacted_all, redacted_as}
 use Rattle.record_world.specs.Frames.{ends_badly, rest_bytes}
-use Rattle.record_world.specs.Recording.{Port, client_taken, rest_taken, split_taken, taken, taken_by}
+use Rattle.record_world.specs.Recording.{Port, Taken, client_taken, rest_taken, taken, taken_by}
 use Rattle.replay_laws.specs.Naming.{IsFrontOf, Keeps, kept_of, name_in}
 use Rattle.replay_laws.specs.Redacting.{renamed, renamed_as}
 use Rattle.replay_laws.specs.Telling.{told_bytes, told_split}
@@ -34,7 +35,7 @@ front_then a b c first second = record {
 }
 
 noted_grows : (place : Option ℕ) (passphrase : List ℕ) (early : List (List ℕ))
-    → IsFrontOf early (noted_by place passphrase early)
+    → IsFrontOf early (if is_some place then early else early ++ passphrase ∷ [])
 noted_grows (Some place) passphrase early = front_same early
 noted_grows None passphrase early = record { later = passphrase ∷ []; whole = refl }
 
@@ -192,6 +193,11 @@ module _ (all : List (List ℕ)) where
   passphrases_by (Whole body_len) port got rest = refl
   passphrases_by (Bad announced) port got rest = refl
   passphrases_by More port got rest = refl
+
+  -- what leaves a client's port where its bytes have this split into frames and a rest
+  abbrev split_taken : Split → Port → List (List ℕ) → Taken
+  split_taken cut port early =
+      rest_taken (front longest_body cut.rest) port (redacted_all cut.bodies early) cut.rest
 
   pub passphrases_of : (cut : Split) (port : Port) (early : List (List ℕ))
       → (split_taken cut port early).passphrases ≡ (redacted_all cut.bodies early).passphrases

@@ -1,5 +1,6 @@
 -- Names of passphrases are theirs alone, and those that a recorder gives.
-use Rattle.std.proofs.Common.{◌≡◌, ℕ, suc, ◌+◌, ◌<◌, ◌≤◌, ◌^◌, List, [], ◌∷◌, ◌++◌, length, drop, replicate, refl, sym, ap, ◌∙◌, arith, append_assoc, Bool, true, cond, Option, Some, None, get_or}
+use Rattle.std.proofs.Common.{◌≡◌, ℕ, suc, ◌+◌, ◌<◌, ◌≤◌, ◌^◌, List, [], ◌∷◌, ◌++◌, length, drop, replicate, refl, sym, ap, ◌∙◌, arith, append_assoc, Bool, true, cond, if◌then◌else◌, Option, Some, None, get_or}
+use Rattle.std.specs.Prelude.{is_some, unwrap_or}
 use Rattle.std.specs.Fmt.{decimal}
 use Rattle.std.specs.List.{position, position_from}
 use Rattle.std.specs.Str.{bytes_eq}
@@ -9,7 +10,7 @@ use Rattle.std.proofs.lemmas.Iterator.Adapters.{position_from-zero}
 use Rattle.std.proofs.lemmas.List.{drop_at, length-append, length-replicate}
 use Rattle.std.proofs.lemmas.List.Quantifiers.{position-Some}
 use Rattle.std.proofs.lemmas.Slice.Eq.{bytes_eq-Decides}
-use Rattle.redact_core.specs.Redaction.{noted, noted_by, number_by, number_of}
+use Rattle.redact_core.specs.Redaction.{noted, number_of}
 use Rattle.replay_laws.specs.Naming.{IsFrontOf, name_by, name_in}
 use Rattle.replay_laws.specs.Redacting.{IsRenaming}
 
@@ -114,8 +115,8 @@ module _ (all : List (List ℕ)) (few : length all < 2 ^ 64) where
 
 -- the place of a passphrase that is noted is that which its number tells
 noted_place : (passphrase : List ℕ) (early all : List (List ℕ)) (place : Option ℕ)
-    → position (bytes_eq passphrase) early ≡ place → IsFrontOf (noted_by place passphrase early) all
-    → (at : ℕ) × (position (bytes_eq passphrase) all ≡ Some at) × (number_by place early ≡ suc at)
+    → position (bytes_eq passphrase) early ≡ place → IsFrontOf (if is_some place then early else early ++ passphrase ∷ []) all
+    → (at : ℕ) × (position (bytes_eq passphrase) all ≡ Some at) × (suc (unwrap_or place (length early)) ≡ suc at)
 noted_place passphrase early all (Some place) is front =
     (place, ap (position (bytes_eq passphrase)) front.whole ∙ position-front (bytes_eq passphrase) place early front.later is, refl)
 noted_place passphrase early all None is front = (

@@ -1,6 +1,6 @@
 -- Journals that differ in secrets alone have one record.
 use Rattle.std.proofs.Common.{◌≡◌, ◌∙◌, ℕ, suc, ◌+◌, Bool, true, false, cond, List, [], ◌∷◌, ◌++◌, length, take, map, replicate, Option, Some, None, Result, Ok, Err, refl, sym, ap, subst, ◌==◌, if◌then◌else◌, inl, inr}
-use Rattle.std.specs.Prelude.{◌⊎◌, ◌≢◌, option_map}
+use Rattle.std.specs.Prelude.{◌⊎◌, ◌≢◌, codes, is_some, option_map, unwrap_or}
 use Rattle.std.specs.Fmt.{decimal}
 use Rattle.std.specs.List.{position, position_from}
 use Rattle.std.specs.Str.{bytes_eq}
@@ -10,7 +10,7 @@ use Rattle.std.proofs.lemmas.Slice.Eq.{bytes_eq-Decides}
 use Rattle.lists.specs.Keyed.{change_by, remove_by}
 use Rattle.world_ports.specs.declared.Door.{Door}
 use Rattle.world_ports.specs.declared.Door.TheVariants.{Clients, Children}
-use Rattle.world_ports.specs.declared.Moment.{Moment}
+use Rattle.world_ports.specs.declared.Job.{Job}
 use Rattle.world_ports.specs.declared.answers.Accepted.{Accepted}
 use Rattle.world_ports.specs.declared.answers.Accepted.TheVariants as accepted
 use Rattle.world_ports.specs.declared.answers.Got.{Got}
@@ -22,6 +22,8 @@ use Rattle.world_ports.specs.declared.answers.Wrote.TheVariants as wrote
 use Rattle.world_ports.specs.declared.entry.Entry.{Entry}
 use Rattle.world_ports.specs.declared.entry.Entry.TheVariants as entry
 use Rattle.schedule_text.specs.declared.step.Step.{Step}
+use Rattle.schedule_text.specs.declared.step.Step.TheVariants as steps
+use Rattle.schedule_text.specs.Steps.{step_line}
 use Rattle.wire_text.specs.Bounds.{longest_body}
 use Rattle.wire_text.specs.Frames.{Bad, Front, More, Whole, front, split}
 use Rattle.wire_text.specs.Wire.{string}
@@ -39,10 +41,10 @@ use Rattle.agent_msg.specs.declared.fault.MsgFault.{MsgFault}
 use Rattle.agent_msg.specs.Reading.{constrained, ended, field_then, request_of, request_of_number}
 use Rattle.agent_msg.specs.Requests.{ClientRequest, ListIdentities, Sign, Add, Remove, RemoveAll, Lock, Unlock, Bind, OtherExtension, Unsupported, IsText}
 use Rattle.agent_msg.proofs.ReadLemmas.{request_is_read}
-use Rattle.redact_core.specs.Redaction.{Redacted, noted_by, number_by, numbered, redacted, redacted_all, redacted_as, without_secrets}
+use Rattle.redact_core.specs.Redaction.{Redacted, numbered, redacted, redacted_all, redacted_as, without_secrets}
 use Rattle.redact_core.proofs.BlankLemmas.{blanked_text, zeros}
 use Rattle.record_world.specs.Frames.{rest_bytes}
-use Rattle.record_world.specs.Recording.{Left, Port, Recording, Taken, after, client_taken, find_port, first_recording, heard, held, left, lines, new_port, number_of, only, now_text, bind_text, at_accept, at_read, at_start, at_write, hold_steps, record_from, record_of, rest_taken, taken, taken_by, text_of, told, with_due}
+use Rattle.record_world.specs.Recording.{Left, Port, Recording, Taken, after, client_taken, find_port, first_recording, heard, held, left, lines, new_port, number_of, only, hold_steps, record_from, record_of, rest_taken, taken, taken_by, text_of, told, with_due}
 use Rattle.agent_secrecy.specs.Alike.{AreAlikeAdditions}
 use Rattle.agent_secrecy.specs.Secrets.{AreAlikeKeys, AreOfEqualLengths}
 use Rattle.agent_secrecy.proofs.KeyLemmas.{other_is}
@@ -284,12 +286,13 @@ module _ (rename : List ℕ → List ℕ) (renaming : IsRenaming rename) where
   map_behind (first ∷ all) last = ap (λ (rest : List (List ℕ)). rename first ∷ rest) (map_behind all last)
 
   number_same : (place : Option ℕ) (all : List (List ℕ))
-      → number_by place (map rename all) ≡ number_by place all
+      → suc (unwrap_or place (length (map rename all))) ≡ suc (unwrap_or place (length all))
   number_same (Some at) all = refl
   number_same None all = ap suc (map_length all)
 
   noted_same : (place : Option ℕ) (passphrase : List ℕ) (all : List (List ℕ))
-      → noted_by place (rename passphrase) (map rename all) ≡ map rename (noted_by place passphrase all)
+      → (if is_some place then map rename all else map rename all ++ rename passphrase ∷ [])
+      ≡ map rename (if is_some place then all else all ++ passphrase ∷ [])
   noted_same (Some at) passphrase all = refl
   noted_same None passphrase all = sym (map_behind all passphrase)
 
@@ -302,9 +305,9 @@ module _ (rename : List ℕ → List ℕ) (renaming : IsRenaming rename) where
       ap (λ (p : List ℕ). position (bytes_eq p) (map rename early)) (sym is) ∙ place_same (byte ∷ bytes) early in
       record {
         body = ap (λ (n : ℕ). number ∷ string (decimal n))
-            (sym (ap (λ (found : Option ℕ). number_by found (map rename early)) place ∙ number_same (position (bytes_eq (byte ∷ bytes)) early) early));
-        passphrases = ap (λ (found : Option ℕ). noted_by found (other ∷ others) (map rename early)) place
-            ∙ ap (λ (p : List ℕ). noted_by (position (bytes_eq (byte ∷ bytes)) early) p (map rename early)) (sym is)
+            (sym (ap (λ (found : Option ℕ). suc (unwrap_or found (length (map rename early)))) place ∙ number_same (position (bytes_eq (byte ∷ bytes)) early) early));
+        passphrases = ap (λ (found : Option ℕ). if is_some found then map rename early else map rename early ++ (other ∷ others) ∷ []) place
+            ∙ ap (λ (p : List ℕ). if is_some (position (bytes_eq (byte ∷ bytes)) early) then map rename early else map rename early ++ p ∷ []) (sym is)
             ∙ noted_same (position (bytes_eq (byte ∷ bytes)) early) (byte ∷ bytes) early;
       }
 
@@ -564,7 +567,7 @@ module _ (rename : List ℕ → List ℕ) (renaming : IsRenaming rename) where
 
   accept_alike : (door : Door) (answer : Result Accepted WorldFault) (one other : Recording)
       → AreKeptAlike one other
-      → AreLeftAlike (at_accept door answer one) (at_accept door answer other)
+      → AreLeftAlike (left (entry.Accept door answer) one) (left (entry.Accept door answer) other)
   accept_alike door (Ok (accepted.Port number)) one other alike = record {
     kept = record {
       bound = alike.bound;
@@ -579,29 +582,29 @@ module _ (rename : List ℕ → List ℕ) (renaming : IsRenaming rename) where
   accept_alike door (Ok accepted.NotNow) one other alike = only_alike [] one other alike
   accept_alike door (Err fault) one other alike = only_alike [] one other alike
 
-  write_alike : (port : ℕ) (answer : Result Wrote WorldFault) (one other : Recording)
+  write_alike : (port : ℕ) (offered : List ℕ) (answer : Result Wrote WorldFault) (one other : Recording)
       → AreKeptAlike one other
-      → AreLeftAlike (at_write port answer one) (at_write port answer other)
-  write_alike port (Ok (wrote.Took count)) one other alike = record { kept = alike; steps = refl }
-  write_alike port (Ok wrote.NotNow) one other alike = record { kept = alike; steps = refl }
-  write_alike port (Err Failed) one other alike = record { kept = alike; steps = refl }
-  write_alike port (Err Memory) one other alike = record { kept = alike; steps = refl }
+      → AreLeftAlike (left (entry.Write port offered answer) one) (left (entry.Write port offered answer) other)
+  write_alike port offered (Ok (wrote.Took count)) one other alike = record { kept = alike; steps = refl }
+  write_alike port offered (Ok wrote.NotNow) one other alike = record { kept = alike; steps = refl }
+  write_alike port offered (Err Failed) one other alike = record { kept = alike; steps = refl }
+  write_alike port offered (Err Memory) one other alike = record { kept = alike; steps = refl }
 
-  start_alike : (job : ℕ) (answer : Result (List ℕ) WorldFault) (one other : Recording)
+  start_alike : (job : Job) (answer : Result (List ℕ) WorldFault) (one other : Recording)
       → AreKeptAlike one other
-      → AreLeftAlike (at_start job answer one) (at_start job answer other)
+      → AreLeftAlike (left (entry.Start job answer) one) (left (entry.Start job answer) other)
   start_alike job (Ok ticket) one other alike = record { kept = alike; steps = refl }
   start_alike job (Err Failed) one other alike = record { kept = alike; steps = refl }
   start_alike job (Err Memory) one other alike = record { kept = alike; steps = refl }
 
-  read_alike : (port : ℕ) (bytes : List ℕ) (answer : Result Got WorldFault) (one other : Recording)
+  read_alike : (port room : ℕ) (bytes : List ℕ) (answer : Result Got WorldFault) (one other : Recording)
       → read_by port bytes answer ≡ None → AreKeptAlike one other
-      → AreLeftAlike (at_read port bytes answer one) (at_read port bytes answer other)
-  read_alike port bytes (Ok (got.Bytes count)) one other none alike = absurd (cc)
-  read_alike port bytes (Ok got.End) one other none alike = record { kept = alike; steps = refl }
-  read_alike port bytes (Ok got.NotNow) one other none alike = record { kept = alike; steps = refl }
-  read_alike port bytes (Err Failed) one other none alike = record { kept = alike; steps = refl }
-  read_alike port bytes (Err Memory) one other none alike = record { kept = alike; steps = refl }
+      → AreLeftAlike (left (entry.Read port room bytes answer) one) (left (entry.Read port room bytes answer) other)
+  read_alike port room bytes (Ok (got.Bytes count)) one other none alike = absurd (cc)
+  read_alike port room bytes (Ok got.End) one other none alike = record { kept = alike; steps = refl }
+  read_alike port room bytes (Ok got.NotNow) one other none alike = record { kept = alike; steps = refl }
+  read_alike port room bytes (Err Failed) one other none alike = record { kept = alike; steps = refl }
+  read_alike port room bytes (Err Memory) one other none alike = record { kept = alike; steps = refl }
 
   -- the same call, which read no bytes
   same_alike : (next : Entry) (one other : Recording) → piece_of next ≡ None
@@ -613,8 +616,8 @@ module _ (rename : List ℕ → List ℕ) (renaming : IsRenaming rename) where
   }
   same_alike (entry.Poll wait items answer) one other none alike = only_alike [] one other alike
   same_alike (entry.Accept door answer) one other none alike = accept_alike door answer one other alike
-  same_alike (entry.Read port room bytes answer) one other none alike = read_alike port bytes answer one other none alike
-  same_alike (entry.Write port offered answer) one other none alike = write_alike port answer one other alike
+  same_alike (entry.Read port room bytes answer) one other none alike = read_alike port room bytes answer one other none alike
+  same_alike (entry.Write port offered answer) one other none alike = write_alike port offered answer one other alike
   same_alike (entry.Close port answer) one other none alike = record {
     kept = record {
       bound = alike.bound;
@@ -624,24 +627,23 @@ module _ (rename : List ℕ → List ℕ) (renaming : IsRenaming rename) where
     };
     steps = refl;
   }
-  same_alike (entry.Start job answer) one other none alike = start_alike job.number answer one other alike
+  same_alike (entry.Start job answer) one other none alike = start_alike job answer one other alike
   same_alike (entry.Now answer) one other none alike = only_alike [] one other alike
 
   -- what a call wrote depends on what is kept alike
-  now_alike : {E : Type 0} (answer : Result Moment E) (due other_due : List ℕ) → due ≡ other_due
-      → now_text answer due ≡ now_text answer other_due
-  now_alike answer due other_due same = ap (now_text answer) same
-
   text_alike : (next : Entry) (one other : Recording) → AreKeptAlike one other
       → text_of next one ≡ text_of next other
-  text_alike (entry.Bind door path answer) one other alike = ap bind_text alike.bound
+  text_alike (entry.Bind door path answer) one other alike =
+      ap (λ (bound : Bool). if bound then [] else codes "schedule 2\n") alike.bound
   text_alike (entry.Poll wait items answer) one other alike = refl
   text_alike (entry.Accept door answer) one other alike = refl
   text_alike (entry.Read port room bytes answer) one other alike = refl
   text_alike (entry.Write port offered answer) one other alike = refl
   text_alike (entry.Close port answer) one other alike = refl
   text_alike (entry.Start job answer) one other alike = refl
-  text_alike (entry.Now answer) one other alike = now_alike answer one.due other.due alike.due
+  text_alike (entry.Now (Ok moment)) one other alike =
+      ap (λ (due : List ℕ). step_line (steps.At moment) ++ due) alike.due
+  text_alike (entry.Now (Err want)) one other alike = refl
 
   -- both calls leave what is alike, and wrote the same
   record AreStepsAlike (next other_next : Entry) (one other : Recording) : Type 0 where
