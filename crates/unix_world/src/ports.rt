@@ -67,13 +67,23 @@ impl<P: OpenProcess + Drop> Ports<P> {
         Ok(())
     }
 
-    /// The key of the connection with this number.
+    /// The connection with this number, behind its key.
     #[inline(always)]
-    pub fn key_of(&self, number: u64) -> Option<usize> {
+    pub fn find(&mut self, number: u64) -> Option<(usize, &mut Connection<P>)> {
         let near = self.near[place_of(number)];
-        match self.open.get(near) {
-            Some(connection) if connection.number == Some(number) => Some(near),
-            _ => self.keys.get(&number).copied(),
+        if self.is_at(near, number) {
+            return Some((near, self.open.get_mut(near)?));
+        }
+        let key = *self.keys.get(&number)?;
+        Some((key, self.open.get_mut(key)?))
+    }
+
+    // Whether the connection under this key has this number.
+    #[inline(always)]
+    fn is_at(&self, key: usize, number: u64) -> bool {
+        match self.open.get(key) {
+            Some(connection) => connection.number == Some(number),
+            None => false,
         }
     }
 

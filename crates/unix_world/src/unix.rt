@@ -183,35 +183,10 @@ impl<R: Files<File = File> + Net + Processes + RandomSource + Clock + Eprint> Un
         WorldFault::Failed
     }
 
-    // Reads both clocks, unless the kernel's tick is that of the last reading. The monotonic one counts as never falling.
-    fn read_clocks(&mut self)
-        ensures faults { self.new.faults ≡ self.old.faults }
-        ensures ports { self.new.last_port ≡ self.old.last_port }
-        ensures moment { self.old.moment.mono ≤ self.new.moment.mono }
-    {
-        let tick = last_tick();
-        if self.dated_in != self.round {
-            self.dated_in = self.round;
-            self.began_at = tick;
-        }
-        self.looks = 0;
-        if tick.is_some() && tick == self.dated_at {
-            return;
-        }
-        self.dated_at = tick;
-        if let Some(mono) = seconds(self.rt) {
-            self.moment.mono = self.moment.mono.max(mono);
-        }
-        if let Ok(wall) = self.rt.since_1970() {
-            self.moment.wall = wall.as_secs();
-        }
-    }
-
-    // Whether the clocks are to be read for this look: it is the first of a round, or the last reading is old. At the
-    // second look, and then at every other, the time since isn't asked for. Where it is, it tells whether the round is
-    // long.
+    // Whether this look is to ask for the kernel's tick: the first of a round does. Of those since the clocks were read
+    // the first two don't, and then every other one doesn't.
     #[inline(always)]
-    fn is_undated(&mut self) -> bool
+    fn asks_tick(&mut self) -> bool
         ensures faults { self.new.faults ≡ self.old.faults }
         ensures ports { self.new.last_port ≡ self.old.last_port }
         ensures moment { self.new.moment ≡ self.old.moment }
@@ -220,17 +195,48 @@ impl<R: Files<File = File> + Net + Processes + RandomSource + Clock + Eprint> Un
             return true;
         }
         self.looks = self.looks.saturating_add(1);
-        if self.looks >= MOST_LOOKS {
-            return true;
+        self.looks >= MOST_LOOKS || (self.looks > 2 && self.looks % 2 != 0)
+    }
+
+    // Asks for the kernel's tick, which tells whether the round is long. The clocks are read where this is the first
+    // look of the round or the last reading is old, unless the tick is still that of the last reading.
+    #[inline(never)]
+    fn ask_tick(&mut self)
+        ensures faults { self.new.faults ≡ self.old.faults }
+        ensures ports { self.new.last_port ≡ self.old.last_port }
+        ensures moment { self.old.moment.mono ≤ self.new.moment.mono }
+    {
+        let tick = last_tick();
+        if self.dated_in != self.round {
+            self.dated_in = self.round;
+            self.began_at = tick;
+        } else {
+            if is_over(self.began_at, tick, LONG_MILLIS) {
+                self.long_in = self.round;
+            }
+            if self.looks < MOST_LOOKS && !is_over(self.dated_at, tick, MOST_MILLIS) {
+                return;
+            }
         }
-        if self.looks < 3 || self.looks % 2 == 0 {
-            return false;
+        self.looks = 0;
+        if tick.is_none() || tick != self.dated_at {
+            self.dated_at = tick;
+            self.read_clocks();
         }
-        let now = last_tick();
-        if is_over(self.began_at, now, LONG_MILLIS) {
-            self.long_in = self.round;
+    }
+
+    // Reads both clocks. The monotonic one counts as never falling.
+    fn read_clocks(&mut self)
+        ensures faults { self.new.faults ≡ self.old.faults }
+        ensures ports { self.new.last_port ≡ self.old.last_port }
+        ensures moment { self.old.moment.mono ≤ self.new.moment.mono }
+    {
+        if let Some(mono) = seconds(self.rt) {
+            self.moment.mono = self.moment.mono.max(mono);
         }
-        is_over(self.dated_at, now, MOST_MILLIS)
+        if let Ok(wall) = self.rt.since_1970() {
+            self.moment.wall = wall.as_secs();
+        }
     }
 
     fn listen(&mut self, path: &str) -> io::Result<()>
@@ -266,10 +272,7 @@ impl<R: Files<File = File> + Net + Processes + RandomSource + Clock + Eprint> Un
         ensures ports { self.new.last_port ≡ self.old.last_port }
         ensures moment { self.new.moment ≡ self.old.moment }
     {
-        let Some(key) = self.ports.key_of(port) else {
-            return Err(Error::from(ErrorKind::NotFound));
-        };
-        let Some(found) = self.ports.get_mut(key) else {
+        let Some((key, found)) = self.ports.find(port) else {
             return Err(Error::from(ErrorKind::NotFound));
         };
         if !found.port.marks.asks(self.round) {
@@ -293,10 +296,7 @@ impl<R: Files<File = File> + Net + Processes + RandomSource + Clock + Eprint> Un
         ensures ports { self.new.last_port ≡ self.old.last_port }
         ensures moment { self.new.moment ≡ self.old.moment }
     {
-        let Some(key) = self.ports.key_of(port) else {
-            return Err(Error::from(ErrorKind::NotFound));
-        };
-        let Some(found) = self.ports.get_mut(key) else {
+        let Some((key, found)) = self.ports.find(port) else {
             return Err(Error::from(ErrorKind::NotFound));
         };
         if !found
@@ -385,9 +385,10 @@ impl<R: Files<File = File> + Net + Processes + RandomSource + Clock + Eprint> Wo
         }
     }
 
+    #[inline(always)]
     fn now(&mut self) -> Result<Moment, AllocError> {
-        if self.is_undated() {
-            self.read_clocks();
+        if self.asks_tick() {
+            self.ask_tick();
         }
         Ok(self.moment)
     }
