@@ -58,9 +58,12 @@ def fits(agent: Agent, name: str, *what) -> bool:
 
 
 def is_wanted(port: Port) -> bool:
-    """Whether the loop reads from a port: from a client while it has no whole and no bad frame."""
+    """Whether the loop reads from a port: from a client while it has no whole and no bad frame, and while it waits or is
+    owed bytes only as long as it has none."""
+    if port.door == "child" or not port.heard:
+        return True
     try:
-        return port.door == "child" or take_frame(port.heard[:], LIMITS["body of a client"]) is None
+        return not port.waits and not port.owed and take_frame(port.heard[:], LIMITS["body of a client"]) is None
     except Fault:
         return False
 

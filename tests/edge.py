@@ -56,6 +56,8 @@ check = rig.Checks("edge")
 PROGRAM = rig.agent_program()
 CLIENTS = 128
 LONGEST = 262144
+# What is read of a client that waits or has yet to take a reply, in bytes.
+ONE_READ = 16384
 TICKET = "MORTARLEEK_TICKET"
 DIGITS = re.compile(rb"[0-9a-fA-F]{32}")
 CONFIRM = b"\x02"
@@ -1096,7 +1098,8 @@ def fill_the_link(agent):
 
 
 def fill_all(agent, helper, is_recorded):
-    """Fills each part of an agent, and tells what these take of memory, in MiB."""
+    """Fills each part of an agent, and tells what these take of memory, in MiB. Of a client that has yet to take a list
+    one read is kept, so that it first leaves a list, and then half a request."""
     parts = Parts(agent)
     if is_recorded:
         with agent.peer() as peer:
@@ -1118,9 +1121,15 @@ def fill_all(agent, helper, is_recorded):
         for peer in peers:
             peer.send(bytes([LIST]))
         parts.tell("unread lists")
+        half = string(bytes(LONGEST))[:-1]
         for peer in peers + questions:
-            peer.socket.sendall(string(bytes(LONGEST))[:-1])
-        parts.tell("half requests")
+            peer.socket.sendall(half[:ONE_READ])
+        parts.tell("begun requests")
+        for peer in peers:
+            assert peer.reply()[0] == IDENTITIES
+        for peer in peers:
+            peer.socket.sendall(half[ONE_READ:])
+        parts.tell("half requests in the place of lists")
         most = watch.memory(agent.process.pid, "VmHWM")
     return most, parts.told
 
@@ -1131,8 +1140,8 @@ MOST_OF_ALL, MOST_RECORDED = 112, 160
 
 @check
 def an_agent_takes_a_bounded_memory_whatever_is_done_to_it(folder):
-    """With all its parts at their bounds at once: 128 clients, of which 16 wait for the user, and each of which has half a
-    request written."""
+    """With as many of its parts at their bounds as can be at once: 128 clients, of which 16 wait for the user, and the
+    others first leave a list and a read of their next request, and then have half of that written."""
     for name, most in ("plain", MOST_OF_ALL), ("recorded", MOST_RECORDED):
         home = folder / name
         home.mkdir()
