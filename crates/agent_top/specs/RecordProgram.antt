@@ -49,4 +49,5 @@ abbrev pub Breaks : Option (List Entry) → Option (List Entry) → StreamView �
     → Type 0
 Breaks journal later old new errors said =
     FailsToWrite old.write_faults new.write_faults errors said
-    ⊎ (HoldsOfAdded journal later HaveNoRoom × (new.write_faults ≡ old.write_faults) × Says no_room_line errors said)
+    ⊎ (HoldsOfAdded journal later HaveNoRoom × (new.write_faults ≡ old.write_faults)
+    × Says no_room_line errors said)

@@ -14,8 +14,9 @@ use Rattle.ready_loop.specs.Serving.{Setting, Stage, Unbound, Running, ran}
 -- between two services of one thing each other thing is served that is ready and can be served all the while
 abbrev pub IsFair : Setting → List Entry → Type 0
 IsFair setting calls = (thing other : Thing) (before between after : List Entry) (first last : Entry) (reading : LoopState)
-    → calls ≡ before ++ first ∷ (between ++ last ∷ after) → is_service thing first ≡ true → is_service thing last ≡ true
-    → same_thing thing other ≡ false → ran setting Unbound (before ++ first ∷ []) ≡ Some (Running reading)
+    → calls ≡ before ++ first ∷ (between ++ last ∷ after)
+    → is_service thing first ≡ true → is_service thing last ≡ true → same_thing thing other ≡ false
+    → ran setting Unbound (before ++ first ∷ []) ≡ Some (Running reading)
     → waits_on other reading between ≡ true → list_any (is_service other) between ≡ true
 
 -- the calls that were added are fair, from the start of the loop on

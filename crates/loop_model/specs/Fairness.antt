@@ -48,4 +48,5 @@ is_waiting thing reading = hot_of reading.line thing && is_servable reading.stat
 abbrev pub waits_on : Thing → LoopState → List Entry → Bool
 waits_on thing reading [] = is_waiting thing reading
 waits_on thing reading (next ∷ later) =
-    is_waiting thing reading && option_map_or (λ after. waits_on thing after later) (after_if_legal reading next) true
+    is_waiting thing reading
+    && option_map_or (λ after. waits_on thing after later) (after_if_legal reading next) true
