@@ -7,7 +7,7 @@ use Rattle.wire_text.specs.Wire.{string}
 use Rattle.wire_core.specs.Fields.{string_at}
 use Rattle.key_blob.specs.AddedKeys.{private_from}
 use Rattle.agent_msg.specs.Reading.{request_of}
-use Rattle.agent_msg.specs.Requests.{ClientRequest, Add, Lock, Unlock, Unsupported}
+use Rattle.agent_msg.specs.Requests.{ClientRequest, ListIdentities, Sign, Add, Remove, RemoveAll, Lock, Unlock, Bind, OtherExtension, Unsupported}
 use Rattle.agent_msg.specs.declared.fault.MsgFault.{MsgFault}
 
 -- ---- added keys
@@ -85,8 +85,13 @@ redacted_as (Ok (Add addition)) number bytes passphrases =
     unchanged number (without_secrets key ++ drop (length key) bytes) passphrases
 redacted_as (Ok (Lock passphrase)) number bytes passphrases = numbered number passphrase passphrases
 redacted_as (Ok (Unlock passphrase)) number bytes passphrases = numbered number passphrase passphrases
+redacted_as (Ok ListIdentities) number bytes passphrases = unchanged number bytes passphrases
+redacted_as (Ok (Sign signing)) number bytes passphrases = unchanged number bytes passphrases
+redacted_as (Ok (Remove blob)) number bytes passphrases = unchanged number bytes passphrases
+redacted_as (Ok RemoveAll) number bytes passphrases = unchanged number bytes passphrases
+redacted_as (Ok (Bind bind)) number bytes passphrases = unchanged number bytes passphrases
+redacted_as (Ok (OtherExtension name)) number bytes passphrases = unchanged number bytes passphrases
 redacted_as (Ok (Unsupported other)) number bytes passphrases = unchanged number [] passphrases
-redacted_as (Ok other) number bytes passphrases = unchanged number bytes passphrases
 redacted_as (Err fault) number bytes passphrases = record {
   body = unread (holds_secrets number) number bytes;
   passphrases = passphrases;
