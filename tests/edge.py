@@ -1135,7 +1135,7 @@ def fill_all(agent, helper, is_recorded):
 
 
 # The most memory of an agent, in MiB, and of one that makes a record.
-MOST_OF_ALL, MOST_RECORDED = 112, 160
+MOST_OF_ALL, MOST_RECORDED = 80, 120
 
 
 @check
