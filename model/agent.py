@@ -41,6 +41,7 @@ class Identity:
     uses: int | None
     rules: Rules | None
     purposes: Purposes
+    room: int
 
 
 @dataclass
@@ -274,17 +275,16 @@ class Agent:
         comments[blob] = comment
         size = 5 + sum(8 + len(each) + len(text) for each, text in comments.items())
         demand(not self.above("list", size), "add: list is full")
-        others = [each for held_blob, each in self.identities.items() if held_blob != blob]
+        uses, rules = terms.get("uses"), terms.get("rules")
         purposes = terms.get("purposes", frozenset())
-        taken = sum(room(each.private, each.rules, each.purposes) for each in others)
-        taken += room(private, terms.get("rules"), purposes)
+        own = room(private, rules, purposes)
+        taken = own + sum(each.room for held_blob, each in self.identities.items() if held_blob != blob)
         demand(not self.above("room", taken), "add: no room")
         self.seen["add: replaced"] += held is not None
         life = terms.get("life", self.default_life)
         death = None if life is None else self.mono + life
         number, confirm = self.next_number("addition"), "confirm" in terms
-        uses, rules = terms.get("uses"), terms.get("rules")
-        key = Identity(number, private, comment, death, confirm, uses, rules, purposes)
+        key = Identity(number, private, comment, death, confirm, uses, rules, purposes, own)
         self.identities[blob] = key
         return SUCCESS
 

@@ -5,6 +5,7 @@ draft-miller-ssh-agent; RFC 4252; OpenSSH's PROTOCOL files; docs/PROTOCOL.md for
 
 from collections.abc import Iterator
 from dataclasses import dataclass
+from functools import lru_cache
 from typing import Any
 
 from .wire import Reader, demand, matches, string, uint32, uint64, within
@@ -55,11 +56,11 @@ def plain_type(key_type: bytes) -> bytes:
 def strings(text: bytes) -> Iterator[bytes]:
     """The strings that fill a text."""
     reader = Reader(text)
-    while reader.left:
+    while not reader.is_done():
         yield reader.string()
 
 
-@dataclass
+@dataclass(frozen=True)
 class Certificate:
     kind: int
     principals: list[bytes]
@@ -74,7 +75,7 @@ class Certificate:
         return not self.principals or any(matches(host, name) for name in self.principals)
 
 
-@dataclass
+@dataclass(frozen=True)
 class PublicKey:
     key_type: bytes
     plain_blob: bytes
@@ -87,6 +88,7 @@ class PublicKey:
         return algorithm == self.key_type or (mark != self.key_type and algorithm in by_hash)
 
 
+@lru_cache(256)
 def public_key(blob: bytes) -> PublicKey:
     reader = Reader(blob)
     key_type = reader.string()
@@ -108,7 +110,7 @@ def public_key(blob: bytes) -> PublicKey:
 
 def added_key(reader: Reader) -> tuple[bytes, bytes]:
     """The blob of an added key, and its bytes as they came."""
-    before = reader.left
+    start = reader.at
     key_type = reader.string()
     plain = plain_type(key_type)
     if plain != key_type:
@@ -121,7 +123,7 @@ def added_key(reader: Reader) -> tuple[bytes, bytes]:
             own.reverse()  # an addition has n first, and a blob e
         blob = string(plain) + b"".join(map(string, own))
         fields(reader, PRIVATE[plain])
-    return blob, before[: len(before) - len(reader.left)]
+    return blob, reader.text[start : reader.at]
 
 
 def login(message: bytes, blob: bytes) -> tuple[bytes, bytes, bytes | None]:
@@ -146,7 +148,7 @@ def login(message: bytes, blob: bytes) -> tuple[bytes, bytes, bytes | None]:
     return session, user, host_key
 
 
-@dataclass
+@dataclass(frozen=True)
 class Hop:
     user: bytes
     host: bytes
@@ -157,13 +159,14 @@ def hop(text: bytes) -> Hop:
     reader, keys = Reader(text), []
     user, host = reader.string(), reader.string()
     demand(reader.string() == b"", "Reserved")
-    while reader.left:
+    while not reader.is_done():
         blob = reader.string()
         within("Key", public_key, blob)
         keys.append((blob, reader.byte() != 0))
     return Hop(user, host, keys)
 
 
+@lru_cache(64)
 def destination(text: bytes) -> tuple[Hop, Hop]:
     """A destination constraint: from where, and to where."""
     reader = Reader(text)
@@ -173,7 +176,7 @@ def destination(text: bytes) -> tuple[Hop, Hop]:
     target = hop(reader.string())
     demand(target.host != b"" and target.keys != [], "ToHalf")
     demand(reader.string() == b"", "Reserved")
-    demand(not reader.left, "Short")
+    demand(reader.is_done(), "Short")
     return source, target
 
 
@@ -195,7 +198,7 @@ def purposes(text: bytes) -> set[bytes]:
 def constraints(text: bytes) -> dict[str, Any]:
     """The lifetime, the wish for confirmation, the uses, the purposes and the rules, as far as they are there."""
     reader, terms = Reader(text), {}
-    while reader.left:
+    while not reader.is_done():
         kind = reader.byte()
         if kind == 255:
             name = {RESTRICT: "rules", USES: "uses", PURPOSES: "purposes"}.get(reader.string())

@@ -13,7 +13,6 @@ from . import pool
 from .agent import LIMITS
 from .child_moves import ChildMoves
 from .replay import LONGEST_LINE, Run
-from .rules import room
 from .wire import string, uint32, uint64
 from .writer import Over
 
@@ -97,7 +96,7 @@ class Schedule(ChildMoves):
         each, most = 200 + len(host.key), 261000 // len(first)
         for seed in range(100, 115):
             key = pool.plain_key(pool.STAND_IN, seed)
-            held = sum(room(one.private, one.rules, one.purposes) for one in self.agent.identities.values())
+            held = sum(one.room for one in self.agent.identities.values())
             count, more = divmod(LIMITS["room"] - held - len(key.added), each)
             if count >= most:
                 count, more = most, 0

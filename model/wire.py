@@ -39,12 +39,20 @@ class Reader:
     """Takes one field after another from the front of some bytes."""
 
     def __init__(self, text: bytes) -> None:
-        self.left = text
+        self.text, self.at = text, 0
+
+    @property
+    def left(self) -> bytes:
+        return self.text[self.at :]
+
+    def is_done(self) -> bool:
+        return self.at == len(self.text)
 
     def take(self, count: int) -> bytes:
-        demand(len(self.left) >= count, "Short")
-        text, self.left = self.left[:count], self.left[count:]
-        return text
+        start, end = self.at, self.at + count
+        demand(end <= len(self.text), "Short")
+        self.at = end
+        return self.text[start:end]
 
     def byte(self) -> int:
         return self.take(1)[0]
@@ -59,10 +67,10 @@ class Reader:
         return self.take(self.uint32())
 
     def rest(self) -> bytes:
-        return self.take(len(self.left))
+        return self.take(len(self.text) - self.at)
 
     def end(self) -> None:
-        demand(not self.left, "Trailing")
+        demand(self.is_done(), "Trailing")
 
 
 def take_frame(heard: bytearray, longest: int) -> bytes | None:
