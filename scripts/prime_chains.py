@@ -1,11 +1,11 @@
-"""Chains of primes, by which prime_laws shows that a curve's p is prime: for each n of a chain an element whose order,
+"""Chains of primes, by which prime_laws shows that a curve's p and n are primes: for each n of a chain an element whose order,
 modulo any divisor of n but 1, is a product of smaller primes, and greater than the root of n."""
 from math import isqrt, prod
 
 # below this, trial division shows that a number is prime
 TRIED = 2**20
 
-# the primes of the chains: each divides n - 1 for a greater n of its chain, or p - 1
+# the primes of the chains: each divides n - 1 for a greater n of its chain, whose last is a curve's p or n
 PRIMES = [
     # of P-256
     197,
@@ -55,6 +55,45 @@ PRIMES = [
     145295143558111,
     361725589517273017,
     173308343918874810521923841,
+    # of P-256's n
+    3023,
+    104471,
+    155317,
+    3969899,
+    191039911,
+    1002328039319,
+    208150935158385979,
+    2624747550333869278416773953,
+    # of P-384's n
+    233,
+    311,
+    421,
+    881,
+    9863677,
+    272109983,
+    228572385721,
+    23314383343543,
+    37344768852931,
+    55942463741690639,
+    426632512014427833817,
+    1495199339761412565498084319,
+    17942392077136950785977011829,
+    1059392654943455286185473617842338478315215895509773412096307,
+    3055465788140352002733946906144561090641249606160407884365391979704929268480326390471,
+    # of Ed25519's p
+    103,
+    127,
+    991,
+    4153,
+    430751,
+    569003,
+    8574133,
+    2773320623,
+    72106336199,
+    1919519569386763,
+    31757755568855353,
+    75445702479781427272750846543864801,
+    74058212732561358302231226437062788676166966415465897661863160754340907,
 ]
 
 
@@ -115,6 +154,6 @@ def links(n: int, known: list) -> list:
 
 
 def chain(prime: int) -> str:
-    """The lemmas that show that a curve's p is prime; the last says it."""
+    """The lemmas that show that a number is prime; the last says it."""
     *before, last = links(prime, [])
     return "\n".join([*before, "pub " + last])

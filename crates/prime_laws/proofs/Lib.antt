@@ -6,4 +6,6 @@ pub mod PrimeLemmas
 pub mod FermatLemmas
 pub mod P256Chain
 pub mod P384Chain
+pub mod P256OrderChain
+pub mod P384OrderChain
 pub mod P521Chain

@@ -1,0 +1,3 @@
+pub mod NumberLemmas
+pub mod P256SignedLemmas
+pub mod P384SignedLemmas

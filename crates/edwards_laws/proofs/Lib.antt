@@ -1,0 +1,14 @@
+pub mod PolynomialLemmas
+pub mod CongruenceLemmas
+pub mod CrossXLemmas
+pub mod CrossYLemmas
+pub mod OnCurveLemmas
+pub mod FractionLemmas
+pub mod PrimeChain
+pub mod SumLemmas
+pub mod AssociativityLemmas
+pub mod RuleLemmas
+pub mod CurveLemmas
+pub mod GroupLemmas
+pub mod FormulaLemmas
+pub mod MultipleLemmas

@@ -1,0 +1,16 @@
+pub mod LineLemmas
+pub mod SlopeLemmas
+pub mod CollinearLemmas
+pub mod FieldLemmas
+pub mod SumLemmas
+pub mod AssociativityLemmas
+pub mod RuleLemmas
+pub mod MultipleLemmas
+pub mod TransferLemmas
+pub mod LoopLemmas
+pub mod P256GroupLemmas
+pub mod P256MultipleLemmas
+pub mod P384GroupLemmas
+pub mod P384MultipleLemmas
+pub mod P521GroupLemmas
+pub mod P521MultipleLemmas

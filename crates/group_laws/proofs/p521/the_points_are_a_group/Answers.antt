@@ -1,0 +1,5 @@
+use Rattle.group_laws.proofs.P521GroupLemmas.{group}
+use Rattle.group_laws.proofs.p521.the_points_are_a_group.Goals as goal
+
+pub returns : goal.returns
+returns c = group

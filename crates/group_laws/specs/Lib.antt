@@ -1,0 +1,2 @@
+-- commutative groups
+pub mod Groups
