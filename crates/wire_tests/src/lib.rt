@@ -1,12 +1,8 @@
-//! Tests of what is read and written: keys, lines of schedules, words, and the outside in memory.
-//! Stands on key_blob, schedule_text, serve_words and world_ports.
+//! Tests of the outside in memory, of the lines of schedules that are written, and of the longest that are read.
+//! Stands on schedule_text and world_ports.
 #![tactic(auto)]
 
-#[cfg(test)]
-mod keys;
 #[cfg(test)]
 mod outside;
 #[cfg(test)]
 mod schedules;
-#[cfg(test)]
-mod words;
