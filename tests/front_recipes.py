@@ -106,6 +106,18 @@ def commits_are_signed_with_a_key_of_the_agent(folder):
 
 
 @check
+def an_authority_s_key_signs_certificates_alone(folder):
+    (lines,) = recipe("An authority's key")
+    with Home(folder) as home:
+        for name in ("user_ca", "id_ed25519"):
+            keygen(home.home / f".ssh/{name}")
+        home.with_ours(lines.replace("mortarleek add", "mortarleek add -q"))
+        said = home.run("ssh-keygen -Lf ~/.ssh/id_ed25519-cert.pub")
+        assert "user certificate" in said and "Key ID: \"me\"" in said, said
+        home.with_ours("echo text > ~/text; ssh-keygen -q -Y sign -n file -f ~/.ssh/user_ca.pub ~/text", 255)
+
+
+@check
 def each_host_is_shown_its_own_of_twenty_keys(folder):
     (lines,) = recipe("Bastions and twenty keys")
     bastion_line, forge_line = lines.splitlines()

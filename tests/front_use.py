@@ -124,6 +124,8 @@ def status_tells_of_no_upgrade_by_root_but_in_a_user_namespace(folder):
         raise rig.Skip("it takes root")
     with tempfile.TemporaryDirectory(dir="/usr/local/lib", prefix="mk-") as place:
         installed, key = Installed(pathlib.Path(place)), keygen(folder / "key")
+        # The agent's own folder is in none that others may write.
+        installed.environment["TMPDIR"] = str(folder)
         helper = helper_of(installed)
         agent, inside = installed.agent, rig.script(folder / "inside", f'exec unshare -U {installed.agent} "$@"')
         for start, mode, told, status in (

@@ -21,7 +21,7 @@ _mortarleek_add() {
     -E:*) _mortarleek_offer -W 'md5 sha256' -- "$2" ;;
     -t:*) _mortarleek_offer -W '30m 1h 8h 1d' -- "$2" ;;
     -u:*) _mortarleek_offer -W '1 3' -- "$2" ;;
-    --for:*) _mortarleek_offer -W 'login git login,git file sshsig other all' -- "$2" ;;
+    --for:*) _mortarleek_offer -W 'login git login,git file ca sshsig other all' -- "$2" ;;
     -h:*) _mortarleek_offer -A hostname -- "$2" ;;
     *:-*) _mortarleek_offer -W '--any-agent --for -C -c -D -d -E -H -h -k -L -l -N -q -T -t -u -v -X -x' -- "$2" ;;
     *) _mortarleek_offer -f -- "$2" ;;
@@ -33,7 +33,7 @@ _mortarleek_filter() {
     case $3:$2 in
     -k:*) mapfile -t COMPREPLY < <(compgen -f -X '!*.pub' -- "$2"; compgen -d -- "$2") ;;
     -a:*) _mortarleek_offer -f -- "$2" ;;
-    --sign-only:*) _mortarleek_offer -W 'login git login,git file sshsig other all' -- "$2" ;;
+    --sign-only:*) _mortarleek_offer -W 'login git login,git file ca sshsig other all' -- "$2" ;;
     *:-*) _mortarleek_offer -W '-a -k --end --sign-only' -- "$2" ;;
     *) mapfile -t COMPREPLY < <(compgen -c -- "$2"; compgen -f -- "$2") ;;
     esac

@@ -50,7 +50,7 @@ function __mortarleek_add
     complete $argv -s T -d 'Try the keys, by ssh-add'
     complete $argv -s t -x -a '30m 1h 8h 1d' -d 'Forget the key after this time'
     complete $argv -s u -x -a '1 3' -d 'Forget the key after so many uses'
-    complete $argv -l for -x -a 'login git login,git file sshsig other all' -d 'What the key may sign for'
+    complete $argv -l for -x -a 'login git login,git file ca sshsig other all' -d 'What the key may sign for'
     complete $argv -l any-agent -d 'Send the number and the purposes to any agent'
     complete $argv -s v -d 'Tell what happens to each file'
     complete $argv -s X -d 'Unlock the agent'
@@ -61,7 +61,7 @@ function __mortarleek_filter
     complete $argv -s a -r -F -d 'Serve at a socket that stays'
     complete $argv -l end -d 'End the filter of -a'
     complete $argv -s k -r -F -d 'Public keys that may be used: a file, a fingerprint, a comment'
-    complete $argv -l sign-only -x -a 'login git login,git file sshsig other all' -d 'What they may sign for'
+    complete $argv -l sign-only -x -a 'login git login,git file ca sshsig other all' -d 'What they may sign for'
 end
 
 function __mortarleek_log
