@@ -1,4 +1,5 @@
-# make            proves each crate, a line for each, and builds the programs into bin/
+# make            proves what the programs stand on, a line for each crate, and builds them into bin/
+# make quick      builds what is installed without proofs, in some minutes: `mortarleek --version` then says NOT proved
 # make demo       shows the agent at work with OpenSSH's tools, built without proofs where it isn't proved yet
 # make check      proves and tests everything: the gate, .ci/run
 # make nightly    what takes hours: .ci/nightly
@@ -11,15 +12,33 @@
 
 RT ?= rt
 PREFIX ?= /usr/local
-PROGRAMS := $(patsubst crates/%/src/main.rt,%,$(wildcard crates/*/src/main.rt))
+# Not those that answer a table: the gate runs them.
+PROGRAMS := $(filter-out %_table,$(patsubst crates/%/src/main.rt,%,$(wildcard crates/*/src/main.rt)))
 INSTALLED := agent_prog
+# Those that `make quick` built and nothing has replaced since.
+UNPROVED := $(shell cat bin/unproved 2> /dev/null)
 SOURCES := crates.txt $(shell find crates -name out -prune -o \( -name '*.rt' -o -name '*.antt' \) -print)
 
-.PHONY: all toolchain proofs version helper demo check nightly bench install uninstall deb picture clean
+.PHONY: all programs quick toolchain proofs version helper demo check nightly bench install uninstall deb picture clean
 # scripts/prove does side by side what can be done so.
 .NOTPARALLEL:
 
-all: toolchain proofs $(PROGRAMS:%=bin/%) version
+all: programs version
+
+# One run of scripts/prove for all of them: it reads all sources, which takes seconds.
+programs: toolchain
+	@RT='$(RT)' scripts/prove $(PROGRAMS)
+	@mkdir -p bin
+	@for name in $(PROGRAMS); do \
+	    if cmp -s crates/$$name/out/$$name bin/$$name; then touch bin/$$name; \
+	    else cp crates/$$name/out/$$name bin/$$name || exit 1; fi; \
+	done
+	@rm -f bin/unproved
+
+quick: toolchain
+	@RT='$(RT)' scripts/quick $(filter $(PROGRAMS),$(INSTALLED) $(HELPERS))
+	@RT='$(RT)' scripts/version > bin/version
+	@cat bin/version
 
 toolchain:
 	@RT='$(RT)' scripts/toolchain
@@ -32,6 +51,7 @@ $(PROGRAMS:%=bin/%): bin/%: $(SOURCES)
 	@RT='$(RT)' scripts/prove $*
 	@mkdir -p bin
 	cp crates/$*/out/$* $@
+	@[ ! -f bin/unproved ] || sed -i '/^$*$$/d' bin/unproved
 
 # What `mortarleek --version` says of what is in bin/.
 version:
@@ -76,7 +96,7 @@ PARTS := agent_guard front_end.sh version
 PAGES := mortarleek-serve:agent_prog mortarleek-replay:agent_prog mortarleek-drill:agent_prog mortarleek-audit:audit_prog
 page = $(firstword $(subst :, ,$(1)))
 
-install: $(INSTALLED:%=bin/%)
+install: $(patsubst %,bin/%,$(filter-out $(UNPROVED),$(INSTALLED)))
 	install -d $(BIN) $(LIBEXEC) $(SHARE)/man/man1 $(SHARE)/man/man8 $(COMPLETIONS) $(UNITS)
 	$(if $(INSTALLED),install -m $(MODE) $(INSTALLED:%=bin/%) $(LIBEXEC))
 	install -m 755 $(SCRIPTS:%=front/%) $(BIN)
@@ -97,6 +117,7 @@ install: $(INSTALLED:%=bin/%)
 	install -m 644 contrib/completions/_mortarleek $(SHARE)/zsh/site-functions
 	sed 's,/usr/local/bin,$(PREFIX)/bin,' $(UNIT) > $(UNITS)/mortarleek-agent.service
 	chmod 644 $(UNITS)/mortarleek-agent.service
+	@grep '^NOT proved' bin/version >&2 || :
 
 uninstall:
 	rm -f $(SCRIPTS:%=$(BIN)/%) $(INSTALLED:%=$(LIBEXEC)/%) $(HELPERS:%=$(LIBEXEC)/%) $(PARTS:%=$(LIBEXEC)/%)
@@ -106,10 +127,13 @@ uninstall:
 	rm -f $(SCRIPTS:%=$(SHARE)/bash-completion/completions/%)
 	rm -f $(SCRIPTS:%=$(SHARE)/fish/vendor_completions.d/%.fish) $(SHARE)/zsh/site-functions/_mortarleek
 	rm -f $(UNITS)/mortarleek-agent.service
-	[ ! -d $(LIBEXEC) ] || rmdir $(LIBEXEC)
+	@if [ -d $(LIBEXEC) ] && ! rmdir $(LIBEXEC) 2> /dev/null; then \
+	    echo 'left in $(LIBEXEC), since make install puts no such files there:' && ls -Aq $(LIBEXEC); \
+	fi
 
 # Says of which version, commit and toolchain the package is.
 deb: $(INSTALLED:%=bin/%) version
+	@[ ! -s bin/unproved ] || { echo 'deb: `make quick` built what is no package: make' >&2; exit 1; }
 	dpkg-checkbuilddeps
 	debian/rules binary
 	debian/rules clean
