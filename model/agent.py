@@ -9,7 +9,7 @@ from collections.abc import Callable
 from dataclasses import dataclass, field
 
 from . import formats
-from .purposes import purposes_of
+from .purposes import is_by_sha1, kind_of
 from .questions import line_of, question
 from .rules import Binding, Chain, Purposes, Rules, are_for, may_sign, principals, room, visible
 from .wire import Fault, demand, string, take_frame, uint32, within
@@ -238,7 +238,7 @@ class Agent:
     def sign(self, number: int, client: Port, blob: bytes, message: bytes, flags: int) -> None:
         demand(blob in self.identities, "sign: not held")
         identity, signing = self.identities[blob], (blob, message, flags)
-        self.may_sign(client, identity, blob, message, "asked")
+        self.may_sign(client, identity, signing, "asked")
         if not identity.confirm:
             return self.put_signing(number, identity, signing)
         demand(not self.above("confirmations", len(self.confirmations) + 1), "confirmations")
@@ -255,12 +255,14 @@ class Agent:
         )
 
     def may_sign(
-        self, client: Port, identity: Identity, blob: bytes, message: bytes, when: str
+        self, client: Port, identity: Identity, signing: tuple[bytes, bytes, int], when: str
     ) -> None:
         """Raises why a key isn't to sign a message: what it is for, or where to."""
+        blob, message, flags = signing
         if identity.purposes:
             told = "one of" if are_for(identity.purposes, blob, message) else "none of"
-            self.seen[f"{when}: {min(purposes_of(message, blob)).decode()[:6]}, {told} the key's"] += 1
+            self.seen[f"{when}: {kind_of(message, blob)}, {told} the key's"] += 1
+        demand(not identity.purposes or not is_by_sha1(blob, flags), "by SHA-1")
         demand(are_for(identity.purposes, blob, message), "other purpose")
         within("rules", may_sign, identity.rules, blob, client.chain, message, self.wall)
         self.seen["rules: permit"] += bool(identity.rules)
@@ -390,7 +392,7 @@ class Agent:
         try:
             demand(self.passphrase is None, "locked")
             demand(identity is not None and identity.addition == told.addition, "not held")
-            self.may_sign(self.ports[told.asker], identity, *told.signing[:2], "granted")
+            self.may_sign(self.ports[told.asker], identity, told.signing, "granted")
             self.put_signing(told.asker, identity, told.signing)
             self.seen["confirmation: granted"] += 1
         except Fault as cause:

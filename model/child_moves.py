@@ -132,8 +132,9 @@ class ChildMoves(Moves):
                 return
             user = random.choice([b"u", b"u" * 65, b"\x1f\x7f u\n"])
             messages = [self.login(port, key), pool.login(random, key, b"s", user, None), b"m"]
-            messages += [pool.file_data(random)] * 2
-            self.send(port, b"\x0d" + string(key.blob) + string(random.choice(messages)) + uint32(0), cut=0.03)
+            messages += [pool.file_data(random)] * 2 + [pool.may_be(random, key, user)] * 3
+            signing = string(key.blob) + string(random.choice(messages)) + uint32(random.choice([0, 2, 4, 4, 6]))
+            self.send(port, b"\x0d" + signing, cut=0.03)
             if self.chance(0.15):
                 other = self.client(fresh=0.3)
                 if other in self.agent.ports:

@@ -28,7 +28,7 @@ if not __package__:
     sys.path.insert(0, str(Path(__file__).resolve().parents[1]))
 
 from model.filter import BIND, Links, Pair
-from model.wire import string, uint32
+from model.wire import Reader, string, uint32
 
 # More pairs than may keep a spare connection, and fewer than may have one at once, so that nobody waits for a place.
 PAIRS, PIECES, PATIENCE = 48, 1200, 20.0
@@ -44,9 +44,21 @@ def key(tag: int) -> bytes:
 
 
 LISTED, OTHER = [key(tag) for tag in range(1, 6)], [key(tag) for tag in range(6, 11)]
+LISTED += [string(b"ssh-rsa") + string(b"\x03") + string(b"\x01" * 256)]
+
+
+def line_of(listed: bytes) -> str:
+    """The line of a list of keys."""
+    return f"{Reader(listed).string().decode()} {base64.b64encode(listed).decode()} c\n"
+
+
+def algorithm_of(signer: bytes) -> bytes:
+    """By which a login names the key."""
+    return b"rsa-sha2-512" if signer == LISTED[-1] else b"ssh-ed25519"
+
 
 # The purposes of one filter after another: none are given to the first.
-PURPOSES: tuple[tuple[str, ...], ...] = ((), ("login", "sshsig:git"), ("sshsig",), ("other", "sshsig:file"))
+PURPOSES: tuple[tuple[str, ...], ...] = ((), ("login", "sshsig:git"), ("sshsig",), ("other", "sshsig:file"), ("certificate",))
 
 
 def given(words: tuple[str, ...]) -> set[bytes] | None:
@@ -60,20 +72,22 @@ def blob(dice: random.Random) -> bytes:
 
 
 def message(dice: random.Random, blob: bytes) -> bytes:
-    """What a key may be asked to sign: a login with it or with another key, by one method or the other, a file in a
-    namespace, other data; and at times a byte more, fewer or another."""
-    kind, user = dice.randrange(4), dice.choice((b"", b"u", b"user"))
+    """What a key may be asked to sign: a login with it or with another key, by one method or the other, to a host whose key
+    is read or not, a file in a namespace, a certificate, other data; and at times a byte more, fewer or another."""
+    kind, user = dice.randrange(5), dice.choice((b"", b"u", b"user"))
     text = dice.randbytes(dice.choice((0, 3, 40, 20000)))
     if kind == 0:
-        host = dice.choice((b"", string(LISTED[0])))
+        host = dice.choice((b"", string(LISTED[0]), string(b"none")))
         method = b"publickey-hostbound-v00@openssh.com" if host else b"publickey"
         signer = dice.choice((blob, blob, blob, LISTED[0]))
         text = string(dice.randbytes(32)) + bytes([50]) + string(user) + string(b"ssh-connection")
-        text += string(method) + bytes([1]) + string(b"ssh-ed25519") + string(signer) + host
+        text += string(method) + bytes([dice.choice((1, 1, 1, 2))]) + string(algorithm_of(signer)) + string(signer) + host
     elif kind == 1:
         digested, size = dice.choice(((b"sha256", 32), (b"sha512", 64), (b"sha512", 32)))
         namespace = dice.choice((b"git", b"git", b"gi", b"file", b""))
         text = b"SSHSIG" + string(namespace) + string(b"") + string(digested) + string(dice.randbytes(size))
+    elif kind == 2:
+        text = string(b"ssh-ed25519" + dice.choice((b"-cert-v01@openssh.com", b"-cert-v02@openssh.com"))) + text
     if text and dice.random() < 0.1:
         place = dice.randrange(len(text))
         text = dice.choice((text + b"\0", text[:-1], text[:place] + dice.randbytes(1) + text[place + 1 :]))
@@ -82,7 +96,7 @@ def message(dice: random.Random, blob: bytes) -> bytes:
 
 def request(dice: random.Random) -> bytes:
     host, signer = dice.choice((blob(dice), b"host")), blob(dice)
-    sign = b"\x0d" + string(signer) + string(message(dice, signer)) + uint32(dice.choice((0, 4)))
+    sign = b"\x0d" + string(signer) + string(message(dice, signer)) + uint32(dice.choice((0, 1, 2, 4)))
     bind = b"\x1b" + string(BIND) + string(host) + string(b"session") + string(b"sg") + b"\1"
     body = dice.choice(
         (
@@ -266,15 +280,23 @@ WRONG = {
         "if found is None or found[0] not in listed:",
         "if found is None or not any(blob.startswith(found[0]) for blob in listed):",
     ),
-    "passes a signature for anything": ("return purposes is None or bool(", "return True or bool("),
-    "passes what is for no purpose": ("return purposes is None or bool(", "return purposes is None or not bool("),
-    "takes any key's login for its own": (
-        "if is_login(message, blob):",
-        "if any(is_login(message, each) for each in [blob, *LISTED]):",
+    "passes a signature for anything": ("return bool(purposes & ", "return True or bool(purposes & "),
+    "passes what is for no purpose": ("return bool(purposes & ", "return not bool(purposes & "),
+    "passes a signature by SHA-1": (" and not is_by_sha1(found[0], found[2])", ""),
+    "refuses by SHA-1 without purposes": (
+        "    if purposes is None:\n        return True",
+        "    if purposes is None:\n        return not is_by_sha1(found[0], found[2])",
     ),
-    "takes a login for other data": ("return {b\"login\"}", "return {b\"other\"}"),
-    "takes a file for other data": ("{b\"sshsig\", b\"sshsig:\" + namespace}", "{b\"other\"}"),
-    "tells a namespace by its front": ("b\"sshsig:\" + namespace}", "b\"sshsig:\" + namespace + b\"t\"}"),
+    "takes any key's login for its own": (
+        "    if login_of(message, blob) is not None:",
+        "    if any(login_of(message, each) for each in [blob, *LISTED]):",
+    ),
+    "takes a login for other data": ('        return "login"', '        return "other"'),
+    "takes a file for other data": ('        return "file"', '        return "other"'),
+    "takes a certificate for other data": ('        return "certificate"', '        return "other"'),
+    "takes what may be a login for other data": ('return "maybe" if may_be_login(message) else "other"', 'return "other"'),
+    "takes what may be a login for a login": ('return "maybe" if may_be_login', 'return "login" if may_be_login'),
+    "tells a namespace by its front": ('(namespace_of(message) or b"")}', '(namespace_of(message) or b"") + b"t"}'),
     "takes an empty namespace": ("return namespace if namespace and DIGESTS", "return namespace if DIGESTS"),
     "takes any digest": ("DIGESTS.get(digested) == len(digest)", "digested in DIGESTS"),
     "passes no bind": (" or is_bind(body):", ":"),
@@ -324,7 +346,7 @@ def differs(wrong: dict, dice: random.Random) -> bool:
 
 def filter_with_purposes() -> str:
     """filter.py with purposes.py in the place of its import, so that a wrong model may be wrong in either."""
-    folder, imported = Path(__file__).parent, "from .purposes import purposes_of\n"
+    folder, imported = Path(__file__).parent, "from .purposes import is_by_sha1, purposes_of\n"
     own, purposes = [(folder / name).read_text() for name in ("filter.py", "purposes.py")]
     assert own.count(imported) == 1
     return own.replace(imported, purposes.split("from __future__ import annotations\n", 1)[1])
@@ -358,7 +380,7 @@ def beside(program: str, words: tuple[str, ...], runs: int, seed: str) -> int:
     seen: Counter = Counter()
     with tempfile.TemporaryDirectory() as folder:
         keys, path = f"{folder}/keys", f"{folder}/filter"
-        Path(keys).write_text("".join(f"ssh-ed25519 {base64.b64encode(key).decode()} c\n" for key in LISTED))
+        Path(keys).write_text("".join(map(line_of, LISTED)))
         listener = socket.socket(socket.AF_UNIX)
         listener.settimeout(PATIENCE)
         listener.bind(f"{folder}/agent")

@@ -3,7 +3,7 @@ side is sent, and when the pair is closed."""
 
 from __future__ import annotations
 
-from .purposes import purposes_of
+from .purposes import is_by_sha1, purposes_of
 from .wire import Fault, Reader, string, take_frame, uint32
 
 LONGEST = 262144
@@ -26,11 +26,13 @@ def reads(body: bytes, number: int, *fields: str) -> list | None:
 
 
 def is_signature_request(body: bytes, listed: set[bytes], purposes: set[bytes] | None) -> bool:
-    """A request for a signature with a key that is listed, for one of the purposes, where any are given."""
+    """A request for a signature with a key that is listed; where purposes are given for one of them, and not by SHA-1."""
     found = reads(body, 13, "string", "string", "uint32")
     if found is None or found[0] not in listed:
         return False
-    return purposes is None or bool(purposes & purposes_of(found[1], found[0]))
+    if purposes is None:
+        return True
+    return bool(purposes & purposes_of(found[1], found[0])) and not is_by_sha1(found[0], found[2])
 
 
 def is_bind(body: bytes) -> bool:

@@ -8,7 +8,7 @@ from dataclasses import dataclass
 from functools import lru_cache
 from typing import Any
 
-from .wire import Reader, demand, matches, string, uint32, uint64, within
+from .wire import Fault, Reader, demand, matches, string, uint32, uint64, within
 
 ED25519, RSA, STAND_IN = b"ssh-ed25519", b"ssh-rsa", b"keyed-sha256@example.com"
 CURVES = {b"ecdsa-sha2-" + name: name for name in (b"nistp256", b"nistp384", b"nistp521")}
@@ -126,8 +126,17 @@ def added_key(reader: Reader) -> tuple[bytes, bytes]:
     return blob, reader.text[start : reader.at]
 
 
-def login(message: bytes, blob: bytes) -> tuple[bytes, bytes, bytes | None]:
-    """The session, the user and the host key of a message that logs in with this key."""
+def is_of_key(named: bytes, blob: bytes) -> bool:
+    """Whether a blob names the key of another: it is the plain one or a certificate, as that may be."""
+    try:
+        return public_key(named).plain_blob == public_key(blob).plain_blob
+    except Fault:
+        return False
+
+
+def login(message: bytes, blob: bytes, widely: bool = False) -> tuple[bytes, bytes, bytes | None]:
+    """The session, the user and the host key of a message that logs in with this key. Widely: by any blob of the key,
+    whatever the host key's text is."""
     reader = Reader(message)
     session = reader.string()
     demand(session != b"", "EmptySession")
@@ -139,11 +148,13 @@ def login(message: bytes, blob: bytes) -> tuple[bytes, bytes, bytes | None]:
     demand(bound or method == b"publickey", "Method")
     demand(reader.byte() == 1, "NoSignatureFlag")
     algorithm = reader.string()
-    demand(reader.string() == blob, "OtherKey")
-    demand(within("Algorithm", public_key, blob).fits(algorithm), "Algorithm")
+    named = reader.string()
+    demand(is_of_key(named, blob) if widely else named == blob, "OtherKey")
+    demand(within("Algorithm", public_key, named).fits(algorithm), "Algorithm")
     if bound:
         host_key = reader.string()
-        within("HostKey", public_key, host_key)
+        if not widely:
+            within("HostKey", public_key, host_key)
     reader.end()
     return session, user, host_key
 
@@ -187,7 +198,7 @@ def purposes(text: bytes) -> set[bytes]:
         demand(len(taken) < 64, "Purpose Many")
         demand(len(word) <= 255, "Purpose Long")
         namespace = word.removeprefix(b"sshsig:")
-        known = word in (b"login", b"sshsig", b"other") or namespace not in (b"", word)
+        known = word in (b"login", b"sshsig", b"certificate", b"other") or namespace not in (b"", word)
         demand(known, "Purpose Unknown")
         demand(word not in taken, "Purpose Twice")
         taken.add(word)

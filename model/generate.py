@@ -336,9 +336,10 @@ GOALS = [
             cause: constraints NoUses; use: last; use: more are left
             cause: constraints Purpose Many; cause: constraints Purpose Long; cause: constraints Purpose Unknown
             cause: constraints Purpose Twice; cause: constraints Purpose Missing
-            cause: other purpose
-            asked: login, one of the key's; asked: sshsig, one of the key's; asked: other, one of the key's
-            asked: login, none of the key's; asked: sshsig, none of the key's; asked: other, none of the key's
+            cause: other purpose; cause: by SHA-1
+            asked: login, one of the key's; asked: file, one of the key's; asked: other, one of the key's
+            asked: login, none of the key's; asked: file, none of the key's; asked: other, none of the key's
+            asked: certificate, one of the key's; asked: certificate, none of the key's; asked: maybe, none of the key's
             cause: add: list is full; cause: add: no room; limit: room; limit: room + 1
             cause: remove: not held; cause: lock: empty passphrase
             cause: unlock: not locked; cause: unlock: another passphrase
@@ -381,12 +382,13 @@ GOALS = [
         """confirmation: granted; confirmation: asker left; cause: confirmations
             limit: confirmations; limit: confirmations + 1; cause: granted: locked
             cause: granted: not held; cause: granted: rules Hop; cause: granted: asks
-            granted: login, one of the key's; granted: sshsig, one of the key's; granted: other, one of the key's
+            granted: login, one of the key's; granted: file, one of the key's; granted: other, one of the key's
+            granted: certificate, one of the key's
             cause: confirmation: not granted: DENIED; cause: confirmation: not granted: GRANTED
             cause: confirmation: ended; cause: confirmation: start failed
             cause: confirmation: limit; cause: confirmation: bad length; cause: confirmation: Short; cause: confirmation: Kind
             cause: confirmation: Trailing; cause: confirmation: TicketLength
-            question: login; question: signature; question: data; question: host""",
+            question: login; question: signature; question: certificate; question: data; question: host""",
         # what waits too long, and schedules of format 2
         """line schedule; helper lost: ask limit
             ask limit: -1; ask limit: +0; ask limit: +1

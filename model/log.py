@@ -19,6 +19,7 @@ from datetime import datetime, timedelta, timezone
 from . import formats
 from .agent import Agent, Identity, Port
 from .audit import BAD_RECORD, USAGE, Result, choices, written
+from .purposes import is_certificate, login_of, may_be_login
 from .replay import LONGEST_LINE, LONGEST_SCHEDULE, Run
 from .wire import Fault, Reader, demand
 
@@ -166,16 +167,16 @@ def namespace(message: bytes) -> bytes:
 
 def what(message: bytes, blob: bytes) -> bytes:
     """What is signed, in words."""
-    try:
-        _, user, host_key = formats.login(message, blob)
+    named = login_of(message, blob)
+    if named is not None:
+        user, host_key = named
         to = b"" if host_key is None else b" to " + fingerprint(host_key)
         return b"login as " + quoted(user) + to
-    except Fault:
-        pass
     try:
         return b"file in namespace " + quoted(namespace(message))
     except Fault:
-        return b"other data, %d bytes" % len(message)
+        told = b"certificate" if is_certificate(message) else b"may be a login" if may_be_login(message) else b"other data"
+        return b"%s, %d bytes" % (told, len(message))
 
 
 class LogRun(Run):

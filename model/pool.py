@@ -175,7 +175,7 @@ def uses(count: int) -> bytes:
     return b"\xff" + string(USES) + uint32(count)
 
 
-WORDS = [b"login", b"sshsig", b"other", b"sshsig:git", b"sshsig:file", b"sshsig:g", b"sshsig:" + b"n" * 248]
+WORDS = [b"login", b"sshsig", b"certificate", b"other", b"sshsig:git", b"sshsig:file", b"sshsig:g", b"sshsig:" + b"n" * 248]
 
 
 def purposes(*words: bytes) -> bytes:
@@ -213,6 +213,25 @@ def file_data(random: Random) -> bytes:
     texts = [namespace, b"", algorithm, random.randbytes(size)]
     front = random.choice([b"SSHSIG", b"SSHSIG", b"SSHSIG", b"SSHSIH"])
     return front + b"".join(map(string, texts)) + random.choice([b"", b"", b"", b"x"])
+
+
+def may_be(random: Random, key: Key, user: bytes) -> bytes:
+    """What may be a login, or nearly so; or what an authority signs, or nearly that."""
+    good = login(random, key, b"session of 32 bytes, as by SHA256", user, random.choice([None, b"no host key"]))
+    plain = key.key_type.removesuffix(CERTIFIED)
+    other = random.choice([each for each in KEYS if each.key_type.removesuffix(CERTIFIED) == plain])
+    name = random.choice([b"ssh-connection", b"ssh-userauth", b"publickey", b"hostbased", b"publickey-v02", b"ssh-connectio", b"publicke"])
+    texts = [
+        good[4:],
+        good.replace(b"\x01" + string(key.algorithms[0]), b"\x02" + string(key.algorithms[0])),
+        login(random, other, b"session", user, None),
+        login(random, other, b"session", user, None),
+        random.randbytes(random.randrange(9)) + string(name) + random.choice([b"", b"x"]),
+        random.randbytes(4) + uint32(len(name) + random.choice([-1, 1])) + name + random.choice([b"", b"x"]),
+        string(b"ssh-rsa" + random.choice([CERTIFIED, CERTIFIED.replace(b"1", b"0"), CERTIFIED[:-1], CERTIFIED + b"x"])) + b"nonce",
+        string(key.key_type + CERTIFIED) + string(b"ssh-connection"),
+    ]
+    return random.choice(texts)
 
 
 def terms(random: Random) -> bytes:

@@ -5,8 +5,8 @@ from __future__ import annotations
 import base64
 import hashlib
 
-from .formats import login, public_key
-from .purposes import is_login, namespace_of
+from .formats import public_key
+from .purposes import kind_of, login_of, namespace_of
 from .rules import Chain, Purposes, Rules, host_of
 
 
@@ -17,15 +17,17 @@ def shown(text: bytes, most: int) -> bytes:
 
 def line_of(blob: bytes, message: bytes, rules: Rules | None, chain: Chain, wall: int) -> bytes:
     """What a message is for; of a login also the host, where the key's constraints name it."""
-    if is_login(message, blob):
-        user = login(message, blob)[1]
+    named = login_of(message, blob)
+    if named is not None:
+        user = named[0]
         host = host_of(rules, chain, user, wall)
         to = b"" if host is None else b" to " + shown(host, 64)
         return b"For a login as " + shown(user, 64) + to + b"."
     namespace = namespace_of(message)
     if namespace is not None:
         return b"For a signature in namespace " + shown(namespace, 64) + b"."
-    return b"For other data of %d bytes." % len(message)
+    texts = {"certificate": b"a certificate of", "maybe": b"what may be a login, of", "other": b"other data of"}
+    return b"For %s %d bytes." % (texts[kind_of(message, blob)], len(message))
 
 
 def question(comment: bytes, blob: bytes, purposes: Purposes, line: bytes) -> bytes:

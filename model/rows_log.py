@@ -159,7 +159,16 @@ BOUND += st(b"keyed-sha256@example.com") + st(K1) + st(K2)
 for kind, message, told in [
     ("a login", PLAIN, 'login as "root"'),
     ("a login that is bound to a host", BOUND, f'login as "root" to {shown(K2)}'),
-    ("a login with another key", PLAIN[:-1] + b"\0", f"other data, {len(PLAIN)} bytes"),
+    ("a login that is bound to what is no key", BOUND[:-68] + st(b"no key"), 'login as "root" to (no key)'),
+    ("a login with another key", PLAIN[:-1] + b"\0", "may be a login, 148 bytes"),
+    ("a flag byte of 2", PLAIN.replace(b"publickey\x01", b"publickey\x02"), "may be a login, 148 bytes"),
+    ("a session without its length", PLAIN[4:], "may be a login, 144 bytes"),
+    ("a byte behind a login", PLAIN + b"x", "may be a login, 149 bytes"),
+    ("a method alone", st(b"hostbased"), "may be a login, 13 bytes"),
+    ("a service alone", st(b"ssh-connection"), "may be a login, 18 bytes"),
+    ("a service's front", st(b"ssh-connectio"), "other data, 17 bytes"),
+    ("a certificate", st(b"ssh-rsa-cert-v01@openssh.com") + st(b"publickey"), "certificate, 45 bytes"),
+    ("another version's certificate", st(b"ssh-rsa-cert-v02@openssh.com"), "other data, 32 bytes"),
 ]:
     row(kind, [*ADDED, *hear(1, sign(K1, message))], [f"{ZERO}  {told}  {KEY1}  no answer yet"])
 

@@ -944,9 +944,9 @@ def forwarded_jumps_and_shared_connections_by_purposes(folder):
 
 @check
 def certificates_by_purposes(folder):
-    """Where ssh sees a certificate and its plain key, it has the plain key sign the login, which names the certificate.
-    That is no login of the plain key's, and so other data for it: two keys for logins then come in where the host
-    allows the plain key, and two for other data come in by the certificate. A certificate alone signs its logins."""
+    """Where ssh sees a certificate and its plain key, it has the plain key sign the login, which names the certificate:
+    that is the plain key's login too, so what is for logins comes in by the certificate, with the plain key or without,
+    and what is for other data comes in nowhere."""
     installed = Installed(folder)
     for kind, bits in (("ed25519", 256), ("rsa", 2048), ("ecdsa", 256)):
         place = folder / kind
@@ -958,22 +958,22 @@ def certificates_by_purposes(folder):
             onward = f"ssh -F {hosts.config} two true"
             ways = (["one", "true"], ["-A", "one", onward])
             comes_in = lambda: all([hosts.ssh(agent, *words)[0] == 0 for words in ways])
-            for purposes, both, alone, allowed in (
-                ("login", False, True, True),
-                ("git", False, False, False),
-                ("sshsig", False, False, False),
-                ("other", True, False, True),
-                ("login,other", True, True, True),
+            for purposes, does in (
+                ("login", True),
+                ("git", False),
+                ("sshsig,other,ca", False),
+                ("other", False),
+                ("login,other", True),
+                ("all", True),
             ):
                 agent.run("ssh-add", "-q", "-D", status=None)
                 run([installed.add, "--any-agent", "-q", "--for", purposes, key], env=environment)
-                hosts.allow()
-                assert comes_in() == both, (kind, purposes)
-                hosts.allow(key)
-                assert comes_in() == allowed, (kind, purposes)
+                for allowed in ((), (key,)):
+                    hosts.allow(*allowed)
+                    assert comes_in() == does, (kind, purposes, allowed)
                 hosts.allow()
                 agent.run("ssh-add", "-q", "-d", "-k", key)
-                assert comes_in() == alone, (kind, purposes)
+                assert comes_in() == does, (kind, purposes)
 
 
 NAMESPACES = {"git": "sshsig:git", "file": "sshsig:file", "my own@example.org": "sshsig:my own@example.org"}
@@ -981,8 +981,8 @@ NAMESPACES = {"git": "sshsig:git", "file": "sshsig:file", "my own@example.org": 
 
 @check
 def files_in_three_namespaces_by_purposes(folder):
-    """By keys of each kind and both digests, and by a certificate. An authority's key in the agent signs certificates,
-    which are other data."""
+    """By keys of each kind and both digests, and by a certificate. An authority's key in the agent signs certificates where
+    it is for these, and else none."""
     installed = Installed(folder)
     keys = [keygen(folder / f"{kind}{bits}", kind, bits) for kind, bits in KINDS]
     certified, authority = keygen(folder / "certified"), keygen(folder / "authority")
@@ -1023,7 +1023,7 @@ def files_in_three_namespaces_by_purposes(folder):
             place = pathlib.Path(shown(certified)).parent / "key-cert.pub"
             shutil.copy(f"{certified}-cert.pub", place)
             assert signs(agent, place, "file") == does, purposes
-        for purposes, does in ((("other",), True), (("login", "sshsig"), False)):
+        for purposes, does in ((("certificate",), True), (("login", "sshsig", "other"), False)):
             add_for(agent, authority, *purposes)
             words = ["ssh-keygen", "-q", "-U", "-s", f"{authority}.pub", "-I", "id", "-n", "me", f"{keys[0]}.pub"]
             assert works(agent, *words) == does, purposes

@@ -804,6 +804,7 @@ WORDS = {
     "sshsig": NAMESPACES,
     "all": NAMESPACES,
     "login,other": (),
+    "ca": (),
 }
 
 

@@ -204,6 +204,23 @@ def make_builds_of_what_is_proved_and_wants_no_package(folder):
 
 
 @check
+def what_make_quick_built_is_called_not_proved_until_make_proves_it(folder):
+    repository = Repository(folder, CRATES)
+    shutil.copy(rig.TOP / "CHANGELOG.md", folder)
+    (folder / "bin").mkdir()
+    built, unproved, mark = folder / "bin/prog", folder / "bin/unproved", "NOT proved: built by make quick: prog\n"
+    for words in ([], ["bin/prog"]):
+        built.write_text("not proved")
+        # As scripts/quick leaves them.
+        os.utime(built, (0, 0))
+        unproved.write_text("prog\n")
+        assert run([folder / "scripts/version"], env=repository.environment).endswith(mark)
+        run(["make", "--no-print-directory", "-C", folder, *words], env=repository.environment)
+        assert built.read_text() == "proved", words
+        assert mark not in run([folder / "scripts/version"], env=repository.environment), words
+
+
+@check
 def a_missing_toolchain_is_told_in_readme_s_words(folder):
     repository = Repository(folder, CRATES)
     (folder / ".ci").mkdir()
@@ -314,7 +331,7 @@ def each_line_of_packages_is_there_and_the_gate_s_has_those_of_all_that_it_runs(
     for name, words in lines.items():
         for word in words.split():
             assert not word.startswith("@") or word[1:] in lines, (name, word)
-    gate = (rig.TOP / ".ci/run").read_text()
+    gate = (rig.TOP / ".ci/checks").read_text()
     for name in re.findall(r"tests/(\w+)\.(?:py|sh)", gate):
         name = "helper_tests" if name == "helper" else name
         assert name not in lines or f"@{name}" in lines["check"], name

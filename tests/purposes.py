@@ -3,7 +3,9 @@
 in three namespaces, ssh logs in, over two hosts too, with a certificate, and where the user is asked. Words choose checks
 by a part of their names."""
 
+import base64
 import pathlib
+import re
 import shutil
 import subprocess
 import sys
@@ -13,12 +15,12 @@ sys.dont_write_bytecode = True
 import rig
 from hosts import USER, Hosts, certify
 from installed import Installed, keygen
-from rig import our_agent, run
+from rig import our_agent, run, string
 
 check = rig.Checks("purposes")
 PROGRAM = rig.agent_program()
 QUIET = dict.fromkeys(("stdin", "stdout", "stderr"), subprocess.DEVNULL)
-# The words of --for, and which it lets: a login, git, a file, another namespace, other data.
+# The words of --for, and which it lets: a login, git, a file, another namespace, a certificate, other data.
 CASES = (
     ("login", "login"),
     ("git", "git"),
@@ -26,14 +28,15 @@ CASES = (
     ("sshsig:my own", "own"),
     ("sshsig", "git file own"),
     ("other", "other"),
+    ("ca", "ca"),
     ("login,git", "login git"),
     ("login,sshsig,other", "login git file own other"),
-    ("all", "login git file own other"),
+    ("all", "login git file own ca other"),
 )
 NAMESPACES = {"git": "git", "file": "file", "own": "my own"}
 # The third line of a question about each; `ssh-add -T` has 1024 random bytes signed (OpenSSH's ssh-add.c, test_key).
 LINES = {name: f"For a signature in namespace {namespace}." for name, namespace in NAMESPACES.items()}
-LINES |= {"login": f"For a login as {USER}.", "other": "For other data of 1024 bytes."}
+LINES |= {"login": f"For a login as {USER}.", "ca": "For a certificate of N bytes.", "other": "For other data of 1024 bytes."}
 
 
 def shown(key):
@@ -82,11 +85,19 @@ def tests(agent, key):
     return done.returncode == 0
 
 
+def certifies(agent, key):
+    """Whether ssh-keygen has the agent sign a user's certificate with the key, as an authority."""
+    subject = pathlib.Path(f"{key}.subject.pub")
+    shutil.copy(f"{key}.pub", subject)
+    words = ["ssh-keygen", "-q", "-U", "-s", shown(key), "-I", "id", "-n", "me", subject]
+    return subprocess.run(list(map(str, words)), env=agent.environment, timeout=60, **QUIET).returncode == 0
+
+
 def does(agent, hosts, key, *words):
     """What a key that the agent has is for."""
     found = {"login"} if hosts.ssh(agent, *words, "one", "echo in") == (0, "in\n") else set()
     found |= {name for name, namespace in NAMESPACES.items() if signs(agent, key, namespace)}
-    return found | ({"other"} if tests(agent, key) else set())
+    return found | ({"ca"} if certifies(agent, key) else set()) | ({"other"} if tests(agent, key) else set())
 
 
 def added(installed, agent, *words, status=0, **more):
@@ -106,7 +117,7 @@ def a_key_signs_what_it_was_added_for(folder):
             assert does(agent, hosts, key) == set(wanted.split()), words
         # A key that is added again has the purposes of the addition, and without any it is for everything.
         added(installed, agent, key)
-        assert does(agent, hosts, key) == set("login git file own other".split())
+        assert does(agent, hosts, key) == set("login git file own ca other".split())
         # What --for names twice in a line, and what one word names for two.
         assert added(installed, agent, "--for", "git", "--for", "login", key).endswith("for sshsig:git, login alone\n")
         assert does(agent, hosts, key) == {"git", "login"}
@@ -162,10 +173,8 @@ def a_login_over_two_hosts_with_a_certificate_too(folder):
         for who in (key, certified):
             for words, logs_in, commit in (("login", True, False), ("git", False, True), ("login,git", True, True)):
                 agent.run("ssh-add", "-q", "-D")
+                # Where ssh sees both it has the plain key sign the login that names the certificate.
                 added(installed, agent, "-q", "--for", words, who)
-                if who is certified:
-                    # ssh would have the plain key sign the login that names the certificate, which is none of that key's.
-                    added(installed, agent, "-qdk", who)
                 assert (hosts.ssh(agent, "one", "echo in") == (0, "in\n")) == logs_in, (who.name, words)
                 assert (over() == (0, "in\n")) == logs_in, (who.name, words)
                 assert who is certified or commits(folder, agent, who) == commit, (who.name, words)
@@ -204,7 +213,8 @@ def nobody_is_asked_about_what_a_key_is_not_for(folder):
             agent.run("ssh-add", "-q", "-D")
             added(installed, agent, "-q", "-c", "--for", purposes, key)
             assert does(agent, hosts, key) == set(wanted.split()), purposes
-            questions = asked.read_text().split("\n--\n")[:-1]
+            # A certificate's length is none of this test's.
+            questions = re.sub(r"(certificate of) \d+", r"\1 N", asked.read_text()).split("\n--\n")[:-1]
             assert len(questions) == len(wanted.split()), (purposes, questions)
             fingerprint = run(["ssh-keygen", "-lf", f"{key}.pub"]).split()[1]
             begin = f"Allow use of key key?\nKey fingerprint {fingerprint}.\n"
@@ -260,6 +270,21 @@ def purposes_beside_destinations_uses_and_lifetimes(folder):
         assert hosts.ssh(agent, "one", "echo in")[0] == 255 and not signs(agent, key, "file") and not tests(agent, key)
         assert signs(agent, key, "git")
         assert "no identities" in agent.run("ssh-add", "-l", status=1)
+
+
+@check
+def an_rsa_key_with_purposes_does_not_sign_by_sha1(folder):
+    """Nor does its certificate; one without purposes does (draft-miller-ssh-agent, "Signature flags")."""
+    installed, key = Installed(folder), keygen(folder / "key", kind="rsa")
+    certify(keygen(folder / "authority"), key, "-n", USER)
+    blobs = [base64.b64decode(pathlib.Path(f"{key}{end}.pub").read_text().split()[1]) for end in ("", "-cert")]
+    with our_agent(PROGRAM, folder) as agent, agent.peer() as peer:
+        for words, by_sha1 in (([], True), (["--for", "other"], False), (["--for", "all"], False)):
+            added(installed, agent, "-q", *words, key)
+            for blob in blobs:
+                for flags in (0, 1, 8, 2, 4, 6):
+                    reply = peer.ask(rig.SIGN, string(blob), string(b"other data"), flags.to_bytes(4, "big"))
+                    assert (reply[0] == rig.SIGNATURE) == (by_sha1 or flags & 6 != 0), (words, flags)
 
 
 @check

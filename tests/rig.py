@@ -432,16 +432,21 @@ class Checks:
 
     def run(self, words):
         """Runs all checks, or those of the parts that the words name, and those that have another word in their names.
-        The process ends with 1 where one failed."""
+        The process ends with 1 where one failed, and with 2, and nothing run, where a word chooses none."""
         # In a script's background these are ignored, and so they would be by all that is started here.
         signal.signal(signal.SIGINT, signal.default_int_handler)
         signal.signal(signal.SIGHUP, signal.SIG_DFL)
-        parts, chosen = {part for part, _ in self.cases}, []
+        parts, chosen, lacking = {part for part, _ in self.cases}, [], set(words)
         for part, case in self.cases:
             what = spoken(case)
             named = lambda word: word == part if word in parts else word.replace("_", " ") in what
-            if any(map(named, words)) or not words and case not in self.named:
+            naming = set(filter(named, words))
+            lacking -= naming
+            if naming or not words and case not in self.named:
                 chosen.append(case)
+        if lacking:
+            print(f"{self.name}: no check has {min(lacking, key=words.index)!r} in its name", file=sys.stderr)
+            sys.exit(2)
         counts = dict.fromkeys(("passed", "failed", "skipped"), 0)
 
         def tell(end, said):

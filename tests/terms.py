@@ -132,6 +132,7 @@ def purposes_become_a_constraint(folder):
         (
             (["-p", "login"], purposes(b"login")),
             (["-p", "sshsig:git", "-p", "other", "-p", "sshsig"], purposes(b"sshsig:git", b"other", b"sshsig")),
+            (["-p", "certificate"], purposes(b"certificate")),
             (["-p", "sshsig:my own", "-u", "7", "-p", "login"], uses(7) + purposes(b"sshsig:my own", b"login")),
             (["-p", "sshsig:" + "n" * 248], purposes(b"sshsig:" + b"n" * 248)),
             (many, purposes(*(b"sshsig:%d" % number for number in range(64)))),

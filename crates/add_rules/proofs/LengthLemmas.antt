@@ -1,6 +1,5 @@
 -- Lengths of what is written, by its parts.
 use Rattle.std.proofs.Common.{◌≡◌, ◌<◌, ◌≤◌, ◌+◌, ◌^◌, ℕ, List, [], ◌∷◌, ◌++◌, map, take, length, get_or, Some, refl, sym, ap, ◌∙◌, arith, length-append}
-use Rattle.std.specs.Prelude.{All}
 use Rattle.std.specs.List.{flat_map}
 use Rattle.std.proofs.lemmas.List.{take_more, take_all, flat_map_more}
 use Rattle.std.proofs.lemmas.List.Folds.{flat_map-map}
@@ -12,7 +11,7 @@ use Rattle.constraint_rec.specs.declared.constraint.Constraint.{Constraint}
 use Rattle.constraint_rec.specs.declared.terms.Terms.{Terms}
 use Rattle.constraint_rec.specs.Constraints.{item_text, purposes_name, purposes_text, restrict_destination, uses_name}
 use Rattle.key_purposes.specs.declared.purpose.Purpose.{Purpose}
-use Rattle.constraint_rec.specs.Hops.{key_text, hop_text, constraint_text, list_text, IsDestination}
+use Rattle.constraint_rec.specs.Hops.{key_text, hop_text, constraint_text, list_text}
 use Rattle.constraint_rec.specs.Writing.{is_ca_byte, spelt_key, spelt_hop, spelt_constraint, life_items, confirm_items, use_items, rule_items, purpose_items, constraints_bytes, IsWritable, MeetsRules}
 use Rattle.constraint_rec.proofs.WritingLemmas.{constraints_in_parts}
 

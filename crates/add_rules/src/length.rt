@@ -96,6 +96,7 @@ fn word_len(purpose: &Purpose) -> usize
 {
     match purpose {
         Purpose::Login | Purpose::Other => 5,
+        Purpose::Certificate => 11,
         Purpose::Namespace(namespace) => namespace.len().saturating_add(7),
         Purpose::AnyNamespace => 6,
     }

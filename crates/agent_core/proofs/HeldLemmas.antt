@@ -163,7 +163,7 @@ undenied (Some cause) permits = absurd (cc)
 -- what comes of it where the agent isn't locked, the key is held and its constraints permit it
 pub served-signed : (asker : CoreAsker) (key : HeldKey) (signing : Signing) (held : KeyState) (under_way : UnderWay) → held.lock ≡ None
     → find_identity signing.blob held.table.identities ≡ Some key
-    → objection key signing.blob asker.chain.now.bindings signing.message asker.wall ≡ None
+    → objection key signing.blob asker.chain.now.bindings signing.message signing.flags asker.wall ≡ None
     → sign_work key.confirm asker key signing.message signing.flags under_way
     ≡ (served_by asker (Sign signing) held under_way).work
 served-signed asker key signing held under_way unlocked found permitted =

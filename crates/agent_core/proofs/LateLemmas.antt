@@ -1,5 +1,5 @@
 -- What a moment brings, one after another in the agent's parts.
-use Rattle.std.proofs.Common.{◌≡◌, ◌∙◌, ℕ, ◌+◌, ◌-◌, suc, List, [], ◌∷◌, ◌++◌, length, Option, Some, None, IsSome, refl, ap, arith, subst, sym, cond, eqb, Bool, true, false}
+use Rattle.std.proofs.Common.{◌≡◌, ◌∙◌, ℕ, suc, List, [], ◌∷◌, ◌++◌, length, Option, Some, None, IsSome, refl, ap, arith, subst, sym, cond, eqb, Bool, true, false}
 use Rattle.world_ports.specs.declared.Moment.{Moment}
 use Rattle.std.specs.Option.{IsSomeAnd, option_map}
 use Rattle.confirm_desk.specs.Confirmations.{Confirmation, find_job, job_of, remove_job}

@@ -19,19 +19,20 @@ granted_unless (Some cause) key = None
 granted_unless None key = Some key
 
 -- the key of a consent, by whether its addition is still held
-abbrev pub granted_with : Option HeldKey → List Binding → List ℕ → ℕ → Option HeldKey
-granted_with None chain message wall = None
-granted_with (Some key) chain message wall =
-    granted_unless (objection key key.blob chain message wall) key
+abbrev pub granted_with : Option HeldKey → List Binding → List ℕ → (flags wall : ℕ) → Option HeldKey
+granted_with None chain message flags wall = None
+granted_with (Some key) chain message flags wall =
+    granted_unless (objection key key.blob chain message flags wall) key
 
 -- the key of a consent, by whether the agent is locked by now
-abbrev pub granted_by : Option (List ℕ) → ℕ → List HeldKey → List Binding → List ℕ → ℕ → Option HeldKey
-granted_by (Some passphrase) addition keys chain message wall = None
-granted_by None addition keys chain message wall = granted_with (find_number addition keys) chain message wall
+abbrev pub granted_by : Option (List ℕ) → ℕ → List HeldKey → List Binding → List ℕ → (flags wall : ℕ) → Option HeldKey
+granted_by (Some passphrase) addition keys chain message flags wall = None
+granted_by None addition keys chain message flags wall = granted_with (find_number addition keys) chain message flags wall
 
--- the key of an addition, where it may sign the message now, for a connection with this chain
-abbrev pub granted_key : ℕ → List Binding → List ℕ → ℕ → KeyState → Option HeldKey
-granted_key addition chain message wall held = granted_by held.lock addition held.table.identities chain message wall
+-- the key of an addition, where it may sign the message with these flags now, for a connection with this chain
+abbrev pub granted_key : ℕ → List Binding → List ℕ → (flags wall : ℕ) → KeyState → Option HeldKey
+granted_key addition chain message flags wall held =
+    granted_by held.lock addition held.table.identities chain message flags wall
 
 -- a key that fits a message to the helper, with what a client may send
 abbrev pub IsShortKey : HeldKey → Type 0

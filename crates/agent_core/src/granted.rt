@@ -26,36 +26,45 @@ use key_purposes::let_sign;
 use std::alloc::AllocError;
 use under_way::UnderWay;
 
-/// The key of an addition, where it is held yet, the agent isn't locked and the key may sign the message now.
+/// The key of an addition, where it is held yet, the agent isn't locked and the key may sign the message with these
+/// flags now.
 pub fn find_granted<'a>(
     table: &'a Table,
     lock: &Lock,
     addition: u64,
     chain: &Chain,
     message: &[u8],
+    flags: u32,
     wall: u64,
 ) -> Option<&'a Identity>
     ensures value { option_copied result
-        ≡ granted_by lock.now addition table.now.identities chain.now.bindings message.now wall }
+        ≡ granted_by lock.now addition table.now.identities chain.now.bindings message.now flags wall }
     ensures short { IfSome result (λ key. IsShortKey key.now) }
 {
     if lock.is_locked() {
         return None;
     }
     let key = table.by_number(addition)?;
-    if !permits(key, key.blob(), chain, message, wall) {
+    if !permits(key, key.blob(), chain, message, flags, wall) {
         return None;
     }
     Some(key)
 }
 
-/// Whether the purposes and the constraints of the key, which has this blob, permit a signature of the message for a
-/// connection so bound.
+/// Whether the purposes and the constraints of the key, which has this blob, permit a signature of the message with
+/// these flags for a connection so bound.
 #[tactic(auto, using(crate::proofs::HeldLemmas::no_objection))]
-pub fn permits(key: &Identity, blob: &[u8], chain: &Chain, message: &[u8], wall: u64) -> bool
-    ensures { result ≡ is_none (objection key.now blob.now chain.now.bindings message.now wall) }
+pub fn permits(
+    key: &Identity,
+    blob: &[u8],
+    chain: &Chain,
+    message: &[u8],
+    flags: u32,
+    wall: u64,
+) -> bool
+    ensures { result ≡ is_none (objection key.now blob.now chain.now.bindings message.now flags wall) }
 {
-    let_sign(key.purposes(), message, blob)
+    let_sign(key.purposes(), message, blob, flags)
         && permits_destination(key.rules(), blob, chain, message, wall)
 }
 
@@ -123,7 +132,7 @@ fn ask_granted(
         unreachable!()
     };
     let message = held.message.as_slice();
-    match keys.find_granted(held.addition, chain, message, wall) {
+    match keys.find_granted(held.addition, chain, message, held.flags, wall) {
         Some(key) => Ok(under_way.put_sign(held.asker, key, message, held.flags)?),
         None => Ok(None),
     }

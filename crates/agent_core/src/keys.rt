@@ -132,17 +132,28 @@ impl Keys {
 }
 
 impl Keys {
-    /// The key of an addition, where it is held yet, the agent isn't locked and the key may sign the message now.
+    /// The key of an addition, where it is held yet, the agent isn't locked and the key may sign the message with these
+    /// flags now.
     pub fn find_granted(
         &self,
         addition: u64,
         chain: &Chain,
         message: &[u8],
+        flags: u32,
         wall: u64,
     ) -> Option<&Identity>
-        ensures value { option_copied result ≡ granted_key addition chain.now.bindings message.now wall self.now }
+        ensures value { option_copied result
+            ≡ granted_key addition chain.now.bindings message.now flags wall self.now }
         ensures short { IfSome result (λ key. IsShortKey key.now) }
     {
-        find_granted(&self.table, &self.lock, addition, chain, message, wall)
+        find_granted(
+            &self.table,
+            &self.lock,
+            addition,
+            chain,
+            message,
+            flags,
+            wall,
+        )
     }
 }

@@ -100,7 +100,7 @@ fn put_signing(
         return Ok(REFUSED);
     }
     match table.find(blob) {
-        Some(key) if permits(key, blob, asker.chain, message, asker.wall) => {
+        Some(key) if permits(key, blob, asker.chain, message, flags, asker.wall) => {
             sign_with(asker, under_way, key, message, flags)
         }
         _ => Ok(REFUSED),

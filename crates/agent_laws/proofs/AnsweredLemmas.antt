@@ -1,5 +1,5 @@
 -- A client gets the helper's answer to its own request.
-use Rattle.std.proofs.Common.{◌≡◌, List, ℕ, ap, sym, ◌∙◌}
+use Rattle.std.proofs.Common.{List, ap, ◌∙◌}
 use Rattle.agent_model.specs.Events.{Timed}
 use Rattle.agent_model.specs.Fates.{fate_of}
 use Rattle.agent_model.specs.Runs.{run}

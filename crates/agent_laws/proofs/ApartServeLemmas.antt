@@ -1,5 +1,5 @@
 -- Lemmas on specs/Apart.antt: what an outsider is replied.
-use Rattle.std.proofs.Common.{◌≡◌, ℕ, List, [], ◌∷◌, refl, ap, sym, subst, ◌∙◌, Option, Some, None, Bool, true, false, Result, Ok, Err, ◌==◌, ◌+◌, nat_lt, if◌then◌else◌}
+use Rattle.std.proofs.Common.{◌≡◌, ℕ, List, [], ◌∷◌, refl, ap, sym, subst, ◌∙◌, Option, Some, None, Bool, true, false, Result, Ok, Err, ◌==◌, ◌+◌, if◌then◌else◌}
 use Rattle.std.specs.Option.{IfSome}
 use Rattle.std.specs.Str.{bytes_eq}
 use Rattle.agent_msg.specs.Requests.{Addition, BindRequest, ClientRequest, Signing, ListIdentities, Sign, Add, Remove, RemoveAll, Lock, Unlock, Bind, OtherExtension, Unsupported}
@@ -64,13 +64,13 @@ module _ (who : Insiders) (moment : Moment) (port : Port) (one two : KeyState) (
       → (signing : Signing)
       → (cause : Cause) × (sign_by found_key asker signing under_way ≡ settles (Refuses cause) under_way)
   unsigned None hidden signing = (NotHeld, refl)
-  unsigned (Some key) hidden signing = by_objection (objection key signing.blob port.chain signing.message moment.wall) refl
+  unsigned (Some key) hidden signing = by_objection (objection key signing.blob port.chain signing.message signing.flags moment.wall) refl
     where
       by_objection : (result : Option Cause)
-          → objection key signing.blob port.chain signing.message moment.wall ≡ result
+          → objection key signing.blob port.chain signing.message signing.flags moment.wall ≡ result
           → (cause : Cause) × (sign_unless result key.confirm asker key signing under_way ≡ settles (Refuses cause) under_way)
       by_objection None is = absurd (unseen-denied key.rules signing.blob port.chain signing.message moment.wall port.attempted hidden
-          (both_permit (let_sign key.purposes signing.message signing.blob)
+          (both_permit (let_sign key.purposes signing.message signing.blob signing.flags)
           (denial_under key.rules signing.blob port.chain signing.message moment.wall) is).1)
       by_objection (Some cause) is = (cause, refl)
 
@@ -125,7 +125,7 @@ module _ (who : Insiders) (moment : Moment) (port : Port) (one two : KeyState) (
         → find_identity signing.blob two.table.identities ≡ second → FindsAlike who first second
         → Alike (uses one (sign_by first asker signing under_way)) (uses two (sign_by second asker signing under_way))
     signed-by is is_two neither = record { held = alike; reply = same_work _; calm = refl }
-    signed-by is is_two (found key number plain) = signed_unless (objection key signing.blob port.chain signing.message moment.wall) key number is is_two plain
+    signed-by is is_two (found key number plain) = signed_unless (objection key signing.blob port.chain signing.message signing.flags moment.wall) key number is is_two plain
 
   signs-alike : (signing : Signing)
       → Alike (serve_unlocked (Sign signing) asker one under_way) (serve_unlocked (Sign signing) asker two under_way)

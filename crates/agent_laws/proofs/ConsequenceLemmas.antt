@@ -30,7 +30,7 @@ pub record IsMetAt (life : Option ℕ) (past : List Stamped) (claim : Claim) : T
   pub added : PastAddition
   pub last : last_addition claim.signing.blob past ≡ Some added
   pub consented : is_consented claim.addition added ≡ true
-  pub suits : let_sign added.addition.terms.purposes claim.signing.message claim.signing.blob ≡ true
+  pub suits : let_sign added.addition.terms.purposes claim.signing.message claim.signing.blob claim.signing.flags ≡ true
   pub permitted : denial_under added.addition.terms.rules claim.signing.blob (proved_of claim.port past) claim.signing.message newest.moment.wall ≡ None
   pub few : length (open_asks past) < 256
   pub light : sum_by (λ (one : ℕ × ℕ). one.1) (open_asks past) < 8388608
@@ -70,7 +70,7 @@ module _ (life : Option ℕ) (newest : Stamped) (rest : List Stamped) (claim : C
   by_held (Some added) is claims met =
       let few : Bool = nat_lt (length (open_asks whole)) 256 in
       let light : Bool = nat_lt (sum_by (λ (one : ℕ × ℕ). one.1) (open_asks whole)) 8388608 in
-      let parts = five_parts (is_consented claim.addition added) (let_sign added.addition.terms.purposes claim.signing.message claim.signing.blob) (is_none (denial_under added.addition.terms.rules claim.signing.blob (proved_of claim.port whole) claim.signing.message newest.moment.wall)) (few && light) (not (was_locked whole)) met in
+      let parts = five_parts (is_consented claim.addition added) (let_sign added.addition.terms.purposes claim.signing.message claim.signing.blob claim.signing.flags) (is_none (denial_under added.addition.terms.rules claim.signing.blob (proved_of claim.port whole) claim.signing.message newest.moment.wall)) (few && light) (not (was_locked whole)) met in
       let places = both_parts few light parts.3 in
       record {
         newest = newest;

@@ -1,7 +1,6 @@
 -- What a request puts to the helper is what is due behind it.
-use Rattle.std.proofs.Common.{◌≡◌, ℕ, ◌-◌, ◌^◌, ◌<◌, List, map, length, refl, ap, arith, sym, subst, ◌∙◌, Option, Some, None, IsSomeAnd, Bool, true, false, is_some, nat_lt, not, ◌&&◌, Result, Ok, Err, inl, inr, if◌then◌else◌}
+use Rattle.std.proofs.Common.{◌≡◌, ℕ, ◌-◌, ◌^◌, ◌<◌, List, refl, ap, arith, sym, subst, ◌∙◌, Option, Some, None, IsSomeAnd, Bool, true, false, is_some, not, ◌&&◌, Result, Ok, Err, inl, inr, if◌then◌else◌}
 use Rattle.std.specs.Option.{is_none, option_map}
-use Rattle.std.proofs.lemmas.Bool.Decides.{nat_tests}
 use Rattle.agent_msg.specs.declared.fault.MsgFault.{MsgFault}
 use Rattle.agent_msg.specs.Requests.{ClientRequest, Signing, ListIdentities, Sign, Add, Remove, RemoveAll, Lock, Unlock, Bind, OtherExtension, Unsupported}
 use Rattle.dest_rule.specs.Rules.{denial_under}
@@ -9,7 +8,6 @@ use Rattle.dest_rule.specs.declared.denial.Denial.{Denial}
 use Rattle.key_purposes.specs.Messages.{let_sign}
 use Rattle.dest_rule.specs.declared.binding.Binding.{Binding}
 use Rattle.helper_link.specs.HelperLink.{is_full}
-use Rattle.helper_link.specs.declared.ask.Ask.{Ask}
 use Rattle.identity_table.specs.Identities.{HeldKey, find_identity}
 use Rattle.identity_table.proofs.FindLemmas.{if_alive}
 use Rattle.agent_model.specs.Actions.{Work, settles}
@@ -107,7 +105,7 @@ module _ (life : Option ℕ) (asker : Asker) (facts : Facts) (held : KeyState) (
     -- the four tests, the first two by the key
     abbrev permits : HeldKey → Bool
     permits key =
-        is_none (objection key signing.blob asker.chain signing.message asker.wall)
+        is_none (objection key signing.blob asker.chain signing.message signing.flags asker.wall)
 
     abbrev few : Bool
     few = is_place opens
@@ -116,7 +114,7 @@ module _ (life : Option ℕ) (asker : Asker) (facts : Facts) (held : KeyState) (
     by_key : (past : PastAddition)
         → is_due (Some past) ≡ (is_consented None past && (permits (key_of life past) && (few && not facts.locked)))
     by_key past =
-        as_one (is_consented None past) (let_sign past.addition.terms.purposes signing.message signing.blob)
+        as_one (is_consented None past) (let_sign past.addition.terms.purposes signing.message signing.blob signing.flags)
         (denial_under past.addition.terms.rules signing.blob asker.chain signing.message asker.wall) (few && not facts.locked)
 
     -- what is due is by the parts of the key

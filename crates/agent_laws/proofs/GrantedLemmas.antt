@@ -1,5 +1,5 @@
 -- The user's consent puts what is due behind it, and the end of a confirmation agrees with the past.
-use Rattle.std.proofs.Common.{◌≡◌, ◌≢◌, ℕ, ◌+◌, ◌-◌, ◌^◌, ◌<◌, List, [], ◌∷◌, ◌++◌, map, length, refl, ap, arith, sym, subst, ◌∙◌, Option, Some, None, IsSomeAnd, Bool, true, false, is_some, nat_lt, not, ◌&&◌, ◌==◌, if◌then◌else◌}
+use Rattle.std.proofs.Common.{◌≡◌, ◌≢◌, ℕ, ◌+◌, ◌-◌, ◌^◌, ◌<◌, List, [], ◌∷◌, ◌++◌, refl, ap, arith, sym, subst, ◌∙◌, Option, Some, None, IsSomeAnd, Bool, true, false, is_some, not, ◌&&◌, ◌==◌, if◌then◌else◌}
 use Rattle.std.specs.Option.{is_none, option_map}
 use Rattle.std.proofs.lemmas.Bool.{false_from_ne_true}
 use Rattle.std.proofs.lemmas.Bool.Decides.{nat_tests}
@@ -10,7 +10,6 @@ use Rattle.key_purposes.specs.Messages.{let_sign}
 use Rattle.dest_rule.specs.declared.binding.Binding.{Binding}
 use Rattle.dest_rule.specs.declared.denial.Denial.{Denial}
 use Rattle.helper_link.specs.HelperLink.{is_full}
-use Rattle.helper_link.specs.declared.ask.Ask.{Ask}
 use Rattle.identity_table.specs.Identities.{HeldKey, find_identity, find_number}
 use Rattle.identity_table.proofs.FindLemmas.{found_has, if_alive}
 use Rattle.identity_table.proofs.NumberLaws.{blob_of_numbered, number_of_found}
@@ -101,7 +100,7 @@ module _ (life : Option ℕ) (second wall : ℕ) (facts : Facts) (held : KeyStat
 
   abbrev permits : HeldKey → Bool
   permits key =
-      is_none (objection key raising.signing.blob chain raising.signing.message wall)
+      is_none (objection key raising.signing.blob chain raising.signing.message raising.signing.flags wall)
 
   abbrev few : Bool
   few = is_place opens
@@ -127,7 +126,7 @@ module _ (life : Option ℕ) (second wall : ℕ) (facts : Facts) (held : KeyStat
   by_key : (past : PastAddition)
       → is_due (Some past) ≡ ((past.number == raising.addition) && (permits (key_of life past) && (few && not facts.locked)))
   by_key past =
-      as_one (past.number == raising.addition) (let_sign past.addition.terms.purposes raising.signing.message raising.signing.blob)
+      as_one (past.number == raising.addition) (let_sign past.addition.terms.purposes raising.signing.message raising.signing.blob raising.signing.flags)
       (denial_under past.addition.terms.rules raising.signing.blob chain raising.signing.message wall) (few && not facts.locked)
 
   by_made : (key : HeldKey) (made : Made life held_now key)
@@ -138,12 +137,14 @@ module _ (life : Option ℕ) (second wall : ℕ) (facts : Facts) (held : KeyStat
   few_is = ap is_place same ∙ place-same under_way.link.asks
 
   denies_as : (key : HeldKey) → key.blob ≡ raising.signing.blob
-      → objection key raising.signing.blob chain raising.signing.message wall ≡ objection key key.blob chain confirmation.message wall
-  denies_as key is = ap (λ b. objection key b chain raising.signing.message wall) (sym is) ∙ ap (λ m. objection key key.blob chain m wall) message
+      → objection key raising.signing.blob chain raising.signing.message raising.signing.flags wall ≡ objection key key.blob chain confirmation.message confirmation.flags wall
+  denies_as key is =
+      ap (λ b. objection key b chain raising.signing.message raising.signing.flags wall) (sym is) ∙ ap (λ m. objection key key.blob chain m raising.signing.flags wall) message
+      ∙ ap (λ f. objection key key.blob chain confirmation.message f wall) flags
 
   -- what may be granted is due
   grantable-due : (key : HeldKey)
-      → IsGrantable key chain confirmation.addition confirmation.message wall held
+      → IsGrantable key chain confirmation.addition confirmation.message confirmation.flags wall held
       → HasPlace under_way.link.asks → due ≡ Some claim
   grantable-due key may room =
       let by = made key may.found in
@@ -155,7 +156,7 @@ module _ (life : Option ℕ) (second wall : ℕ) (facts : Facts) (held : KeyStat
 
   -- what is due may be granted
   due-grantable : (now : Option PastAddition) → held_now ≡ now → is_due now ≡ true
-      → (key : HeldKey) × IsGrantable key chain confirmation.addition confirmation.message wall held
+      → (key : HeldKey) × IsGrantable key chain confirmation.addition confirmation.message confirmation.flags wall held
   due-grantable None is met = absurd (cc)
   due-grantable (Some past) is met =
       let key : HeldKey = key_of life past in
@@ -172,7 +173,7 @@ module _ (life : Option ℕ) (second wall : ℕ) (facts : Facts) (held : KeyStat
         },
       )
 
-  never-due : ((key : HeldKey) → IsGrantable key chain confirmation.addition confirmation.message wall held → ⊥)
+  never-due : ((key : HeldKey) → IsGrantable key chain confirmation.addition confirmation.message confirmation.flags wall held → ⊥)
       → due ≡ None
   never-due never =
       ap (λ b. if b then Some claim else None) (false_from_ne_true (is_due held_now) (λ met. let may = due-grantable held_now refl met in never may.0 may.1))
@@ -180,7 +181,7 @@ module _ (life : Option ℕ) (second wall : ℕ) (facts : Facts) (held : KeyStat
   -- where an ask can't be put it is for want of room alone
   full-not : {N : Type 0} → (N → under_way.link.last < 2 ^ 64 - 1)
       → (N → under_way.last_job < 2 ^ 64 - 1) → (key : HeldKey)
-      → IsGrantable key chain confirmation.addition confirmation.message wall held → {cause : Cause}
+      → IsGrantable key chain confirmation.addition confirmation.message confirmation.flags wall held → {cause : Cause}
       → RoomFor under_way (Some cause) → N → due ≡ None
   full-not left jobs key may (full more) n =
       let by = made key may.found in
@@ -245,7 +246,7 @@ module _ {N : Type 0} (life : Option ℕ) (past : List Stamped) (confirmation : 
 
   -- with the private string of that addition
   granted_message : (key : HeldKey)
-      → IsGrantable key port.chain confirmation.addition confirmation.message state.moment.wall state.held
+      → IsGrantable key port.chain confirmation.addition confirmation.message confirmation.flags state.moment.wall state.held
       → IsMessage behind (asking_of (Signs key (signing_of key confirmation)) confirmation.asker (state.under_way.link.last + 1)) (message_of (Signs key (signing_of key confirmation)) (state.under_way.link.last + 1))
   granted_message key may =
       let found = blob_of_numbered confirmation.addition state.held.table.identities key holds_behind.own may.found in
@@ -253,7 +254,7 @@ module _ {N : Type 0} (life : Option ℕ) (past : List Stamped) (confirmation : 
       (private-held life state.moment.mono behind state.held key.blob key holds_behind (opened.fresh key.blob) found)
 
   goes-put : (key : HeldKey)
-      → IsGrantable key port.chain confirmation.addition confirmation.message state.moment.wall state.held
+      → IsGrantable key port.chain confirmation.addition confirmation.message confirmation.flags state.moment.wall state.held
       → HasPlace state.under_way.link.asks
       → Goes N life past state (grant_concluded (put_unless None (Signs key (signing_of key confirmation)) confirmation.asker left_over) confirmation state)
   goes-put key may room =

@@ -1,5 +1,5 @@
 -- The count of link faults is how often the helper was lost.
-use Rattle.std.proofs.Common.{◌≡◌, ◌≤◌, ◌+◌, ◌-◌, ◌^◌, ℕ, List, [], ◌∷◌, ◌++◌, refl, ap, arith, sym, subst, ◌∙◌, Option, Some, None, min}
+use Rattle.std.proofs.Common.{◌≡◌, ◌≤◌, ◌+◌, ◌-◌, ◌^◌, ℕ, List, [], ◌∷◌, refl, arith, sym, subst, Option, Some, None, min}
 use Rattle.std.proofs.lemmas.List.Sums.{sum_by-append, sum_by-cons}
 use Rattle.world_ports.specs.declared.Moment.{Moment}
 use Rattle.wire_text.specs.Frames.{front_body}
@@ -7,7 +7,7 @@ use Rattle.confirm_desk.specs.Confirmations.{Confirmation}
 use Rattle.dest_rule.specs.declared.binding.Binding.{Binding}
 use Rattle.helper_link.specs.Telling.{Telling, telling}
 use Rattle.helper_link.specs.declared.fault.LinkFault.{LinkFault}
-use Rattle.agent_model.specs.Actions.{Action, Granted, Lost, Outcome, Requested, Requesting, Work, acted, behind}
+use Rattle.agent_model.specs.Actions.{Action, Granted, Outcome, Requested, Requesting, Work, acted, behind}
 use Rattle.agent_model.specs.Answers.{Answering, answers_in, helper_tells, lose_if, with_answers}
 use Rattle.agent_model.specs.Binds.{agent_request_of}
 use Rattle.agent_model.specs.Dispatch.{Asker, Served, serve}

@@ -1,14 +1,13 @@
 -- The messages of asks, one behind another, and the private string of a key that is held.
-use Rattle.std.proofs.Common.{◌≡◌, ◌≤◌, ◌+◌, ◌&&◌, ℕ, List, [], ◌∷◌, ◌++◌, refl, ap, arith, sym, subst, ◌∙◌, Option, Some, None, Bool, true, false, if◌then◌else◌, Result, Ok}
-use Rattle.std.specs.Option.{option_map}
+use Rattle.std.proofs.Common.{◌≡◌, ◌+◌, ◌&&◌, ℕ, List, [], ◌∷◌, ◌++◌, refl, ap, arith, sym, subst, ◌∙◌, Option, Some, None, Bool, true, false, if◌then◌else◌, Result, Ok}
 use Rattle.world_ports.specs.declared.Moment.{Moment}
 use Rattle.agent_msg.specs.declared.fault.MsgFault.{MsgFault}
-use Rattle.agent_msg.specs.Requests.{Bind, BindRequest, ClientRequest, Sign, Signing}
+use Rattle.agent_msg.specs.Requests.{ClientRequest, Sign, Signing}
 use Rattle.child_msg.specs.Messages.{ToChildMessage}
 use Rattle.helper_link.specs.HelperLink.{sign_request}
 use Rattle.identity_table.specs.Identities.{HeldKey, find_identity}
 use Rattle.identity_table.proofs.FindLemmas.{found_has, if_alive}
-use Rattle.agent_model.specs.Actions.{Action, Asked, Asking, ForSignature, Requested, Requesting}
+use Rattle.agent_model.specs.Actions.{Action, Asked, Requested, Requesting}
 use Rattle.agent_model.specs.Binds.{agent_request_of}
 use Rattle.agent_model.specs.Dispatch.{Asker, Served}
 use Rattle.agent_model.specs.Errands.{Errand, Signs, Verifies, asking_of, message_of}
@@ -20,7 +19,7 @@ use Rattle.agent_model.proofs.ServeLemmas.{Serves, adds, confirms, denies, empti
 use Rattle.agent_laws.specs.History.{onto}
 use Rattle.agent_laws.specs.Past.{PastAddition, added_by, addition_count, done_of_request, has_uses, held_by, is_alive, last_addition}
 use Rattle.agent_laws.specs.Puts.{ArePut, IsMessage, asks, none, passes, signs, verifies}
-use Rattle.agent_laws.proofs.HoldsLemmas.{Holds, Made, facts_of, key_of, made_of}
+use Rattle.agent_laws.proofs.HoldsLemmas.{Holds, Made, facts_of, made_of}
 use Rattle.agent_laws.proofs.PastLemmas.{stamp, stamps, stamps-append}
 use Rattle.agent_laws.proofs.SilentLemmas.{AreSilent, no_ask}
 

@@ -1,14 +1,16 @@
 -- A key that was added for some purposes signs for these alone.
-use Rattle.std.proofs.Common.{◌≡◌, ◌≢◌, ℕ, ◌^◌, ◌<◌, List, [], ◌∷◌, ◌++◌, length, All, Option, Some, None, IfSome, Bool, true, false, cond, refl, sym, ap, subst, ◌∙◌, inl, inr, ◌⊎◌}
+use Rattle.std.proofs.Common.{◌≡◌, ◌≢◌, ℕ, ◌^◌, ◌<◌, List, [], ◌∷◌, ◌++◌, length, All, Option, Some, None, IfSome, Bool, true, false, cond, refl, sym, ap, subst, ◌∙◌, inl, inr}
 use Rattle.std.specs.Option.{option_map}
 use Rattle.std.specs.Str.{bytes_eq}
+use Rattle.std.specs.Prelude.{not}
+use Rattle.std.proofs.lemmas.Bool.{and_parts, not-true}
 use Rattle.std.proofs.lemmas.List.Elements.{All-head, All-tail}
 use Rattle.std.proofs.lemmas.Slice.Eq.{bytes_eq-Decides}
 use Rattle.wire_text.specs.Wire.{IsBytes}
-use Rattle.key_purposes.specs.Messages.{IsFor, IsForLogin, IsForNamespace, IsForOne, are_for, let_sign}
+use Rattle.key_purposes.specs.Messages.{IsFor, IsForLogin, IsForNamespace, IsForOne, IsNarrow, are_for, is_by_sha1, let_sign, suit}
 use Rattle.key_purposes.specs.declared.purpose.Purpose.{Purpose}
-use Rattle.key_purposes.specs.declared.purpose.Purpose.TheVariants.{AnyNamespace, Login, Namespace, Other}
-use Rattle.key_purposes.proofs.MessageLemmas.{one_is, only_one}
+use Rattle.key_purposes.specs.declared.purpose.Purpose.TheVariants.{AnyNamespace, Certificate, Login, Namespace, Other}
+use Rattle.key_purposes.proofs.MessageLemmas.{one_is, one_purpose}
 use Rattle.agent_msg.specs.Requests.{Addition, Signing}
 use Rattle.agent_model.specs.Events.{Timed}
 use Rattle.agent_model.specs.Runs.{Stamped, run}
@@ -67,14 +69,15 @@ just_added addition done blob second number last did its =
 
 -- ---- what is put is for one of its purposes
 
-given_are : (purposes : List Purpose) (message blob : List ℕ) → purposes ≢ [] → let_sign purposes message blob ≡ true → are_for purposes message blob ≡ true
-given_are [] message blob some lets = absurd (some refl)
-given_are (purpose ∷ purposes) message blob some lets = lets
+given_suit : (purposes : List Purpose) (signing : Signing) → purposes ≢ []
+    → let_sign purposes signing.message signing.blob signing.flags ≡ true → suit purposes signing.message signing.blob signing.flags ≡ true
+given_suit [] signing some lets = absurd (some refl)
+given_suit (purpose ∷ purposes) signing some lets = lets
 
-pub put-for : (purposes : List Purpose) (signing : Signing) (settings : Settings) (events : List Timed)
+put-suits : (purposes : List Purpose) (signing : Signing) (settings : Settings) (events : List Timed)
     → HasNumbers (run (first_state settings) events) → IsPutFor purposes signing settings events
-    → are_for purposes signing.message signing.blob ≡ true
-put-for purposes signing settings events numbers is =
+    → suit purposes signing.message signing.blob signing.flags ≡ true
+put-suits purposes signing settings events numbers is =
     let whole : List Stamped = is.before ++ is.one ∷ is.between in
     let by = claimed whole is.port signing settings events numbers is.put in
     let added : PastAddition = by.met.added in
@@ -85,27 +88,43 @@ put-for purposes signing settings events numbers is =
     subst (λ past. Of is.addition (last_addition signing.blob past)) (sym (onto-append [] is.before (is.one ∷ is.between)))
     (stays is.addition signing.blob (is.one ∷ onto [] is.before) is.between start is.alone) in
     let same : added.addition ≡ is.addition = subst (Of is.addition) last behind in
-    let lets : let_sign purposes signing.message signing.blob ≡ true =
-    ap (λ (all : List Purpose). let_sign all signing.message signing.blob) (sym is.given)
-    ∙ ap (λ (a : Addition). let_sign a.terms.purposes signing.message signing.blob) (sym same)
-    ∙ ap (λ (s : Signing). let_sign added.addition.terms.purposes s.message s.blob) (sym by.what)
+    let lets : let_sign purposes signing.message signing.blob signing.flags ≡ true =
+    ap (λ (all : List Purpose). let_sign all signing.message signing.blob signing.flags) (sym is.given)
+    ∙ ap (λ (a : Addition). let_sign a.terms.purposes signing.message signing.blob signing.flags) (sym same)
+    ∙ ap (λ (s : Signing). let_sign added.addition.terms.purposes s.message s.blob s.flags) (sym by.what)
     ∙ by.met.suits in
-    given_are purposes signing.message signing.blob is.some lets
+    given_suit purposes signing is.some lets
+
+-- both parts of what suits
+suit_parts : (purposes : List Purpose) (signing : Signing) → suit purposes signing.message signing.blob signing.flags ≡ true
+    → (not (is_by_sha1 signing.blob signing.flags) ≡ true) × (are_for purposes signing.message signing.blob ≡ true)
+suit_parts purposes signing suits =
+    and_parts (not (is_by_sha1 signing.blob signing.flags)) (are_for purposes signing.message signing.blob) suits
+
+-- what is put isn't signed by SHA-1
+pub put-hashed : (purposes : List Purpose) (signing : Signing) (settings : Settings) (events : List Timed)
+    → HasNumbers (run (first_state settings) events) → IsPutFor purposes signing settings events
+    → is_by_sha1 signing.blob signing.flags ≡ false
+put-hashed purposes signing settings events numbers is =
+    not-true (is_by_sha1 signing.blob signing.flags) (suit_parts purposes signing (put-suits purposes signing settings events numbers is)).0
 
 -- ---- and for none of the others
 
-module _ (message blob : List ℕ) (bytes : IsBytes message) (short : length message < 2 ^ 30) where
+module _ (message blob : List ℕ) (bytes : IsBytes message) (blob_bytes : IsBytes blob) (short : length message < 2 ^ 30) where
+  -- the message is for one narrow purpose
+  alone : (one other : Purpose) → IsNarrow one → IsNarrow other → IsFor one message blob → IsFor other message blob → one ≡ other
+  alone = one_purpose message blob bytes blob_bytes short
+
   apart_login : (purpose : Purpose) → purpose ≢ Login → IsFor purpose message blob → IsForLogin message blob → ⊥
   apart_login Login other is login = absurd (other refl)
   apart_login (Namespace namespace) other is login =
-      let one = only_one message blob bytes short in
-      let same : Login ≡ Namespace namespace = one.1.only Login tt login ∙ sym (one.1.only (Namespace namespace) tt is) in
+      let same : Login ≡ Namespace namespace = alone Login (Namespace namespace) tt tt login is in
       absurd cc
   apart_login AnyNamespace other is login =
-      let one = only_one message blob bytes short in
       let named : IsForNamespace is.file.namespace message = record { file = is.file; signed = is.signed; same = refl } in
-      let same : Login ≡ Namespace is.file.namespace = one.1.only Login tt login ∙ sym (one.1.only (Namespace is.file.namespace) tt named) in
+      let same : Login ≡ Namespace is.file.namespace = alone Login (Namespace is.file.namespace) tt tt login named in
       absurd cc
+  apart_login Certificate other is login = is.no_login login
   apart_login Other other is login = is.no_login login
 
   pub no_login_among : (purposes : List Purpose) → All (λ purpose. purpose ≢ Login) purposes
@@ -123,13 +142,12 @@ module _ (message blob : List ℕ) (bytes : IsBytes message) (short : length mes
   apart_namespace : (namespace : List ℕ) (purpose : Purpose) → IsElse namespace purpose
       → IsFor purpose message blob → IsForNamespace namespace message → ⊥
   apart_namespace namespace Login other is file =
-      let one = only_one message blob bytes short in
-      let same : Login ≡ Namespace namespace = one.1.only Login tt is ∙ sym (one.1.only (Namespace namespace) tt file) in
+      let same : Login ≡ Namespace namespace = alone Login (Namespace namespace) tt tt is file in
       absurd cc
   apart_namespace namespace (Namespace named) other is file =
-      let one = only_one message blob bytes short in
-      absurd (other.0 (one.1.only (Namespace named) tt is ∙ sym (one.1.only (Namespace namespace) tt file)))
+      absurd (other.0 (alone (Namespace named) (Namespace namespace) tt tt is file))
   apart_namespace namespace AnyNamespace other is file = absurd (other.1 refl)
+  apart_namespace namespace Certificate other is file = is.no_file record { file = file.file; signed = file.signed }
   apart_namespace namespace Other other is file = is.no_file record { file = file.file; signed = file.signed }
 
   pub no_namespace_among : (namespace : List ℕ) (purposes : List Purpose) → All (IsElse namespace) purposes
@@ -143,6 +161,7 @@ module _ (message blob : List ℕ) (bytes : IsBytes message) (short : length mes
 -- what is put, by the grammars
 pub put-is_for : (purposes : List Purpose) (signing : Signing) (settings : Settings) (events : List Timed)
     → HasNumbers (run (first_state settings) events) → IsPutFor purposes signing settings events
-    → IsBytes signing.message → length signing.message < 2 ^ 30 → IsForOne purposes signing.message signing.blob
-put-is_for purposes signing settings events numbers is bytes short =
-    (one_is signing.message signing.blob bytes short purposes).0 (put-for purposes signing settings events numbers is)
+    → IsBytes signing.message → IsBytes signing.blob → length signing.message < 2 ^ 30 → IsForOne purposes signing.message signing.blob
+put-is_for purposes signing settings events numbers is bytes blob_bytes short =
+    (one_is signing.message signing.blob bytes blob_bytes short purposes).0
+    (suit_parts purposes signing (put-suits purposes signing settings events numbers is)).1

@@ -285,9 +285,9 @@ module _ (asking : Asking) (signing : Signing) (waiting : ℕ → Option Raising
   put-back old mid actions held moment keeps (by_consent job raising key port among is whose what found may) =
       let was = keeps asking.port port found in
       by_consent job raising key was.0 among is whose what was.1
-      (subst (λ chain. IsGrantable key chain raising.addition signing.message old.moment.wall old.held) was.2
-      (subst (λ (m : Moment). IsGrantable key port.chain raising.addition signing.message m.wall old.held) moment
-      (subst (λ h. IsGrantable key port.chain raising.addition signing.message mid.moment.wall h) held may)))
+      (subst (λ chain. IsGrantable key chain raising.addition signing.message signing.flags old.moment.wall old.held) was.2
+      (subst (λ (m : Moment). IsGrantable key port.chain raising.addition signing.message signing.flags m.wall old.held) moment
+      (subst (λ h. IsGrantable key port.chain raising.addition signing.message signing.flags mid.moment.wall h) held may)))
 
   put-quiet : {event : Happening} {old mid : State} (actions : List Action) → Quiet event old mid
       → KeepsChains old.ports mid.ports → IsPut asking signing waiting mid actions
@@ -331,8 +331,8 @@ module _ (asking : Asking) (signing : Signing) (waiting : ℕ → Option Raising
         let whose : confirmation.asker ≡ asking.port = ap (λ (a : Asking). a.port) same in
         by_consent confirmation.job raising key port (inl refl) raised_for.1 (sym (ap (λ (w : Wanted). w.port) raised_for.2) ∙ whose) (asked_for ∙ equal)
         (ap (λ n. find_port n state.ports) (sym whose) ∙ found)
-        (subst (λ n. IsGrantable key port.chain n signing.message state.moment.wall state.held) addition
-        (subst (λ (w : Signing). IsGrantable key port.chain confirmation.addition w.message state.moment.wall state.held) equal may))
+        (subst (λ n. IsGrantable key port.chain n signing.message signing.flags state.moment.wall state.held) addition
+        (subst (λ (w : Signing). IsGrantable key port.chain confirmation.addition w.message w.flags state.moment.wall state.held) equal may))
 
   put-makes : {event : Happening} {old : State} {outcome : Outcome} → Makes event old outcome
       → IsTied old → IsNamed waiting old

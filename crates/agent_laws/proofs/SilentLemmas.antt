@@ -1,9 +1,9 @@
 -- Actions by which nothing is asked of the helper.
-use Rattle.std.proofs.Common.{◌≡◌, ◌≢◌, List, [], ◌∷◌}
+use Rattle.std.proofs.Common.{◌≢◌, List}
 use Rattle.agent_model.specs.Actions.{Action, Answered, Asked, Asking, Granted, Lost, Over, Proved, Raised, Requested}
 use Rattle.agent_model.specs.Grants.{IsAmong}
 use Rattle.agent_model.proofs.ActionLemmas.{Each, among-each}
-use Rattle.agent_model.proofs.TimeLemmas.{AreEnds, IsEnd, end, loss, no_more, one_more}
+use Rattle.agent_model.proofs.TimeLemmas.{AreEnds, end, loss, no_more, one_more}
 
 -- it asks nothing
 abbrev pub IsSilent : Action → Type 0

@@ -1,10 +1,9 @@
 -- An answer of the helper comes of its stream alone: of a piece at its port, or of what stands behind its HELLO.
-use Rattle.std.proofs.Common.{◌≡◌, ◌≢◌, ◌==◌, ℕ, List, [], ◌∷◌, ◌++◌, arith, refl, ap, sym, subst, ◌∙◌, ◌⊎◌, Option, Some, None, Bool, true, false, inl, inr, Result, Ok, Err, if◌then◌else◌}
+use Rattle.std.proofs.Common.{◌≡◌, ◌≢◌, ◌==◌, ℕ, List, [], ◌∷◌, ◌++◌, arith, refl, ap, sym, subst, ◌∙◌, Option, Some, None, Bool, true, false, Result, Ok, Err, if◌then◌else◌}
 use Rattle.std.specs.Str.{bytes_eq}
 use Rattle.std.proofs.lemmas.Bool.Decides.{nat_tests}
 use Rattle.std.proofs.lemmas.Slice.Eq.{bytes_eq-Decides}
-use Rattle.world_ports.specs.declared.Door.{Door}
-use Rattle.world_ports.specs.declared.Door.TheVariants.{Children, Clients}
+use Rattle.world_ports.specs.declared.Door.TheVariants.{Children}
 use Rattle.world_ports.specs.declared.Job.{Job}
 use Rattle.world_ports.specs.declared.JobKind.{JobKind}
 use Rattle.world_ports.specs.declared.JobKind.TheVariants as kinds
@@ -15,7 +14,7 @@ use Rattle.child_msg.specs.Messages.{Denied, False, FromChildMessage, Granted as
 use Rattle.child_msg.specs.Reading.{from_child_of}
 use Rattle.child_msg.specs.declared.fault.ChildFault.{ChildFault}
 use Rattle.confirm_desk.specs.Confirmations.{Confirmation, Consent, No, NotYet, Yes, consent, find_asker, find_job, find_linked}
-use Rattle.helper_link.specs.HelperLink.{HelperLink, linked_to}
+use Rattle.helper_link.specs.HelperLink.{linked_to}
 use Rattle.helper_link.specs.Telling.{Telling, telling}
 use Rattle.helper_link.specs.declared.answer.Answer.{Answer}
 use Rattle.helper_link.specs.declared.fault.LinkFault.{LinkFault}
@@ -24,12 +23,12 @@ use Rattle.helper_link.specs.declared.state.LinkState.TheVariants as states
 use Rattle.agent_model.specs.Actions.{Action, Answered, Asked, Granted, Lost, Outcome, Over, Proved, Raised, Requested, Work}
 use Rattle.agent_model.specs.Answers.{Answering, answers_in, helper_tells, lose_if, lose_where, with_answers}
 use Rattle.agent_model.specs.Children.{changed, closed, confirmer_goes_on, confirmer_named, failed_by, first_frame, first_message, heard_more, hello_heard, helper_named, is_started_by, job_left, named_by, shut, start_failed}
-use Rattle.agent_model.specs.Consents.{consent_by, find_started, grant_concluded, grant_to, over_if, without_confirmation}
+use Rattle.agent_model.specs.Consents.{consent_by, find_started, grant_to, over_if}
 use Rattle.agent_model.specs.Dispatch.{Asker, Served}
 use Rattle.agent_model.specs.Events.{Ended, Happening, Heard, Joined, StartFailed, Started, Tick, Took}
-use Rattle.agent_model.specs.Fates.{Fails, Fate, Gets, Unanswered, fate_in, fate_of, fault_fate, or_later, settled_fate}
+use Rattle.agent_model.specs.Fates.{Fails, Fate, Gets, Unanswered, fate_of, fault_fate, or_later, settled_fate}
 use Rattle.agent_model.specs.State.{Client, Confirmer, Helper, Nothing, Port, Role, StartedJob, State, UnderWay, Unnamed, Waits, find_port, find_to_start, is_linked_to, role_by_helper, role_by_link, role_of}
-use Rattle.agent_model.specs.Step.{asker_at, ended_at, ended_by_role, handle, heard_at, heard_by_role, look_front, look_port, look_waits, step, taken, took_at, took_by_role}
+use Rattle.agent_model.specs.Step.{asker_at, ended_at, ended_by_role, handle, heard_at, heard_by_role, look_front, look_port, look_waits, step, took_at, took_by_role}
 use Rattle.agent_model.specs.Time.{at_moment, time_passes}
 use Rattle.agent_model.proofs.ActionLemmas.{Each}
 use Rattle.agent_model.proofs.FateLemmas.{fate-append, settled-fates}
@@ -37,7 +36,7 @@ use Rattle.agent_model.proofs.GrantLemmas.{IsGranted, allowed, disallowed, grant
 use Rattle.agent_model.proofs.MakeLemmas.{role-door, role-free, role-helper, role-other}
 use Rattle.agent_model.proofs.PortsLemmas.{found_number}
 use Rattle.agent_model.proofs.ServeLemmas.{IsServed, answered, asked, raised, refused, serve-ends}
-use Rattle.agent_model.proofs.TimeLemmas.{AreEnds, IsEnd, end, loss, no_more, one_more, time_passes-ends}
+use Rattle.agent_model.proofs.TimeLemmas.{AreEnds, end, loss, no_more, one_more, time_passes-ends}
 use Rattle.agent_laws.specs.Answered.{IsHello, Says, begins, goes_on, said_fate}
 
 -- ---- what the helper's bytes make of an ask

@@ -1,5 +1,5 @@
 -- Behind an act Asked, whoever the ask is for waits for it.
-use Rattle.std.proofs.Common.{◌≡◌, ℕ, ◌+◌, List, [], ◌∷◌, ◌++◌, refl, ap, sym, subst, ◌∙◌, ◌⊎◌, Option, Some, None, inl, inr}
+use Rattle.std.proofs.Common.{◌≡◌, ℕ, ◌+◌, List, [], ◌++◌, refl, ap, subst, ◌∙◌, ◌⊎◌, Some, inl, inr}
 use Rattle.std.specs.Option.{option_map}
 use Rattle.world_ports.specs.declared.Door.TheVariants.{Clients}
 use Rattle.world_ports.specs.declared.Moment.{Moment}
@@ -19,7 +19,7 @@ use Rattle.agent_model.specs.Sound.{IsTied}
 use Rattle.agent_model.specs.State.{OnAsk, OnConfirmation, Port, State, change_port, find_port}
 use Rattle.agent_model.specs.Step.{asker_at, attempts, concluded, handle, step, take_frame}
 use Rattle.agent_model.specs.Time.{at_moment, time_passes}
-use Rattle.agent_model.specs.Verdicts.{Awaits, Verdict, tell}
+use Rattle.agent_model.specs.Verdicts.{Awaits, tell}
 use Rattle.agent_model.proofs.ActionLemmas.{each-tells}
 use Rattle.agent_model.proofs.FatedLemmas.{tied-opened}
 use Rattle.agent_model.proofs.GrantLemmas.{IsGranted, allowed, disallowed, grant-ends, unasked}

@@ -1,14 +1,14 @@
 -- Which signature is to be put to the helper, by the actions so far: searches in the past, the
 -- newest action first (ours).
-use Rattle.std.specs.Prelude.{ℕ, Bool, false, List, [], ◌∷◌, ◌++◌, length, Option, Some, None, Result, Ok, Err, nat_lt, ◌==◌, ◌&&◌, not, if◌then◌else◌, is_none}
+use Rattle.std.specs.Prelude.{ℕ, Bool, false, List, [], ◌∷◌, ◌++◌, length, Option, Some, None, Result, Ok, nat_lt, ◌==◌, ◌&&◌, not, if◌then◌else◌, is_none}
 use Rattle.std.specs.List.{sum_by}
 use Rattle.world_ports.specs.declared.Moment.{Moment}
 use Rattle.agent_msg.specs.declared.fault.MsgFault.{MsgFault}
-use Rattle.agent_msg.specs.Requests.{ClientRequest, Signing, ListIdentities, Sign, Add, Remove, RemoveAll, Lock, Unlock, Bind, OtherExtension, Unsupported}
+use Rattle.agent_msg.specs.Requests.{ClientRequest, Signing, Sign}
 use Rattle.key_purposes.specs.Messages.{let_sign}
 use Rattle.dest_rule.specs.Rules.{denial_under}
 use Rattle.dest_rule.specs.declared.binding.Binding.{Binding}
-use Rattle.agent_model.specs.Actions.{Action, Answered, Asked, Granted, Lost, Raising, Requested}
+use Rattle.agent_model.specs.Actions.{Action, Answered, Asked, Granted, Lost, Over, Proved, Raised, Raising, Requested}
 use Rattle.agent_model.specs.Bindings.{bound_by}
 use Rattle.agent_model.specs.Binds.{agent_request_of}
 use Rattle.agent_model.specs.Runs.{Stamped}
@@ -34,7 +34,11 @@ abbrev pub open_by : Action → List (ℕ × ℕ) → List (ℕ × ℕ)
 open_by (Asked asking) before = before ++ (asking.ask, asking.size) ∷ []
 open_by (Answered settled) before = without_ask settled.ask before
 open_by Lost before = []
-open_by other before = before
+open_by (Requested requesting) before = before
+open_by (Proved proving) before = before
+open_by (Raised raising) before = before
+open_by (Granted job) before = before
+open_by (Over job) before = before
 
 -- the asks since the last loss of the helper that it hasn't answered, each with the size of its body
 abbrev pub open_asks : List Stamped → List (ℕ × ℕ)
@@ -82,15 +86,40 @@ is_consented (Some addition) past = past.number == addition
 abbrev pub is_place : List (ℕ × ℕ) → Bool
 is_place asks = nat_lt (length asks) 256 && nat_lt (sum_by (λ (one : ℕ × ℕ). one.1) asks) 8388608
 
--- the key is held and used so, its purposes have the message, its destination constraints permit it, there is a place
--- for one more ask, and the agent isn't locked
-abbrev pub is_met : Option PastAddition → Claim → List Binding → ℕ → List (ℕ × ℕ) → Bool → Bool
+-- what is asked of a claim with a key that is held
+pub record Conditions : Type 0 where
+  -- the key asks for no confirmation, or the user consented to this very claim
+  pub consented : Bool
+  -- its purposes have the message, where there are any
+  pub for_purpose : Bool
+  -- its destination constraints permit each bound hop, the user and the newest session
+  pub permitted : Bool
+  -- there is a place for one more ask
+  pub place : Bool
+  -- the agent isn't locked
+  pub unlocked : Bool
+
+-- each of them holds
+abbrev pub all_hold : Conditions → Bool
+all_hold one = one.consented && (one.for_purpose && (one.permitted && (one.place && one.unlocked)))
+
+-- the conditions of a claim with the key of this addition, over a connection so bound, at this second of the wall clock,
+-- with these open asks
+abbrev pub conditions : PastAddition → Claim → List Binding → (wall : ℕ) → List (ℕ × ℕ) → (locked : Bool) → Conditions
+conditions past claim chain wall asks locked = record {
+  consented = is_consented claim.addition past;
+  for_purpose =
+      let_sign past.addition.terms.purposes claim.signing.message claim.signing.blob claim.signing.flags;
+  permitted = is_none
+      (denial_under past.addition.terms.rules claim.signing.blob chain claim.signing.message wall);
+  place = is_place asks;
+  unlocked = not locked;
+}
+
+-- the key is held, and each condition holds
+abbrev pub is_met : Option PastAddition → Claim → List Binding → (wall : ℕ) → List (ℕ × ℕ) → (locked : Bool) → Bool
 is_met None claim chain wall asks locked = false
-is_met (Some past) claim chain wall asks locked = is_consented claim.addition past
-    && (let_sign past.addition.terms.purposes claim.signing.message claim.signing.blob
-    && (is_none (denial_under past.addition.terms.rules claim.signing.blob
-    chain claim.signing.message wall)
-    && (is_place asks && not locked)))
+is_met (Some past) claim chain wall asks locked = all_hold (conditions past claim chain wall asks locked)
 
 -- the claim, where it is met at this moment
 abbrev pub met_by : Option Claim → Option ℕ → Moment → List Stamped → Option Claim

@@ -119,5 +119,5 @@ pub data IsPut (asking : Asking) (signing : Signing) (waiting : ℕ → Option R
   by_consent : (job : ℕ) (raising : Raising) (key : HeldKey) (port : Port)
       → IsAmong (Granted job) actions → waiting job ≡ Some raising → raising.port ≡ asking.port
       → raising.signing ≡ signing → find_port asking.port state.ports ≡ Some port
-      → IsGrantable key port.chain raising.addition signing.message state.moment.wall state.held
+      → IsGrantable key port.chain raising.addition signing.message signing.flags state.moment.wall state.held
       → IsPut asking signing waiting state actions

@@ -6,7 +6,7 @@ use Rattle.std.specs.Str.{bytes_eq}
 use Rattle.agent_msg.specs.declared.fault.MsgFault.{MsgFault}
 use Rattle.agent_msg.specs.Requests.{Addition, ClientRequest, Add, Remove, RemoveAll, Lock, Unlock}
 use Rattle.identity_table.specs.Deaths.{death_of, lives_at}
-use Rattle.agent_model.specs.Actions.{Action, Asked, ForBinding, ForSignature, Purpose, Requested}
+use Rattle.agent_model.specs.Actions.{Action, Answered, Asked, ForBinding, ForSignature, Granted, Lost, Over, Proved, Purpose, Raised, Requested}
 use Rattle.agent_model.specs.Binds.{agent_request_of}
 use Rattle.agent_model.specs.Runs.{Stamped}
 use Rattle.agent_model.specs.Verdicts.{Replies, Success, Verdict}
@@ -43,7 +43,12 @@ abbrev pub done_of : Action → Done
 done_of (Requested requesting) =
     done_of_request (agent_request_of requesting.body) requesting.verdict
 done_of (Asked asking) = done_by_ask asking.purpose
-done_of other = DidNothing
+done_of (Answered settled) = DidNothing
+done_of (Proved proving) = DidNothing
+done_of (Raised raising) = DidNothing
+done_of (Granted job) = DidNothing
+done_of (Over job) = DidNothing
+done_of Lost = DidNothing
 
 -- ---- the lock
 

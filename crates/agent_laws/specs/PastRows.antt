@@ -1,17 +1,15 @@
 -- Literal rows of the searches: actions of a short past, the newest first (ours).
-use Rattle.std.specs.Prelude.{ℕ, List, [], ◌∷◌, drop, Option, None, true, map}
+use Rattle.std.specs.Prelude.{ℕ, List, [], ◌∷◌, drop, Option, None, true}
 use Rattle.std.specs.Option.{option_map}
 use Rattle.agent_msg.specs.Requests.{Signing}
 use Rattle.dest_rule.specs.declared.binding.Binding.{Binding}
 use Rattle.helper_link.specs.declared.answer.Answer.TheVariants as answers
 use Rattle.agent_model.specs.Actions.{Action, Answered, Asked, ForSignature, Proved, Raised, Requested}
-use Rattle.agent_model.specs.Events.{Happening, Timed}
 use Rattle.agent_model.specs.Rows.{blob, moment_at}
-use Rattle.agent_model.specs.Runs.{Stamped, history}
-use Rattle.agent_model.specs.State.{OnAsk, first_state}
+use Rattle.agent_model.specs.Runs.{Stamped}
+use Rattle.agent_model.specs.State.{OnAsk}
 use Rattle.agent_model.specs.Verdicts.{Awaits, Locked, Refuses, Replies, Success, Verdict}
 use Rattle.agent_laws.specs.Dues.{Claim}
-use Rattle.agent_laws.specs.History.{onto}
 use Rattle.agent_laws.specs.Past.{PastAddition, held_by, last_addition}
 
 -- at this second of both clocks

@@ -13,9 +13,10 @@ ghost use Rattle.agent_laws.specs.Puts.{IsPutAsAsked};
 /// there, and nowhere else. It says so where, by the locks and unlocks that succeeded, the agent
 /// isn't locked; by the additions and removals that succeeded and by its lifetime, the key is held,
 /// and if it has a number of uses, fewer signatures with it were put to the helper since; its
-/// destination constraints permit the signature for the bindings that were proved on that
-/// connection; fewer than 256 asks are open; and either the key asks for no confirmation, or the
-/// user consented to this very request and addition.
+/// purposes, if it has any, have the message, which isn't signed by SHA-1 then; its destination
+/// constraints permit the signature for the bindings that were proved on that connection; fewer
+/// than 256 asks are open, whose bodies have less than 8 MiB together; and either the key asks for
+/// no confirmation, or the user consented to this very request and addition.
 pub fn history()
     ensures lawful { (settings : Settings) (events : List Timed)
         → HasNumbers (runs.run (first_state settings) events)

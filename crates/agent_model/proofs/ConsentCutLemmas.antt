@@ -57,7 +57,7 @@ module _ (piece : List ℕ) (confirmation : Confirmation) (chain : List Binding)
   granted-alike (Some passphrase) found = refl
   granted-alike None None = refl
   granted-alike None (Some key) =
-      unless-alike (objection key key.blob chain confirmation.message wall) key
+      unless-alike (objection key key.blob chain confirmation.message confirmation.flags wall) key
 
 -- ---- the confirmer's port
 

@@ -15,13 +15,13 @@ use Rattle.agent_model.proofs.RoomLemmas.{RoomFor, free, full, no_ask, no_job, r
 
 -- the ends of a grant
 pub data IsGranted (chain : List Binding) (confirmation : Confirmation) (wall : ℕ) (held : KeyState) (under_way : UnderWay) : Work → Type 0 where
-  disallowed : ((key : HeldKey) → IsGrantable key chain confirmation.addition confirmation.message wall held → ⊥) → IsGranted chain confirmation wall held under_way (settles (Refuses NoLongerAllowed) under_way)
+  disallowed : ((key : HeldKey) → IsGrantable key chain confirmation.addition confirmation.message confirmation.flags wall held → ⊥) → IsGranted chain confirmation wall held under_way (settles (Refuses NoLongerAllowed) under_way)
   unasked : (cause : Cause) (key : HeldKey)
-      → IsGrantable key chain confirmation.addition confirmation.message wall held
+      → IsGrantable key chain confirmation.addition confirmation.message confirmation.flags wall held
       → ask_fault under_way ≡ Some cause
       → IsGranted chain confirmation wall held under_way (settles (Refuses cause) under_way)
   allowed : (key : HeldKey)
-      → IsGrantable key chain confirmation.addition confirmation.message wall held
+      → IsGrantable key chain confirmation.addition confirmation.message confirmation.flags wall held
       → ask_fault under_way ≡ None
       → IsGranted chain confirmation wall held under_way (put_unless None (Signs key (signing_of key confirmation)) confirmation.asker under_way)
 
@@ -30,7 +30,7 @@ module _ (chain : List Binding) (confirmation : Confirmation) (wall : ℕ) (held
   Ends work = IsGranted chain confirmation wall held under_way work
 
   ends-put : (fault : Option Cause) (key : HeldKey)
-      → IsGrantable key chain confirmation.addition confirmation.message wall held
+      → IsGrantable key chain confirmation.addition confirmation.message confirmation.flags wall held
       → ask_fault under_way ≡ fault
       → Ends (put_unless fault (Signs key (signing_of key confirmation)) confirmation.asker under_way)
   ends-put (Some cause) key may is = unasked cause key may is
@@ -38,12 +38,12 @@ module _ (chain : List Binding) (confirmation : Confirmation) (wall : ℕ) (held
 
   ends-unless : (result : Option Cause) (key : HeldKey) → held.lock ≡ None
       → find_number confirmation.addition held.table.identities ≡ Some key
-      → objection key key.blob chain confirmation.message wall ≡ result
+      → objection key key.blob chain confirmation.message confirmation.flags wall ≡ result
       → Ends (grant_unless result key confirmation under_way)
   ends-unless (Some cause) key unlocked found is = disallowed (λ other may.
       let same : Some key ≡ Some other = sym found ∙ may.found in
       let equal : other ≡ key = cc in
-      let permits : objection key key.blob chain confirmation.message wall ≡ None = rw (← equal) may.permitted in
+      let permits : objection key key.blob chain confirmation.message confirmation.flags wall ≡ None = rw (← equal) may.permitted in
       let no : Some cause ≡ None = sym is ∙ permits in
       absurd (cc))
   ends-unless None key unlocked found is =
@@ -55,7 +55,7 @@ module _ (chain : List Binding) (confirmation : Confirmation) (wall : ℕ) (held
   ends-found None None unlocked is =
       disallowed (λ key may. let no : None ≡ Some key = sym is ∙ may.found in absurd (cc))
   ends-found None (Some key) unlocked is =
-      ends-unless (objection key key.blob chain confirmation.message wall) key unlocked is refl
+      ends-unless (objection key key.blob chain confirmation.message confirmation.flags wall) key unlocked is refl
   ends-found (Some passphrase) found is _ =
       disallowed (λ key may. let no : Some passphrase ≡ None = sym is ∙ may.unlocked in absurd (cc))
 
@@ -79,7 +79,7 @@ grant-ends chain confirmation state =
 module _ (chain : List Binding) (confirmation : Confirmation) (wall : ℕ) (held : KeyState) (under_way : UnderWay) where
   -- the key may be used
   abbrev May : HeldKey → Type 0
-  May key = IsGrantable key chain confirmation.addition confirmation.message wall held
+  May key = IsGrantable key chain confirmation.addition confirmation.message confirmation.flags wall held
 
   -- what comes of it then
   granted_so : (fault : Option Cause) (key : HeldKey) → May key → ask_fault under_way ≡ fault

@@ -129,7 +129,7 @@ module _ (read : Result ClientRequest MsgFault) (asker : Asker) (held : KeyState
     serves-sign None found = denies NotHeld
     serves-sign (Some key) found =
         serves-permitted key found
-        (objection key signing.blob asker.chain signing.message asker.wall)
+        (objection key signing.blob asker.chain signing.message signing.flags asker.wall)
 
   -- ---- additions and removals
 

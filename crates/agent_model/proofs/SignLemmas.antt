@@ -60,7 +60,7 @@ module _ (signing : Signing) (asker : Asker) (held : KeyState) (under_way : Unde
 
   comes-objected : (lets : Bool) (denial : Option Denial) (cause : Cause) (key : HeldKey) → held.lock ≡ None
       → find_identity signing.blob held.table.identities ≡ Some key
-      → objection key signing.blob asker.chain signing.message asker.wall ≡ Some cause
+      → objection key signing.blob asker.chain signing.message signing.flags asker.wall ≡ Some cause
       → (if lets then option_map DestinationDenied denial else Some OtherPurpose) ≡ Some cause
       → Comes signing asker held under_way (settles (Refuses cause) under_way)
   comes-objected false denial cause key unlocked found is by =
@@ -75,10 +75,10 @@ module _ (signing : Signing) (asker : Asker) (held : KeyState) (under_way : Unde
 
   comes-unless : (result : Option Cause) (key : HeldKey) → held.lock ≡ None
       → find_identity signing.blob held.table.identities ≡ Some key
-      → objection key signing.blob asker.chain signing.message asker.wall ≡ result
+      → objection key signing.blob asker.chain signing.message signing.flags asker.wall ≡ result
       → Comes signing asker held under_way (sign_unless result key.confirm asker key signing under_way)
   comes-unless (Some cause) key unlocked found is =
-      comes-objected (let_sign key.purposes signing.message signing.blob)
+      comes-objected (let_sign key.purposes signing.message signing.blob signing.flags)
       (denial_under key.rules signing.blob asker.chain signing.message asker.wall) cause key unlocked found is is
   comes-unless None key unlocked found is = comes-with key.confirm record { unlocked = unlocked; key = key; found = found; judged = is } refl
 
@@ -87,7 +87,7 @@ module _ (signing : Signing) (asker : Asker) (held : KeyState) (under_way : Unde
       → Comes signing asker held under_way (sign_by found asker signing under_way)
   comes-sign None unlocked is = refused NotHeld (unlocked, is)
   comes-sign (Some key) unlocked is =
-      comes-unless (objection key signing.blob asker.chain signing.message asker.wall) key unlocked is refl
+      comes-unless (objection key signing.blob asker.chain signing.message signing.flags asker.wall) key unlocked is refl
 
   comes-lock : (lock : Option (List ℕ)) → held.lock ≡ lock
       → Comes signing asker held under_way (serve_by lock (Sign signing) asker held under_way).work

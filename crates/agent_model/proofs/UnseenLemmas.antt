@@ -110,14 +110,14 @@ module _ (asker : Asker) (key : HeldKey) (before after : List HeldKey) (held : K
   same-signed : {one two : Option HeldKey} (signing : Signing) → Finds signing.blob key one two
       → IsSameReply (sign_by one asker signing under_way) (sign_by two asker signing under_way)
   same-signed signing (same found) = same_work (sign_by found asker signing under_way)
-  same-signed signing this = by_objection (objection key signing.blob asker.chain signing.message asker.wall) refl
+  same-signed signing this = by_objection (objection key signing.blob asker.chain signing.message signing.flags asker.wall) refl
     where
       by_objection : (result : Option Cause)
-          → objection key signing.blob asker.chain signing.message asker.wall ≡ result
+          → objection key signing.blob asker.chain signing.message signing.flags asker.wall ≡ result
           → IsSameReply (sign_unless result key.confirm asker key signing under_way) (sign_by None asker signing under_way)
       by_objection None is =
           absurd (unseen-denied key.rules signing.blob asker.chain signing.message asker.wall asker.attempted unseen
-          (both_permit (let_sign key.purposes signing.message signing.blob)
+          (both_permit (let_sign key.purposes signing.message signing.blob signing.flags)
           (denial_under key.rules signing.blob asker.chain signing.message asker.wall) is).1)
       by_objection (Some cause) is = both_fail _ _ under_way
 

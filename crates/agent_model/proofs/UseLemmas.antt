@@ -82,7 +82,7 @@ module _ (port : Port) (confirmation : Confirmation) (state : State) (found : fi
   used-granted = ap (λ asker. (grant_to asker confirmation state).state.held) found
 
   pub used-grant : (key : HeldKey)
-      → IsGrantable key port.chain confirmation.addition confirmation.message state.moment.wall state.held
+      → IsGrantable key port.chain confirmation.addition confirmation.message confirmation.flags state.moment.wall state.held
       → HasRoom state.under_way
       → (grant confirmation state).state.held ≡ record state.held { table = spent key.number state.held.table }
   used-grant key may room =

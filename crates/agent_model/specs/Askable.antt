@@ -21,7 +21,7 @@ pub record IsJudgedAs (result : Option Cause) (signing : Signing) (asker : Asker
   pub unlocked : held.lock ≡ None
   pub key : HeldKey
   pub found : find_identity signing.blob held.table.identities ≡ Some key
-  pub judged : objection key signing.blob asker.chain signing.message asker.wall ≡ result
+  pub judged : objection key signing.blob asker.chain signing.message signing.flags asker.wall ≡ result
 
 -- they permit it, and the user is to be asked or not
 pub record IsUsable (signing : Signing) (asks_user : Bool) (asker : Asker) (held : KeyState) : Type
@@ -77,26 +77,26 @@ IsRefusedFor other signing asker held under_way = ⊥
 -- ---- the user's consent
 
 -- the agent is unlocked, the addition of this number is held, as this key, and its purposes and its destination
--- constraints permit the signature of the message for this chain at this second of the wall clock
+-- constraints permit the signature of the message with these flags for this chain at this second of the wall clock
 pub record IsGrantable (key : HeldKey) (chain : List Binding) (addition : ℕ) (message : List ℕ)
-    (wall : ℕ) (held : KeyState) : Type 0 where
+    (flags wall : ℕ) (held : KeyState) : Type 0 where
   pub unlocked : held.lock ≡ None
   pub found : find_number addition held.table.identities ≡ Some key
-  pub permitted : objection key key.blob chain message wall ≡ None
+  pub permitted : objection key key.blob chain message flags wall ≡ None
 
 -- consent comes to nothing for this cause: no such key may be used, or one may, and its ask can't
 -- be put
 abbrev pub IsRefusedAtGrant : Cause → List Binding → Confirmation → ℕ → KeyState → UnderWay → Type 0
 IsRefusedAtGrant NoLongerAllowed chain confirmation wall held under_way =
-    (key : HeldKey) → IsGrantable key chain confirmation.addition confirmation.message wall held → ⊥
+    (key : HeldKey) → IsGrantable key chain confirmation.addition confirmation.message confirmation.flags wall held → ⊥
 IsRefusedAtGrant TooManyAsks chain confirmation wall held under_way =
-    (key : HeldKey) × IsGrantable key chain confirmation.addition confirmation.message wall held
+    (key : HeldKey) × IsGrantable key chain confirmation.addition confirmation.message confirmation.flags wall held
     × IsFull under_way.link.asks
 IsRefusedAtGrant AsksSpent chain confirmation wall held under_way =
-    (key : HeldKey) × IsGrantable key chain confirmation.addition confirmation.message wall held
+    (key : HeldKey) × IsGrantable key chain confirmation.addition confirmation.message confirmation.flags wall held
     × HasPlace under_way.link.asks × (under_way.link.last ≡ 2 ^ 64 - 1)
 IsRefusedAtGrant JobsSpent chain confirmation wall held under_way =
-    (key : HeldKey) × IsGrantable key chain confirmation.addition confirmation.message wall held
+    (key : HeldKey) × IsGrantable key chain confirmation.addition confirmation.message confirmation.flags wall held
     × HasPlace under_way.link.asks × (under_way.link.last ≢ 2 ^ 64 - 1)
     × (under_way.link.state ≡ states.None) × (under_way.last_job ≡ 2 ^ 64 - 1)
 IsRefusedAtGrant other chain confirmation wall held under_way = ⊥

@@ -76,7 +76,7 @@ grant_unless None key confirmation under_way =
 -- what comes of a consent, by whether the agent is locked by now, and whether its addition is still held
 abbrev pub grant_by : Option (List ℕ) → Option HeldKey → List Binding → Confirmation → ℕ → UnderWay → Work
 grant_by None (Some key) chain confirmation wall under_way =
-    grant_unless (objection key key.blob chain confirmation.message wall) key confirmation
+    grant_unless (objection key key.blob chain confirmation.message confirmation.flags wall) key confirmation
     under_way
 grant_by lock found chain confirmation wall under_way = settles (Refuses NoLongerAllowed) under_way
 

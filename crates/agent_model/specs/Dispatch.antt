@@ -76,7 +76,7 @@ sign_unless None false asker key signing under_way = put_ask (Signs key signing)
 abbrev pub sign_by : Option HeldKey → Asker → Signing → UnderWay → Work
 sign_by None asker signing under_way = settles (Refuses NotHeld) under_way
 sign_by (Some key) asker signing under_way = sign_unless
-    (objection key signing.blob asker.chain signing.message asker.wall)
+    (objection key signing.blob asker.chain signing.message signing.flags asker.wall)
     key.confirm asker key signing under_way
 
 -- ---- additions

@@ -8,10 +8,10 @@ use Rattle.dest_rule.specs.Rules.{denial_under}
 use Rattle.dest_rule.specs.declared.binding.Binding.{Binding}
 use Rattle.agent_model.specs.Verdicts.{Cause, DestinationDenied, OtherPurpose}
 
--- why the key isn't to sign the message, with this blob, for a connection so bound: by its purposes, and
--- then by its destination constraints
-abbrev pub objection : HeldKey → List ℕ → List Binding → List ℕ → ℕ → Option Cause
-objection key blob chain message wall =
-    if let_sign key.purposes message blob
+-- why the key isn't to sign the message, with this blob and these flags, for a connection so bound: by its purposes,
+-- and then by its destination constraints
+abbrev pub objection : HeldKey → (blob : List ℕ) → List Binding → (message : List ℕ) → (flags wall : ℕ) → Option Cause
+objection key blob chain message flags wall =
+    if let_sign key.purposes message blob flags
     then option_map DestinationDenied (denial_under key.rules blob chain message wall)
     else Some OtherPurpose

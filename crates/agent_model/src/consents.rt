@@ -57,11 +57,11 @@ pub fn consent_counts_exactly_where_it_may()
         (wall : ℕ) (under_way : UnderWay)
         → ((grant_by held.lock (find_number confirmation.addition held.table.identities) chain
         confirmation wall under_way).verdict ≡ Awaits (OnAsk ask))
-        ↔ ((key : HeldKey) × IsGrantable key chain confirmation.addition confirmation.message wall
+        ↔ ((key : HeldKey) × IsGrantable key chain confirmation.addition confirmation.message confirmation.flags wall
         held × HasRoom under_way × (ask ≡ under_way.link.last + 1)) }
     ensures message { (key : HeldKey) (held : KeyState) (chain : List Binding)
         (confirmation : Confirmation) (wall : ℕ) (under_way : UnderWay)
-        → IsGrantable key chain confirmation.addition confirmation.message wall held
+        → IsGrantable key chain confirmation.addition confirmation.message confirmation.flags wall held
         → HasRoom under_way → grant_by held.lock
         (find_number confirmation.addition held.table.identities) chain confirmation wall under_way
         ≡ put_unless None (Signs key (signing_of key confirmation)) confirmation.asker under_way }

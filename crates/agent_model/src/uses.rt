@@ -33,7 +33,7 @@ pub fn a_key_is_used_as_its_signature_is_put()
         → (serve (Ok (Bind bind)) asker held under_way).held ≡ held }
     ensures granted { (key : HeldKey) (port : Port) (confirmation : Confirmation) (state : State)
         → find_port confirmation.asker state.ports ≡ Some port → IsGrantable key port.chain
-        confirmation.addition confirmation.message state.moment.wall state.held
+        confirmation.addition confirmation.message confirmation.flags state.moment.wall state.held
         → HasRoom state.under_way
         → (grant confirmation state).state.held
         ≡ record state.held { table = spent key.number state.held.table } }

@@ -1,10 +1,8 @@
 -- What is put to the helper in two alike runs is equal, or requests to sign with alike keys.
-use Rattle.std.proofs.Common.{◌≡◌, ◌⊎◌, inl, inr, ℕ, List, [], ◌∷◌, map, refl, sym, ap, subst}
-use Rattle.std.specs.List.{All}
+use Rattle.std.proofs.Common.{◌≡◌, ◌⊎◌, inl, inr, List, [], ◌∷◌, map, refl, sym, ap, subst}
 use Rattle.std.proofs.lemmas.List.Elements.{All-head, All-tail}
 use Rattle.key_blob.specs.AddedKeys.{IsAddedKey}
-use Rattle.key_blob.specs.declared.added.AddedKey.{AddedKey}
-use Rattle.child_msg.specs.Messages.{Confirm, Sign, Signing, ToChildMessage, Verification, Verify}
+use Rattle.child_msg.specs.Messages.{Confirm, Sign, Signing, ToChildMessage, Verify}
 use Rattle.agent_model.specs.Actions.{Outcome}
 use Rattle.agent_model.specs.Events.{Timed}
 use Rattle.agent_model.specs.Runs.{AllFit, AreInRange, outcomes}

@@ -1,5 +1,5 @@
 -- What holds of each element, where one is found, removed or changed.
-use Rattle.std.proofs.Common.{◌≡◌, List, [], ◌∷◌, subst, Bool, true, false, cond, Option, Some}
+use Rattle.std.proofs.Common.{◌≡◌, List, [], ◌∷◌, subst, Bool, true, false, cond, Some}
 use Rattle.std.specs.List.{All, find}
 use Rattle.std.proofs.lemmas.List.Elements.{All-cons, All-head, All-tail}
 use Rattle.lists.specs.Firsts.{change_first, remove_first}

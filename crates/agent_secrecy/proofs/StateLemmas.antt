@@ -193,7 +193,7 @@ module _ (key : List ℕ → List ℕ) (keeps : (bytes : List ℕ) → length (k
   grant_unless-hidden None held confirmation under_way = put_ask-hidden key keeps (Signs held (signing_of held confirmation)) confirmation.asker under_way
 
   grant_by-hidden : (lock : Option (List ℕ)) (found : Option HeldKey) (chain : List Binding) (confirmation : Confirmation) (wall : ℕ) (under_way : UnderWay) → work_bare (grant_by lock (option_map (hide_key key) found) chain confirmation wall (hide_under_way under_way)) ≡ work_seen key (grant_by lock found chain confirmation wall under_way)
-  grant_by-hidden None (Some held) chain confirmation wall under_way = grant_unless-hidden (objection held held.blob chain confirmation.message wall) held confirmation under_way
+  grant_by-hidden None (Some held) chain confirmation wall under_way = grant_unless-hidden (objection held held.blob chain confirmation.message confirmation.flags wall) held confirmation under_way
   grant_by-hidden None None chain confirmation wall under_way =
       settles-hidden key keeps (Refuses NoLongerAllowed) under_way
   grant_by-hidden (Some passphrase) found chain confirmation wall under_way =

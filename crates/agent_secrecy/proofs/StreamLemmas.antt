@@ -1,7 +1,6 @@
 -- Alike streams, of which the first bytes were heard: the same stands at their fronts.
-use Rattle.std.proofs.Common.{◌≡◌, ℕ, ◌+◌, ◌<◌, ◌≤◌, List, [], ◌∷◌, ◌++◌, length, take, drop, refl, sym, ap, subst, ◌∙◌, arith, inl, inr, length-append}
+use Rattle.std.proofs.Common.{◌≡◌, ℕ, ◌+◌, ◌<◌, ◌≤◌, List, [], ◌∷◌, ◌++◌, length, take, refl, sym, ap, subst, ◌∙◌, arith, inl, inr, length-append}
 use Rattle.std.specs.Prelude.{◌⊎◌}
-use Rattle.std.proofs.lemmas.List.{length-drop, take-append-le, drop-append-le}
 use Rattle.wire_text.specs.Wire.{announced_len}
 use Rattle.wire_text.specs.Frames.{Bad, Front, More, Whole, after_front, front, front_body, split, split_from, then_split, unsplit}
 use Rattle.wire_text.proofs.WireLemmas.{announced_len-append, announced_len-take}

@@ -1,15 +1,13 @@
 -- What a third line tells.
-use Rattle.std.proofs.Common.{◌≡◌, ℕ, zero, suc, ◌+◌, ◌^◌, ◌<◌, ◌==◌, Bool, true, false, List, [], ◌∷◌, ◌++◌, Option, Some, None, ap, refl, sym, ◌∙◌, append_assoc, arith, drop, get_or, nat_lt, if◌then◌else◌, Result, Ok, Err}
+use Rattle.std.proofs.Common.{◌≡◌, ℕ, zero, suc, ◌+◌, ◌^◌, ◌<◌, ◌==◌, Bool, true, false, List, [], ◌∷◌, ◌++◌, Option, Some, None, ap, refl, sym, ◌∙◌, append_assoc, arith, drop, get_or, nat_lt, if◌then◌else◌}
 use Rattle.std.proofs.lemmas.Fmt.{decimal_injective}
 use Rattle.std.proofs.lemmas.List.{append_cancel_left, append_cancel_right}
 use Rattle.std.specs.Option.{option_map}
 use Rattle.std.specs.Prelude.{◌||◌, codes, decimal}
-use Rattle.userauth_blob.specs.UserAuths.{Login}
-use Rattle.userauth_blob.specs.declared.fault.AuthFault.{AuthFault}
-use Rattle.sshsig_blob.specs.FileSignatures.{Signing}
-use Rattle.sshsig_blob.specs.declared.fault.SshsigFault.{SshsigFault}
-use Rattle.confirm_desk.specs.Lines.{DataOf, FileIn, HasNoSpace, LoginAs, ReadAlike, Told, told_by, user_and_host}
-use Rattle.confirm_desk.specs.Prompt.{purpose_line, shown_byte, shown_text, to_host}
+use Rattle.key_purposes.specs.Messages.{Authentication, Certificate, MayLogIn, OtherData, Use}
+use Rattle.key_purposes.specs.Messages as messages
+use Rattle.confirm_desk.specs.Lines.{CertificateOf, DataOf, FileIn, HasNoSpace, LoginAs, MayLogInBy, ReadAlike, Told, told_by, user_and_host}
+use Rattle.confirm_desk.specs.Prompt.{of_bytes, purpose_line, shown_text, to_host}
 
 -- what stands between two ends
 between : (front one other back : List ℕ) → front ++ (one ++ back) ≡ front ++ (other ++ back) → one ≡ other
@@ -33,33 +31,43 @@ logins-alike user other host other_host same =
     ∙ append_cancel_left (codes "For a login as ") (user ++ (to_host host ++ codes ".")) (other ++ (to_host other_host ++ codes ".")) same
     ∙ shown-parts other other_host)
 
-pub line-alike : (host other_host : Option (List ℕ)) (one other : Result Login AuthFault) (file other_file : Result Signing SshsigFault) (len other_len : ℕ)
-    → len < 2 ^ 64 → other_len < 2 ^ 64 → purpose_line host one file len ≡ purpose_line other_host other other_file other_len
-    → ReadAlike (told_by host one file len) (told_by other_host other other_file other_len)
-line-alike host other_host (Ok login) (Ok other) file other_file len other_len short other_short same =
+-- the seventh byte of a line tells its kind
+abbrev seventh : Use → ℕ
+seventh (Authentication login) = 108
+seventh (messages.FileIn namespace) = 115
+seventh Certificate = 99
+seventh MayLogIn = 97
+seventh OtherData = 104
+
+seventh-line : (host : Option (List ℕ)) (used : Use) (len : ℕ) → get_or (purpose_line host used len) 6 0 ≡ seventh used
+seventh-line host (Authentication login) len = refl
+seventh-line host (messages.FileIn namespace) len = refl
+seventh-line host Certificate len = refl
+seventh-line host MayLogIn len = refl
+seventh-line host OtherData len = refl
+
+-- sizes behind the same words
+sizes-alike : (words : List ℕ) (len other : ℕ) → len < 2 ^ 64 → other < 2 ^ 64 → words ++ of_bytes len ≡ words ++ of_bytes other → len ≡ other
+sizes-alike words len other short other_short same =
+    decimal_injective len other short other_short (between words (decimal len) (decimal other) (codes " bytes.") same)
+
+pub line-alike : (host other_host : Option (List ℕ)) (one other : Use) (len other_len : ℕ)
+    → len < 2 ^ 64 → other_len < 2 ^ 64 → purpose_line host one len ≡ purpose_line other_host other other_len
+    → ReadAlike (told_by host one len) (told_by other_host other other_len)
+line-alike host other_host (Authentication login) (Authentication other) len other_len short other_short same =
     logins-alike (shown_text 64 login.user) (shown_text 64 other.user) host other_host same
-line-alike host other_host (Ok login) (Err fault) file (Ok signing) len other_len short other_short same =
-    let there : 108 ≡ 115 = ap (λ (line : List ℕ). get_or line 6 0) same in
+line-alike host other_host (messages.FileIn namespace) (messages.FileIn other) len other_len short other_short same =
+    between (codes "For a signature in namespace ") (shown_text 64 namespace) (shown_text 64 other) (codes ".") same
+line-alike host other_host Certificate Certificate len other_len short other_short same =
+    sizes-alike (codes "For a certificate of ") len other_len short other_short same
+line-alike host other_host MayLogIn MayLogIn len other_len short other_short same =
+    sizes-alike (codes "For what may be a login, of ") len other_len short other_short same
+line-alike host other_host OtherData OtherData len other_len short other_short same =
+    sizes-alike (codes "For other data of ") len other_len short other_short same
+line-alike host other_host one other len other_len short other_short same =
+    let there : seventh one ≡ seventh other =
+    sym (seventh-line host one len) ∙ ap (λ (line : List ℕ). get_or line 6 0) same ∙ seventh-line other_host other other_len in
     absurd (omega (arith, there))
-line-alike host other_host (Ok login) (Err fault) file (Err none) len other_len short other_short same =
-    let there : 97 ≡ 111 = ap (λ (line : List ℕ). get_or line 4 0) same in
-    absurd (omega (arith, there))
-line-alike host other_host (Err fault) (Ok other) (Ok signing) other_file len other_len short other_short same =
-    let there : 115 ≡ 108 = ap (λ (line : List ℕ). get_or line 6 0) same in
-    absurd (omega (arith, there))
-line-alike host other_host (Err fault) (Ok other) (Err none) other_file len other_len short other_short same =
-    let there : 111 ≡ 97 = ap (λ (line : List ℕ). get_or line 4 0) same in
-    absurd (omega (arith, there))
-line-alike host other_host (Err fault) (Err other) (Ok signing) (Ok other_signing) len other_len short other_short same =
-    between (codes "For a signature in namespace ") (shown_text 64 signing.namespace) (shown_text 64 other_signing.namespace) (codes ".") same
-line-alike host other_host (Err fault) (Err other) (Ok signing) (Err none) len other_len short other_short same =
-    let there : 97 ≡ 111 = ap (λ (line : List ℕ). get_or line 4 0) same in
-    absurd (omega (arith, there))
-line-alike host other_host (Err fault) (Err other) (Err none) (Ok signing) len other_len short other_short same =
-    let there : 111 ≡ 97 = ap (λ (line : List ℕ). get_or line 4 0) same in
-    absurd (omega (arith, there))
-line-alike host other_host (Err fault) (Err other) (Err none) (Err other_none) len other_len short other_short same =
-    decimal_injective len other_len short other_short (between (codes "For other data of ") (decimal len) (decimal other_len) (codes " bytes.") same)
 
 -- ---- what is told is the same
 
@@ -70,21 +78,17 @@ same_where : (one other : Told) → ReadAlike one other
     → one ≡ other
 same_where (LoginAs user host) (LoginAs other other_host) alike logins = logins user other host other_host refl refl alike
 same_where (FileIn namespace) (FileIn other) alike logins = ap FileIn alike
+same_where (CertificateOf len) (CertificateOf other) alike logins = ap CertificateOf alike
+same_where (MayLogInBy len) (MayLogInBy other) alike logins = ap MayLogInBy alike
 same_where (DataOf len) (DataOf other) alike logins = ap DataOf alike
-same_where (LoginAs user host) (FileIn namespace) alike logins = absurd alike
-same_where (LoginAs user host) (DataOf len) alike logins = absurd alike
-same_where (FileIn namespace) (LoginAs user host) alike logins = absurd alike
-same_where (FileIn namespace) (DataOf len) alike logins = absurd alike
-same_where (DataOf len) (LoginAs user host) alike logins = absurd alike
-same_where (DataOf len) (FileIn namespace) alike logins = absurd alike
+same_where one other alike logins = absurd alike
 
 -- the host that is told of a login is the one that is known
-host_told : (host : Option (List ℕ)) (auth : Result Login AuthFault) (file : Result Signing SshsigFault) (len : ℕ)
-    (user : List ℕ) (shown : Option (List ℕ)) → told_by host auth file len ≡ LoginAs user shown
+host_told : (host : Option (List ℕ)) (used : Use) (len : ℕ)
+    (user : List ℕ) (shown : Option (List ℕ)) → told_by host used len ≡ LoginAs user shown
     → shown ≡ option_map (shown_text 64) host
-host_told host (Ok login) file len user shown is = cc
-host_told host (Err fault) (Ok file) len user shown is = absurd cc
-host_told host (Err fault) (Err none) len user shown is = absurd cc
+host_told host (Authentication login) len user shown is = cc
+host_told host used len user shown is = absurd cc
 
 -- before one host the users are the same
 same_users : (user other : List ℕ) (host : Option (List ℕ)) → user_and_host user host ≡ user_and_host other host → user ≡ other
@@ -97,15 +101,15 @@ before_one_host user other host other_host is alike =
     ap (λ u. LoginAs u host) (same_users user other host (alike ∙ ap (user_and_host other) (sym is)))
     ∙ ap (LoginAs other) is
 
-pub line-tells : (host : Option (List ℕ)) (one other : Result Login AuthFault) (file other_file : Result Signing SshsigFault) (len other_len : ℕ)
-    → len < 2 ^ 64 → other_len < 2 ^ 64 → purpose_line host one file len ≡ purpose_line host other other_file other_len
-    → told_by host one file len ≡ told_by host other other_file other_len
-line-tells host one other file other_file len other_len short other_short same =
-    same_where (told_by host one file len) (told_by host other other_file other_len)
-    (line-alike host host one other file other_file len other_len short other_short same)
+pub line-tells : (host : Option (List ℕ)) (one other : Use) (len other_len : ℕ)
+    → len < 2 ^ 64 → other_len < 2 ^ 64 → purpose_line host one len ≡ purpose_line host other other_len
+    → told_by host one len ≡ told_by host other other_len
+line-tells host one other len other_len short other_short same =
+    same_where (told_by host one len) (told_by host other other_len)
+    (line-alike host host one other len other_len short other_short same)
     (λ user other_user shown other_shown is other_is alike.
     before_one_host user other_user shown other_shown
-    (host_told host one file len user shown is ∙ sym (host_told host other other_file other_len other_user other_shown other_is))
+    (host_told host one len user shown is ∙ sym (host_told host other other_len other_user other_shown other_is))
     alike)
 
 -- ---- hosts without a space
@@ -186,15 +190,15 @@ before_hosts user other name other_name host other_host is other_is none other_n
     ap (LoginAs user) is ∙ ap (λ u. LoginAs u (Some name)) ends.0 ∙ ap (λ (n : List ℕ). LoginAs other (Some n)) ends.1
     ∙ ap (LoginAs other) (sym other_is)
 
-pub line-tells-hosts : (host other_host : List ℕ) (one other : Result Login AuthFault) (file other_file : Result Signing SshsigFault) (len other_len : ℕ)
+pub line-tells-hosts : (host other_host : List ℕ) (one other : Use) (len other_len : ℕ)
     → len < 2 ^ 64 → other_len < 2 ^ 64 → HasNoSpace host → HasNoSpace other_host
-    → purpose_line (Some host) one file len ≡ purpose_line (Some other_host) other other_file other_len
-    → told_by (Some host) one file len ≡ told_by (Some other_host) other other_file other_len
-line-tells-hosts host other_host one other file other_file len other_len short other_short none other_none same =
-    same_where (told_by (Some host) one file len) (told_by (Some other_host) other other_file other_len)
-    (line-alike (Some host) (Some other_host) one other file other_file len other_len short other_short same)
+    → purpose_line (Some host) one len ≡ purpose_line (Some other_host) other other_len
+    → told_by (Some host) one len ≡ told_by (Some other_host) other other_len
+line-tells-hosts host other_host one other len other_len short other_short none other_none same =
+    same_where (told_by (Some host) one len) (told_by (Some other_host) other other_len)
+    (line-alike (Some host) (Some other_host) one other len other_len short other_short same)
     (λ user other_user shown other_shown is other_is alike.
     before_hosts user other_user (shown_text 64 host) (shown_text 64 other_host) shown other_shown
-    (host_told (Some host) one file len user shown is)
-    (host_told (Some other_host) other other_file other_len other_user other_shown other_is)
+    (host_told (Some host) one len user shown is)
+    (host_told (Some other_host) other other_len other_user other_shown other_is)
     (shown-no_space 64 host none) (shown-no_space 64 other_host other_none) alike)

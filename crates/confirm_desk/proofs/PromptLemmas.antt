@@ -9,16 +9,11 @@ use Rattle.base64.specs.Rfc4648.{encode_symbols}
 use Rattle.sha2.specs.Sha256.{sha256}
 use Rattle.sha2.proofs.Facts256.{length-sha256}
 use Rattle.key_blob.specs.Fingerprints.{fingerprint_of, plain_blob}
+use Rattle.key_purposes.specs.Messages.{Authentication, Certificate, FileIn, MayLogIn, OtherData, Use, use_of}
 use Rattle.key_purposes.specs.declared.purpose.Purpose.{Purpose}
-use Rattle.userauth_blob.specs.UserAuths.{Login}
-use Rattle.userauth_blob.specs.Reading.{auth_of}
-use Rattle.userauth_blob.specs.declared.fault.AuthFault.{AuthFault}
-use Rattle.sshsig_blob.specs.FileSignatures.{Signing}
-use Rattle.sshsig_blob.specs.Reading.{signing_of}
-use Rattle.sshsig_blob.specs.declared.fault.SshsigFault.{SshsigFault}
 use Rattle.key_blob.specs.PublicKeys.{KeyParts, public_key_of}
 use Rattle.key_blob.specs.declared.fault.KeyFault.{KeyFault}
-use Rattle.confirm_desk.specs.Prompt.{fingerprint_by, prompt_for, prompt_of, purpose_line, shown_byte, shown_text, to_host}
+use Rattle.confirm_desk.specs.Prompt.{fingerprint_by, of_bytes, prompt_for, prompt_of, purpose_line, shown_byte, shown_text, to_host}
 
 -- a part after another
 pub parts-assoc : (a b c d e : List ℕ) → (((a ++ b) ++ c) ++ d) ++ e ≡ a ++ (b ++ (c ++ (d ++ e)))
@@ -80,9 +75,12 @@ to_host_is_short : (host : Option (List ℕ)) → length (to_host host) ≤ 68
 to_host_is_short None = omega arith
 to_host_is_short (Some host) = omega (arith, shown_is_short 64 host, length-append (codes " to ") (shown_text 64 host))
 
-line_is_short : (host : Option (List ℕ)) (auth : Result Login AuthFault) (file : Result Signing SshsigFault) (len : ℕ)
-    → len < 2 ^ 64 → length (purpose_line host auth file len) ≤ 148
-line_is_short host (Ok login) file len small =
+bytes_are_short : (len : ℕ) → len < 2 ^ 64 → length (of_bytes len) ≤ 27
+bytes_are_short len small =
+    omega (arith, length-decimal-le 20 len (omega arith) (omega (arith, small)) small, length-append (decimal len) (codes " bytes."))
+
+line_is_short : (host : Option (List ℕ)) (used : Use) (len : ℕ) → len < 2 ^ 64 → length (purpose_line host used len) ≤ 148
+line_is_short host (Authentication login) len small =
     let user : List ℕ = shown_text 64 login.user in
     let ending : List ℕ = to_host host ++ codes "." in
     omega (
@@ -93,21 +91,20 @@ line_is_short host (Ok login) file len small =
       length-append user ending,
       length-append (codes "For a login as ") (user ++ ending),
     )
-line_is_short host (Err fault) (Ok file) len small =
-    let name : List ℕ = shown_text 64 file.namespace in
+line_is_short host (FileIn namespace) len small =
+    let name : List ℕ = shown_text 64 namespace in
     omega (
       arith,
-      shown_is_short 64 file.namespace,
+      shown_is_short 64 namespace,
       length-append name (codes "."),
       length-append (codes "For a signature in namespace ") (name ++ codes "."),
     )
-line_is_short host (Err fault) (Err none) len small =
-    omega (
-      arith,
-      length-decimal-le 20 len (omega arith) (omega (arith, small)) small,
-      length-append (decimal len) (codes " bytes."),
-      length-append (codes "For other data of ") (decimal len ++ codes " bytes."),
-    )
+line_is_short host Certificate len small =
+    omega (arith, bytes_are_short len small, length-append (codes "For a certificate of ") (of_bytes len))
+line_is_short host MayLogIn len small =
+    omega (arith, bytes_are_short len small, length-append (codes "For what may be a login, of ") (of_bytes len))
+line_is_short host OtherData len small =
+    omega (arith, bytes_are_short len small, length-append (codes "For other data of ") (of_bytes len))
 
 -- the text for any held key and message
 pub prompt_for_is_short : (comment blob : List ℕ) (purposes : List Purpose) (host : Option (List ℕ)) (message : List ℕ)
@@ -117,6 +114,6 @@ prompt_for_is_short comment blob (purpose ∷ purposes) host message small =
     omega (
       arith,
       key_prompt_is_short comment blob,
-      line_is_short host (auth_of message blob) (signing_of message) (length message) small,
-      length-append (prompt_of comment (fingerprint_by (public_key_of blob))) (10 ∷ purpose_line host (auth_of message blob) (signing_of message) (length message)),
+      line_is_short host (use_of message blob) (length message) small,
+      length-append (prompt_of comment (fingerprint_by (public_key_of blob))) (10 ∷ purpose_line host (use_of message blob) (length message)),
     )

@@ -96,7 +96,7 @@ pub fn none_was_raised_after_the_last_second()
 {}
 
 /// Two messages with one third line are of one kind: logins of users, files in namespaces that are shown alike, or
-/// other data of one length.
+/// certificates, what may be logins, or other data, of one length.
 ///
 /// Of logins to one host, or to none that is known, the users are shown alike, and of logins to hosts whose names have
 /// no space the hosts too. A user with ` to ` in its name may read as one and a host.

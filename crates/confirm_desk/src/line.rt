@@ -1,17 +1,14 @@
 //! The third line of the question: what a key with purposes is to sign a message for.
 
-ghost use Rattle.std.specs.Prelude.{◌≡◌, ◌++◌, ℕ, IfOk, Err, List, Option, codes, decimal, length};
+ghost use Rattle.std.specs.Prelude.{◌≡◌, ◌++◌, IfOk, codes, decimal, length};
 ghost use Rattle.std.specs.Option.{option_map};
-ghost use Rattle.userauth_blob.specs.Reading.{auth_of};
-ghost use Rattle.userauth_blob.specs.declared.fault.AuthFault.{AuthFault};
-ghost use Rattle.sshsig_blob.specs.Reading.{signing_of};
-ghost use Rattle.confirm_desk.specs.Prompt.{purpose_line, shown_text, to_host};
+ghost use Rattle.key_purposes.specs.Messages.{use_of};
+ghost use Rattle.confirm_desk.specs.Prompt.{of_bytes, purpose_line, shown_text, to_host};
 
 use crate::shown::push_shown;
 use itoa::Buffer;
-use sshsig_blob::read_sshsig;
+use key_purposes::{Use, use_of};
 use std::alloc::AllocError;
-use userauth_blob::read_userauth;
 
 /// How much is shown of a user, of a host and of a namespace (ours).
 const MAX_NAME: usize = 64;
@@ -24,12 +21,15 @@ pub fn push_line(
     message: &[u8],
 ) -> Result<(), AllocError>
     ensures { IfOk result (λ _. text.new.items ≡ text.old.items ++ purpose_line
-        (option_map (λ name. name.now) host.entry) (auth_of message.now blob.now)
-        (signing_of message.now) (length message.now)) }
+        (option_map (λ name. name.now) host.entry) (use_of message.now blob.now) (length message.now)) }
 {
-    match read_userauth(message, blob) {
-        Ok(login) => push_login(text, login.user, host),
-        Err(_) => push_data(text, message),
+    let len = message.len();
+    match use_of(message, blob) {
+        Use::Authentication(login) => push_login(text, login.user, host),
+        Use::FileIn(namespace) => push_namespace(text, namespace),
+        Use::Certificate => push_size(text, b"For a certificate of ", len),
+        Use::MayLogIn => push_size(text, b"For what may be a login, of ", len),
+        Use::OtherData => push_size(text, b"For other data of ", len),
     }
 }
 
@@ -64,33 +64,22 @@ fn push_to(text: &mut Vec<u8>, name: &[u8]) -> Result<(), AllocError>
     push_shown(text, name, MAX_NAME)
 }
 
-// Appends the line of what is no login.
-fn push_data(text: &mut Vec<u8>, message: &[u8]) -> Result<(), AllocError>
-    ensures { (host : Option (List ℕ)) (fault : AuthFault) → IfOk result (λ _. text.new.items ≡ text.old.items
-        ++ purpose_line host (Err fault) (signing_of message.now) (length message.now)) }
+// Appends the line of a file in this namespace.
+fn push_namespace(text: &mut Vec<u8>, namespace: &[u8]) -> Result<(), AllocError>
+    ensures { IfOk result (λ _. text.new.items ≡ text.old.items
+        ++ (codes "For a signature in namespace " ++ (shown_text 64 namespace.now ++ codes "."))) }
 {
-    match read_sshsig(message) {
-        Ok(file) => push_sentence(text, b"For a signature in namespace ", file.namespace),
-        Err(_) => push_size(text, message.len()),
-    }
-}
-
-// Appends these words, and then a name and a full stop.
-fn push_sentence(text: &mut Vec<u8>, words: &[u8], name: &[u8]) -> Result<(), AllocError>
-    ensures { IfOk result (λ _. text.new.items ≡ text.old.items ++ (words.now ++ (shown_text 64 name.now ++ codes "."))) }
-{
-    text.extend_from_slice(words)?;
-    push_shown(text, name, MAX_NAME)?;
+    text.extend_from_slice(b"For a signature in namespace ")?;
+    push_shown(text, namespace, MAX_NAME)?;
     text.push(b'.')?;
     Ok(())
 }
 
-// Appends the line of other data of so many bytes.
-fn push_size(text: &mut Vec<u8>, len: usize) -> Result<(), AllocError>
-    ensures { IfOk result (λ _. text.new.items
-        ≡ text.old.items ++ (codes "For other data of " ++ (decimal len ++ codes " bytes."))) }
+// Appends these words, and then so many bytes.
+fn push_size(text: &mut Vec<u8>, words: &[u8], len: usize) -> Result<(), AllocError>
+    ensures { IfOk result (λ _. text.new.items ≡ text.old.items ++ (words.now ++ of_bytes len)) }
 {
-    text.extend_from_slice(b"For other data of ")?;
+    text.extend_from_slice(words)?;
     push_number(text, len)?;
     text.extend_from_slice(b" bytes.")?;
     Ok(())

@@ -9,25 +9,25 @@ ghost use Rattle.filter_core.specs.Slots.{listed_of, purposes_of};
 use crate::listed::Listed;
 use agent_msg::{MsgFault, Request, read_request};
 use filter_model::Waits;
-use key_purposes::{Purpose, are_for};
+use key_purposes::{Purpose, suit};
 use std::alloc::{AllocError, Global};
 
-// Whether no purposes are given, or the message is for one of them.
-fn may_be_for(purposes: &Option<Vec<Purpose>>, message: &[u8], blob: &[u8]) -> bool
-    ensures { result ≡ may_be_for (purposes_of purposes.now) message.now blob.now }
+// Whether no purposes are given, or they suit the message, signed with these flags.
+fn may_be_for(purposes: &Option<Vec<Purpose>>, message: &[u8], blob: &[u8], flags: u32) -> bool
+    ensures { result ≡ may_be_for (purposes_of purposes.now) message.now blob.now flags }
 {
     match purposes {
-        Some(purposes) => are_for(purposes, message, blob),
+        Some(purposes) => suit(purposes, message, blob, flags),
         None => true,
     }
 }
 
-// Whether the key of this blob is listed, and the message is for one of its purposes, where there are any.
-fn may_sign(listed: &Listed, blob: &[u8], message: &[u8]) -> bool
+// Whether the key of this blob is listed, and its purposes suit the message, where there are any.
+fn may_sign(listed: &Listed, blob: &[u8], message: &[u8], flags: u32) -> bool
     ensures { result ≡ (is_listed blob.now listed.now.blobs
-        && may_be_for (purposes_of listed.now.purposes) message.now blob.now) }
+        && may_be_for (purposes_of listed.now.purposes) message.now blob.now flags) }
 {
-    listed.blobs.has(blob) && may_be_for(&listed.purposes, message, blob)
+    listed.blobs.has(blob) && may_be_for(&listed.purposes, message, blob, flags)
 }
 
 /// What a pair waits for after this body: nothing where the request is refused. Only a list, a signature by a key that
@@ -48,7 +48,11 @@ fn waits_for(listed: &Listed, request: Request<'_>) -> Waits
 {
     match request {
         Request::List => Waits::OnList,
-        Request::Sign { blob, message, .. } => waits_by(may_sign(listed, blob, message)),
+        Request::Sign {
+            blob,
+            message,
+            flags,
+        } => waits_by(may_sign(listed, blob, message, flags)),
         Request::Bind { .. } => Waits::OnBind,
         _ => Waits::Nothing,
     }

@@ -86,7 +86,7 @@ binds-asked listed (Ok (Unsupported number)) = refl
 binds-asked listed (Err fault) = refl
 
 -- the law's purposes are those of the step
-has-purpose : (purposes : Option (List Purpose)) (signing : Signing) → has_purpose purposes signing ≡ may_be_for purposes signing.message signing.blob
+has-purpose : (purposes : Option (List Purpose)) (signing : Signing) → has_purpose purposes signing ≡ may_be_for purposes signing.message signing.blob signing.flags
 has-purpose None signing = refl
 has-purpose (Some purposes) signing = refl
 

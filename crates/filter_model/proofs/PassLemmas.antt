@@ -32,7 +32,7 @@ use Rattle.filter_model.specs.declared.thing.Thing.{Thing}
 use Rattle.filter_model.specs.declared.thing.Thing.TheVariants.{Accept, Read, Write}
 use Rattle.filter_model.specs.Lists.{Listed}
 use Rattle.filter_model.specs.Pairs.{Pair, half_of, reaches, wants_half}
-use Rattle.filter_model.specs.Filters.{AllFit, Connected, Ended, Fits, Happening, Heard, Joined, Lost, State, Took, can_send, find_pair, has_place, has_number, is_reached, owed_by, owed_of, reached_by, run, sends_by, step, wants_by}
+use Rattle.filter_model.specs.Filters.{AllFit, Connected, Ended, Fits, Happening, Heard, Joined, Lost, Numbered, State, Took, can_send, find_pair, has_place, has_number, first_state, is_reached, owed_by, owed_of, reached_by, run, sends_by, step, wants_by}
 use Rattle.filter_model.specs.Lines.{first_servable, is_idle, is_next, is_servable, is_thing, same_side}
 use Rattle.filter_model.specs.Answered.{Due, Binding, Closing, Free, Nothing, Parting, Reading, after_accept, after_bind, after_close, after_connect, after_disconnect, after_poll, after_read, after_write, end_of}
 use Rattle.filter_model.specs.LegalPairs.{allowed, allowed_at, first_reading, read_on}
@@ -45,7 +45,7 @@ use Rattle.filter_model.proofs.FairLemmas.{same_is, two}
 use Rattle.filter_model.proofs.JournalLemmas.{only_some, then_some}
 use Rattle.filter_model.proofs.FewLemmas.{each_holds_few}
 use Rattle.filter_model.proofs.PurposeLemmas.{each_keeps_purposes, keeps}
-use Rattle.filter_model.proofs.WatchLemmas.{Good, GoodAt, each_is_exact, new-holds, run-good}
+use Rattle.filter_model.proofs.WatchLemmas.{Good, GoodAt, each_is_exact, listed-run, new-holds, run-good}
 
 -- ---- what can be served
 
@@ -516,24 +516,32 @@ calls-bring from to (next ∷ calls) legal =
 
 -- ---- the law
 
-passed : (listed : Listed) (calls : List PairEntry) (number : ℕ) (watched : Option Watched) → IfSome watched (IsExact listed) → IfSome watched (KeepsPurposes listed)
-    → ((side : Side) → stream_at side watched ≡ stream_by number side calls) → IsPassed listed calls number
-passed listed calls number None exact kept streams = record {
+passed : (listed : Listed) (calls : List PairEntry) (number last : ℕ) (pairs : List Numbered) (spare : Bool) (watched : Option Watched)
+    → Good listed number last (find_pair number pairs) spare watched → IfSome watched (IsExact listed) → IfSome watched (KeepsPurposes listed)
+    → ((side : Side) → stream_at side watched ≡ stream_by number side calls) → IsPassed listed calls pairs number
+passed listed calls number last pairs spare None good exact kept streams = record {
   watched = new_watched;
+  own = λ pair is. absurd (let none = good in cc);
   client = streams Client;
   upstream = streams Upstream;
   exact = (new-holds listed).exact;
   kept = keeps listed new_watched (new-holds listed);
 }
-passed listed calls number (Some watched) exact kept streams = record { watched = watched; client = streams Client; upstream = streams Upstream; exact = exact; kept = kept }
+passed listed calls number last pairs spare (Some watched) good exact kept streams =
+    record { watched = watched; own = good.1.same; client = streams Client; upstream = streams Upstream; exact = exact; kept = kept }
 
 pub each_passes : EachPasses
 each_passes listed path upstream calls to legal =
     let bring = calls-bring (first_reading listed path upstream) to calls legal in
+    let after : State = run (first_state listed) (events_brought calls) in
     record {
       fit = bring.fit;
       state = bring.leads;
       few = subst AreFew (sym bring.leads) (each_holds_few listed (events_brought calls) bring.fit);
-      each = λ number. passed listed calls number (watched_of number listed (events_brought calls))
+      each = λ number. passed listed calls number after.last_pair to.state.pairs (has_number number after.spares) (watched_of number listed (events_brought calls))
+          (subst (λ (s : State). Good listed number after.last_pair (find_pair number s.pairs) (has_number number after.spares) (watched_of number listed (events_brought calls)))
+          (sym bring.leads)
+          (subst (λ l. Good l number after.last_pair (find_pair number after.pairs) (has_number number after.spares) (watched_of number listed (events_brought calls)))
+          (listed-run (first_state listed) (events_brought calls)) (run-good number (first_state listed) None (events_brought calls) bring.range bring.fit refl)))
           (each_is_exact listed (events_brought calls) number bring.range bring.fit) (each_keeps_purposes listed (events_brought calls) number bring.range bring.fit) (λ side. bring.streams number side None refl);
     }

@@ -3,6 +3,8 @@ use Rattle.std.proofs.Common.{◌≡◌, ◌∙◌, ◌&&◌, ◌++◌, ◌∷�
 use Rattle.std.specs.List.{filter, list_any}
 use Rattle.std.specs.Str.{bytes_eq}
 use Rattle.std.specs.Option.{IfSome}
+use Rattle.std.specs.Prelude.{not}
+use Rattle.std.proofs.lemmas.Bool.{and_parts, not-true}
 use Rattle.std.proofs.lemmas.List.{length-append}
 use Rattle.std.proofs.lemmas.List.Elements.{All-cons, All-head, All-nil, All-tail}
 use Rattle.wire_text.specs.Bounds.{longest_body}
@@ -12,6 +14,7 @@ use Rattle.wire_text.proofs.WireLemmas.{length-string}
 use Rattle.agent_msg.specs.Requests.{IsSigning, Sign, Signing}
 use Rattle.agent_msg.proofs.ReadLemmas.{request_is_read}
 use Rattle.key_purposes.specs.declared.purpose.Purpose.{Purpose}
+use Rattle.key_purposes.specs.Messages.{are_for, is_by_sha1}
 use Rattle.key_purposes.proofs.MessageLemmas.{one_is}
 use Rattle.filter_model.specs.Lists.{Listed}
 use Rattle.filter_model.specs.Pairs.{Pair}
@@ -50,6 +53,11 @@ message_bytes body signing is bytes =
     let later = back_bytes (string signing.blob) (string signing.message ++ uint32 signing.flags) fields in
     text_bytes signing.message (front_bytes (string signing.message) (uint32 signing.flags) later)
 
+blob_bytes : (body : List ℕ) (signing : Signing) → IsSigning body signing → IsBytes body → IsBytes signing.blob
+blob_bytes body signing is bytes =
+    let fields = All-tail (λ byte. byte < 256) 13 (string signing.blob ++ (string signing.message ++ uint32 signing.flags)) (subst IsBytes is.printed bytes) in
+    text_bytes signing.blob (front_bytes (string signing.blob) (string signing.message ++ uint32 signing.flags) fields)
+
 message_short : (body : List ℕ) (signing : Signing) → IsSigning body signing → length body ≤ longest_body → length signing.message < 2 ^ 30
 message_short body signing is within =
     omega (
@@ -73,8 +81,13 @@ module _ (listed : Listed) (purposes : List Purpose) (given : listed.purposes �
   forwarded_is_for body is bytes forwarded = λ signing signs.
       let passes = sym (ap (may_pass listed) (request_is_read body (Sign signing) signs)) ∙ forwarded in
       let has = and_right (list_any (bytes_eq signing.blob) listed.blobs) (has_purpose listed.purposes signing) passes in
-      (one_is signing.message signing.blob (message_bytes body signing signs bytes) (message_short body signing signs is.within) purposes).0
-      (sym (ap (λ (p : Option (List Purpose)). has_purpose p signing) given) ∙ has)
+      let both = and_parts (not (is_by_sha1 signing.blob signing.flags)) (are_for purposes signing.message signing.blob)
+      (sym (ap (λ (p : Option (List Purpose)). has_purpose p signing) given) ∙ has) in
+      record {
+        for_one = (one_is signing.message signing.blob (message_bytes body signing signs bytes) (blob_bytes body signing signs bytes)
+            (message_short body signing signs is.within) purposes).0 both.1;
+        hashed = not-true (is_by_sha1 signing.blob signing.flags) both.0;
+      }
 
   one_more : (body : List ℕ) (taken : List (List ℕ)) (test : Bool) → IsBody longest_body body → IsBytes body → is_forwarded listed body ≡ test
       → All (IsSignedFor purposes) (filter (is_forwarded listed) taken)

@@ -18,7 +18,8 @@ use Rattle.pair_ports.specs.declared.side.Side.{Side}
 use Rattle.pair_ports.specs.declared.side.Side.TheVariants.{Client, Upstream}
 use Rattle.filter_model.specs.Answered.{Reading, end_of}
 use Rattle.filter_model.specs.Lists.{Listed}
-use Rattle.filter_model.specs.Filters.{AllFit, Connected, Ended, Happening, Heard, Joined, Took, first_state, run}
+use Rattle.filter_model.specs.Pairs.{Pair}
+use Rattle.filter_model.specs.Filters.{AllFit, Connected, Ended, Happening, Heard, Joined, Numbered, Took, find_pair, first_state, run}
 use Rattle.filter_model.specs.LegalPairs.{first_reading, read_on}
 use Rattle.filter_model.specs.Lines.{same_side}
 use Rattle.filter_model.specs.Places.{AreFew}
@@ -120,9 +121,11 @@ stream_by number side calls = record {
 
 -- the bytes of both sides of the pair of this number are those of a pair that is exact: each request that may pass was
 -- written upstream, or is owed, in order, and no other; and the client was written, or is owed, one reply to each. Where
--- purposes are given, each signing request that was written upstream is for one of them
-pub record IsPassed (listed : Listed) (calls : List PairEntry) (number : ℕ) : Type 0 where
+-- purposes are given, each signing request that was written upstream is for one of them. The pair is that of the
+-- number, where it is open, so what is owed is what it is owed there
+pub record IsPassed (listed : Listed) (calls : List PairEntry) (pairs : List Numbered) (number : ℕ) : Type 0 where
   pub watched : Watched
+  pub own : (pair : Pair) → find_pair number pairs ≡ Some pair → watched.pair ≡ pair
   pub client : watched.client ≡ stream_by number Client calls
   pub upstream : watched.upstream ≡ stream_by number Upstream calls
   pub exact : IsExact listed watched
@@ -133,7 +136,7 @@ pub record IsPassed (listed : Listed) (calls : List PairEntry) (number : ℕ) : 
 pub record Passes (listed : Listed) (calls : List PairEntry) (to : Reading) : Type 0 where
   pub fit : AllFit (first_state listed) (events_brought calls)
   pub state : to.state ≡ run (first_state listed) (events_brought calls)
-  pub each : (number : ℕ) → IsPassed listed calls number
+  pub each : (number : ℕ) → IsPassed listed calls to.state.pairs number
   pub few : AreFew to.state
 
 -- the law

@@ -1,18 +1,22 @@
 -- What a filter with purposes puts to the agent behind it, by the grammars of requests and messages (ours).
-use Rattle.std.specs.Prelude.{◌≡◌, ℕ, List, ◌++◌, All, Some}
+use Rattle.std.specs.Prelude.{◌≡◌, ℕ, false, List, ◌++◌, All, Some}
 use Rattle.std.specs.Option.{IfSome}
 use Rattle.wire_text.specs.Frames.{frames}
 use Rattle.agent_msg.specs.Requests.{IsSigning, Signing}
-use Rattle.key_purposes.specs.Messages.{IsForOne}
+use Rattle.key_purposes.specs.Messages.{IsForOne, is_by_sha1}
 use Rattle.key_purposes.specs.declared.purpose.Purpose.{Purpose}
 use Rattle.filter_model.specs.Lists.{Listed}
 use Rattle.filter_model.specs.Filters.{AllFit, Happening, first_state}
 use Rattle.filter_model.specs.Watching.{IsInRange, Watched, watched_of}
 
--- where the body is a signing request, its message is for one of these purposes
+-- what is to be signed is for one of these purposes, and not by SHA-1
+pub record IsFitFor (purposes : List Purpose) (signing : Signing) : Type 0 where
+  pub for_one : IsForOne purposes signing.message signing.blob
+  pub hashed : is_by_sha1 signing.blob signing.flags ≡ false
+
+-- where the body is a signing request, it is so
 abbrev pub IsSignedFor : List Purpose → List ℕ → Type 0
-IsSignedFor purposes body =
-    (signing : Signing) → IsSigning body signing → IsForOne purposes signing.message signing.blob
+IsSignedFor purposes body = (signing : Signing) → IsSigning body signing → IsFitFor purposes signing
 
 -- what was sent to the agent behind, and what it is owed yet, are the frames of such bodies
 pub record PutsFor (purposes : List Purpose) (watched : Watched) : Type 0 where

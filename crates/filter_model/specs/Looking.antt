@@ -45,10 +45,10 @@ and_then first next = and_then_if first.is_open first.pair next
 abbrev pub is_listed : List ℕ → List (List ℕ) → Bool
 is_listed blob blobs = list_any (bytes_eq blob) blobs
 
--- the key is listed, and the message is for one of its purposes, where there are any
+-- the key is listed, and the message is for one of its purposes and not signed by SHA-1, where there are any
 abbrev pub may_sign : Listed → Signing → Bool
 may_sign listed signing =
-    is_listed signing.blob listed.blobs && may_be_for listed.purposes signing.message signing.blob
+    is_listed signing.blob listed.blobs && may_be_for listed.purposes signing.message signing.blob signing.flags
 
 -- what a body makes the pair wait for: nothing where it is refused
 abbrev pub waits_by : Bool → Waits

@@ -2,7 +2,7 @@
 use Rattle.std.specs.Prelude.{ℕ, true, List, [], ◌∷◌, ◌++◌, length, replicate, codes}
 use Rattle.pair_ports.specs.declared.side.Side.{Side}
 use Rattle.pair_ports.specs.declared.side.Side.TheVariants.{Client, Upstream}
-use Rattle.key_purposes.specs.Rows.{commit, login}
+use Rattle.key_purposes.specs.Rows.{commit, connection, keyed, login, login_by, publickey, session}
 use Rattle.key_purposes.specs.declared.purpose.Purpose.{Purpose}
 use Rattle.filter_model.specs.Pairs.{new_pair}
 use Rattle.filter_model.specs.Lists.{for_all, for_these}
@@ -53,6 +53,11 @@ owed side events = owed_of 1 side (after events)
 -- SSH_AGENTC_SIGN_REQUEST for the data of a login by the key of tag 17
 abbrev pub sign_login : ℕ → List ℕ
 sign_login tag = 0 ∷ 0 ∷ 0 ∷ 216 ∷ 13 ∷ 0 ∷ 0 ∷ 0 ∷ 64 ∷ (blob tag ++ 0 ∷ 0 ∷ 0 ∷ 139 ∷ (login ++ 0 ∷ 0 ∷ 0 ∷ 0 ∷ []))
+
+-- the same where the flag of the login is 2
+abbrev pub sign_like_login : ℕ → List ℕ
+sign_like_login tag = 0 ∷ 0 ∷ 0 ∷ 216 ∷ 13 ∷ 0 ∷ 0 ∷ 0 ∷ 64 ∷ (blob tag ++ 0 ∷ 0 ∷ 0 ∷ 139
+    ∷ (login_by session connection publickey 2 keyed ++ 0 ∷ 0 ∷ 0 ∷ 0 ∷ []))
 
 -- the same for those of a commit
 abbrev pub sign_commit : ℕ → List ℕ

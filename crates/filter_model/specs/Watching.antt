@@ -1,5 +1,5 @@
 -- What each pair ever heard, sent and was owed, and what that has to be (ours).
-use Rattle.std.specs.Prelude.{◌≡◌, ℕ, suc, ◌==◌, ◌&&◌, Bool, true, false, List, [], ◌∷◌, ◌++◌, take, map, All, Option, Some, None, Result, Ok, Err, if◌then◌else◌}
+use Rattle.std.specs.Prelude.{◌≡◌, ℕ, suc, ◌==◌, ◌&&◌, Bool, true, false, List, [], ◌∷◌, ◌++◌, take, map, All, Option, Some, None, Result, Ok, Err, if◌then◌else◌, not}
 use Rattle.std.specs.List.{filter, flat_map, list_any}
 use Rattle.std.specs.Str.{bytes_eq}
 use Rattle.std.specs.Option.{IfSome}
@@ -16,7 +16,7 @@ use Rattle.pair_ports.specs.declared.side.Side.TheVariants.{Client, Upstream}
 use Rattle.wire_text.specs.Bounds.{longest_body}
 use Rattle.filter_model.specs.declared.waits.Waits.TheVariants.{Nothing, OnList, OnBind, OnReply}
 use Rattle.filter_model.specs.declared.waits.Waits.{Waits}
-use Rattle.key_purposes.specs.Messages.{are_for}
+use Rattle.key_purposes.specs.Messages.{are_for, is_by_sha1}
 use Rattle.key_purposes.specs.declared.purpose.Purpose.{Purpose}
 use Rattle.filter_model.specs.Lists.{Listed}
 use Rattle.filter_model.specs.Pairs.{Pair, half_of, new_pair}
@@ -110,10 +110,11 @@ watched_of number listed events = watched_on number (first_state listed) None ev
 
 -- ---- what that has to be
 
--- a message may be signed: no purposes are given, or it is for one of these
+-- a message may be signed: no purposes are given, or it is for one of these and isn't signed by SHA-1
 abbrev pub has_purpose : Option (List Purpose) → Signing → Bool
 has_purpose None signing = true
-has_purpose (Some purposes) signing = are_for purposes signing.message signing.blob
+has_purpose (Some purposes) signing =
+    not (is_by_sha1 signing.blob signing.flags) && are_for purposes signing.message signing.blob
 
 -- in the law's own words: a list, a bind, and a signature by a key that is listed for one of its purposes may pass
 abbrev pub may_pass : Listed → Result ClientRequest MsgFault → Bool

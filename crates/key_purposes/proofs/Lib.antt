@@ -1,2 +1,4 @@
-pub mod MessageLemmas
 pub mod WordLemmas
+pub mod SuspicionLemmas
+pub mod MessageLemmas
+pub mod OtherLemmas

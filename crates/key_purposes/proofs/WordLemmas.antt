@@ -11,7 +11,7 @@ use Rattle.wire_core.specs.Readings.{◌>>=◌}
 use Rattle.wire_core.proofs.ReadingLemmas.{bind_ok}
 use Rattle.key_purposes.specs.declared.fault.PurposeFault.TheVariants.{Long, Many, Twice, Unknown}
 use Rattle.key_purposes.specs.declared.purpose.Purpose.{Purpose}
-use Rattle.key_purposes.specs.declared.purpose.Purpose.TheVariants.{AnyNamespace, Login, Namespace, Other}
+use Rattle.key_purposes.specs.declared.purpose.Purpose.TheVariants.{AnyNamespace, Certificate, Login, Namespace, Other}
 use Rattle.key_purposes.specs.Purposes.{ArePurposes, IsPurpose, in_namespace, is_same, purpose_named, purposes_in, some_purposes, with_purpose, with_word, with_words, word_of}
 
 -- ---- one word
@@ -29,23 +29,29 @@ namespace_is word (byte ∷ rest) purpose is read =
 named_is : (word : List ℕ) (purpose : Purpose) → purpose_named word ≡ Ok purpose → IsNamed word purpose
 unfolding purpose_named
 named_is word purpose read =
-    first (bytes_eq word (codes "login")) (bytes_eq word (codes "sshsig")) (bytes_eq word (codes "other")) (bytes_eq (take 7 word) (codes "sshsig:")) refl refl refl refl read
+    first (bytes_eq word (codes "login")) (bytes_eq word (codes "sshsig")) (bytes_eq word (codes "certificate")) (bytes_eq word (codes "other"))
+    (bytes_eq (take 7 word) (codes "sshsig:")) refl refl refl refl refl read
   where
-    first : (a b c d : Bool) → bytes_eq word (codes "login") ≡ a → bytes_eq word (codes "sshsig") ≡ b → bytes_eq word (codes "other") ≡ c → bytes_eq (take 7 word) (codes "sshsig:") ≡ d
-        → cond a (Ok Login) (cond b (Ok AnyNamespace) (cond c (Ok Other) (cond d (in_namespace (drop 7 word)) (Err Unknown)))) ≡ Ok purpose → IsNamed word purpose
-    first true b c d at_a at_b at_c at_d is =
+    first : (a b c d e : Bool) → bytes_eq word (codes "login") ≡ a → bytes_eq word (codes "sshsig") ≡ b → bytes_eq word (codes "certificate") ≡ c → bytes_eq word (codes "other") ≡ d
+        → bytes_eq (take 7 word) (codes "sshsig:") ≡ e
+        → cond a (Ok Login) (cond b (Ok AnyNamespace) (cond c (Ok Certificate) (cond d (Ok Other) (cond e (in_namespace (drop 7 word)) (Err Unknown))))) ≡ Ok purpose
+        → IsNamed word purpose
+    first true b c d e at_a at_b at_c at_d at_e is =
         let same : Login ≡ purpose = cc in
         subst (λ (p : Purpose). IsNamed word p) same (record { spelt = (bytes_eq-Decides word (codes "login")).0 at_a; good = tt })
-    first false true c d at_a at_b at_c at_d is =
+    first false true c d e at_a at_b at_c at_d at_e is =
         let same : AnyNamespace ≡ purpose = cc in
         subst (λ (p : Purpose). IsNamed word p) same (record { spelt = (bytes_eq-Decides word (codes "sshsig")).0 at_b; good = tt })
-    first false false true d at_a at_b at_c at_d is =
+    first false false true d e at_a at_b at_c at_d at_e is =
+        let same : Certificate ≡ purpose = cc in
+        subst (λ (p : Purpose). IsNamed word p) same (record { spelt = (bytes_eq-Decides word (codes "certificate")).0 at_c; good = tt })
+    first false false false true e at_a at_b at_c at_d at_e is =
         let same : Other ≡ purpose = cc in
-        subst (λ (p : Purpose). IsNamed word p) same (record { spelt = (bytes_eq-Decides word (codes "other")).0 at_c; good = tt })
-    first false false false true at_a at_b at_c at_d is =
-        let front = (bytes_eq-Decides (take 7 word) (codes "sshsig:")).0 at_d in
+        subst (λ (p : Purpose). IsNamed word p) same (record { spelt = (bytes_eq-Decides word (codes "other")).0 at_d; good = tt })
+    first false false false false true at_a at_b at_c at_d at_e is =
+        let front = (bytes_eq-Decides (take 7 word) (codes "sshsig:")).0 at_e in
         namespace_is word (drop 7 word) purpose (sym (take-append-drop 7 word) ∙ ap (λ (f : List ℕ). f ++ drop 7 word) front) is
-    first false false false false at_a at_b at_c at_d is = absurd cc
+    first false false false false false at_a at_b at_c at_d at_e is = absurd cc
 
 -- one purpose more
 pub record Adds (held : List Purpose) (word : List ℕ) (after : List Purpose) : Type 0 where
@@ -152,6 +158,7 @@ unfolding purpose_named
 named_again Login is = refl
 named_again (Namespace namespace) is = namespace_again namespace is
 named_again AnyNamespace is = refl
+named_again Certificate is = refl
 named_again Other is = refl
 
 -- a purpose behind others that are distinct with it isn't one of them

@@ -1,3 +1,4 @@
 pub mod Purposes
+pub mod Suspicions
 pub mod Messages
 pub mod Rows

@@ -6,7 +6,7 @@ use Rattle.wire_core.specs.Readings.{◌>>=◌}
 use Rattle.key_purposes.specs.declared.fault.PurposeFault.{PurposeFault}
 use Rattle.key_purposes.specs.declared.fault.PurposeFault.TheVariants.{Missing, Many, Long, Unknown, Twice}
 use Rattle.key_purposes.specs.declared.purpose.Purpose.{Purpose}
-use Rattle.key_purposes.specs.declared.purpose.Purpose.TheVariants.{Login, Namespace, AnyNamespace, Other}
+use Rattle.key_purposes.specs.declared.purpose.Purpose.TheVariants.{Login, Namespace, AnyNamespace, Certificate, Other}
 
 -- ---- purposes and their words
 
@@ -15,6 +15,7 @@ abbrev pub word_of : Purpose → List ℕ
 word_of Login = codes "login"
 word_of (Namespace namespace) = codes "sshsig:" ++ namespace
 word_of AnyNamespace = codes "sshsig"
+word_of Certificate = codes "certificate"
 word_of Other = codes "other"
 
 -- both are one purpose
@@ -22,6 +23,7 @@ abbrev pub is_same : Purpose → Purpose → Bool
 is_same Login Login = true
 is_same (Namespace namespace) (Namespace named) = bytes_eq namespace named
 is_same AnyNamespace AnyNamespace = true
+is_same Certificate Certificate = true
 is_same Other Other = true
 is_same one _ = false
 
@@ -38,6 +40,7 @@ abbrev pub IsPurpose : Purpose → Type 0
 IsPurpose Login = ⊤
 IsPurpose (Namespace namespace) = namespace ≢ []
 IsPurpose AnyNamespace = ⊤
+IsPurpose Certificate = ⊤
 IsPurpose Other = ⊤
 
 -- the words name these purposes, each in its place
@@ -61,6 +64,7 @@ unfoldable pub purpose_named : List ℕ → Result Purpose PurposeFault
 purpose_named word =
     if bytes_eq word (codes "login") then Ok Login
     else if bytes_eq word (codes "sshsig") then Ok AnyNamespace
+    else if bytes_eq word (codes "certificate") then Ok Certificate
     else if bytes_eq word (codes "other") then Ok Other
     else if bytes_eq (take 7 word) (codes "sshsig:") then in_namespace (drop 7 word)
     else Err Unknown

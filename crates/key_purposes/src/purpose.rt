@@ -15,7 +15,9 @@ pub enum Purpose {
     Namespace(Bytes),
     /// A file's signature in any namespace: `sshsig`.
     AnyNamespace,
-    /// What is none of these: `other`.
+    /// What begins as a certificate, to be signed by an authority: `certificate`.
+    Certificate,
+    /// What is none of these, and no server takes as a login: `other`.
     Other,
 }
 
@@ -29,6 +31,7 @@ pub fn is_same(one: &Purpose, other: &Purpose) -> bool
             namespace.as_slice() == named.as_slice()
         }
         (Purpose::AnyNamespace, Purpose::AnyNamespace) => true,
+        (Purpose::Certificate, Purpose::Certificate) => true,
         (Purpose::Other, Purpose::Other) => true,
         _ => false,
     }
@@ -45,6 +48,7 @@ pub fn put_word(out: &mut Vec<u8>, purpose: &Purpose) -> Result<(), AllocError>
             out.extend_from_slice(namespace.as_slice())
         }
         Purpose::AnyNamespace => out.extend_from_slice(b"sshsig".as_slice()),
+        Purpose::Certificate => out.extend_from_slice(b"certificate".as_slice()),
         Purpose::Other => out.extend_from_slice(b"other".as_slice()),
     }
 }

@@ -35,6 +35,9 @@ fn named(alloc: Global, word: &[u8]) -> Result<Purpose, PurposeFault>
     if word == b"sshsig".as_slice() {
         return Ok(Purpose::AnyNamespace);
     }
+    if word == b"certificate".as_slice() {
+        return Ok(Purpose::Certificate);
+    }
     if word == b"other".as_slice() {
         return Ok(Purpose::Other);
     }
@@ -97,7 +100,7 @@ fn some(purposes: Vec<Purpose>) -> Result<Vec<Purpose>, PurposeFault>
 }
 
 /// The purposes that these words name, in their order: 1 to 64 words of at most 255 bytes, none twice, each of them
-/// `login`, `sshsig`, `other` or `sshsig:NAMESPACE`.
+/// `login`, `sshsig`, `certificate`, `other` or `sshsig:NAMESPACE`.
 pub fn read_purposes(alloc: Global, words: &[String]) -> Result<Vec<Purpose>, PurposeFault>
     ensures { MatchResult result (λ purposes. purposes_in (map string_bytes words.now) ≡ Ok purposes.items)
         (λ fault. (fault ≡ Memory) ⊎ (purposes_in (map string_bytes words.now) ≡ Err fault)) }

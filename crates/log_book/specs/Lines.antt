@@ -3,12 +3,8 @@ use Rattle.std.specs.Prelude.{ℕ, List, [], ◌∷◌, ◌++◌, Bool, true, fa
 use Rattle.key_blob.specs.Fingerprints.{fingerprint_of}
 use Rattle.key_blob.specs.PublicKeys.{KeyParts, public_key_of}
 use Rattle.key_blob.specs.declared.fault.KeyFault.{KeyFault}
-use Rattle.userauth_blob.specs.Reading.{auth_of}
+use Rattle.key_purposes.specs.Messages.{Authentication, Certificate, FileIn, MayLogIn, OtherData, Use, use_of}
 use Rattle.userauth_blob.specs.UserAuths.{Login}
-use Rattle.userauth_blob.specs.declared.fault.AuthFault.{AuthFault}
-use Rattle.sshsig_blob.specs.FileSignatures.{Signing}
-use Rattle.sshsig_blob.specs.Reading.{signing_of}
-use Rattle.sshsig_blob.specs.declared.fault.SshsigFault.{SshsigFault}
 use Rattle.log_book.specs.declared.told.Fate.{Fate}
 use Rattle.log_book.specs.declared.told.Fate.TheVariants.{Signed, Refused, HelperRefused, HelperLost, Left, Open}
 use Rattle.log_book.specs.declared.told.Told.{Told}
@@ -46,27 +42,21 @@ namespace_text namespace = codes "file in namespace " ++ quoted namespace
 abbrev pub bytes_text : ℕ → List ℕ
 bytes_text count = decimal count ++ codes " bytes"
 
--- how many bytes other data has
-abbrev pub size_text : ℕ → List ℕ
-size_text size = codes "other data, " ++ bytes_text size
-
--- a file's signature, or else so many bytes of other data
-abbrev pub file_text : Result Signing SshsigFault → ℕ → List ℕ
-file_text (Ok signing) size = namespace_text signing.namespace
-file_text (Err fault) size = size_text size
-
 -- who logs in, and where
 abbrev pub login_text : Login → List ℕ
 login_text login = codes "login as " ++ (quoted login.user ++ host_text login.host_key)
 
--- a login with this key, or else what it is for all keys
-abbrev pub message_by : Result Login AuthFault → List ℕ → List ℕ
-message_by (Ok login) message = login_text login
-message_by (Err fault) message = file_text (signing_of message) (length message)
+-- what is signed, by what a message of so many bytes reads as
+abbrev pub message_by : Use → ℕ → List ℕ
+message_by (Authentication login) size = login_text login
+message_by (FileIn namespace) size = namespace_text namespace
+message_by Certificate size = codes "certificate, " ++ bytes_text size
+message_by MayLogIn size = codes "may be a login, " ++ bytes_text size
+message_by OtherData size = codes "other data, " ++ bytes_text size
 
 -- what a message has the key of this blob sign
 unfoldable pub message_text : List ℕ → List ℕ → List ℕ
-message_text message blob = message_by (auth_of message blob) message
+message_text message blob = message_by (use_of message blob) (length message)
 
 -- ---- what came of it
 

@@ -1,6 +1,6 @@
 //! What a record's run tells of signing requests: what was seen at clients' sockets and of the helper becomes one told
 //! request after another, each with its fate, and each is a line of text. docs/PROTOCOL.md, "A log".
-//! Stands on agent_msg, frame_core, key_blob, userauth_blob, sshsig_blob and schedule_text.
+//! Stands on agent_msg, frame_core, key_blob, key_purposes, userauth_blob and schedule_text.
 #![tactic(auto)]
 
 mod asked;

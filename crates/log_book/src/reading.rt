@@ -1,18 +1,17 @@
 //! Keys, and what is signed by them, in words.
 
-ghost use Rattle.std.specs.Prelude.{◌≡◌, ◌++◌, OnOk, length};
+ghost use Rattle.std.specs.Prelude.{◌≡◌, ◌++◌, OnOk};
 ghost use Rattle.std.specs.Option.{option_map};
-ghost use Rattle.sshsig_blob.specs.Reading.{signing_of};
 ghost use Rattle.userauth_blob.specs.UserAuths.{login};
-ghost use Rattle.log_book.specs.Lines.{bytes_text, comment_text, file_text, host_text, key_text, login_text, message_text, namespace_text, size_text};
+ghost use Rattle.log_book.specs.Lines.{bytes_text, comment_text, host_text, key_text, login_text, message_text, namespace_text};
 
 use crate::shown::put_quoted;
 use key_blob::{fingerprint, read_public};
+use key_purposes::{Use, use_of};
 use plain_lists::Bytes;
 use schedule_text::put_number;
-use sshsig_blob::read_sshsig;
 use std::alloc::{AllocError, Global};
-use userauth_blob::{UserAuth, read_userauth};
+use userauth_blob::UserAuth;
 
 /// Appends the fingerprint of the key of this blob.
 #[tactic(auto, unfolding(crate::specs::Lines::key_text))]
@@ -71,23 +70,12 @@ fn put_bytes(out: &mut Vec<u8>, count: usize) -> Result<(), AllocError>
     out.extend_from_slice(b" bytes")
 }
 
-// Appends how many bytes other data has.
-fn put_size(out: &mut Vec<u8>, size: usize) -> Result<(), AllocError>
-    ensures { OnOk result (out.new.items ≡ out.old.items ++ size_text size) }
+// Appends these words, and then a number of bytes.
+fn put_size(out: &mut Vec<u8>, words: &[u8], size: usize) -> Result<(), AllocError>
+    ensures { OnOk result (out.new.items ≡ out.old.items ++ (words.now ++ bytes_text size)) }
 {
-    out.extend_from_slice(b"other data, ")?;
+    out.extend_from_slice(words)?;
     put_bytes(out, size)
-}
-
-// Appends the namespace of a file's signature, or the size of other data.
-fn put_file(out: &mut Vec<u8>, message: &[u8]) -> Result<(), AllocError>
-    ensures { OnOk result (out.new.items ≡ out.old.items
-        ++ file_text (signing_of message.now) (length message.now)) }
-{
-    match read_sshsig(message) {
-        Ok(signed) => put_namespace(out, signed.namespace),
-        Err(_) => put_size(out, message.len()),
-    }
 }
 
 // Appends who logs in, and where.
@@ -109,8 +97,12 @@ pub fn put_message(
 ) -> Result<(), AllocError>
     ensures { OnOk result (out.new.items ≡ out.old.items ++ message_text message.now blob.now) }
 {
-    match read_userauth(message, blob) {
-        Ok(login) => put_login(alloc, out, &login),
-        Err(_) => put_file(out, message),
+    let size = message.len();
+    match use_of(message, blob) {
+        Use::Authentication(login) => put_login(alloc, out, &login),
+        Use::FileIn(namespace) => put_namespace(out, namespace),
+        Use::Certificate => put_size(out, b"certificate, ", size),
+        Use::MayLogIn => put_size(out, b"may be a login, ", size),
+        Use::OtherData => put_size(out, b"other data, ", size),
     }
 }

@@ -8,7 +8,7 @@ use Rattle.world_ports.specs.declared.Door.{Door}
 use Rattle.world_ports.specs.declared.Door.TheVariants.{Clients, Children}
 use Rattle.world_ports.specs.declared.answers.Accepted.TheVariants as accepted
 use Rattle.world_ports.specs.declared.answers.Got.TheVariants as got
-use Rattle.world_ports.specs.declared.answers.WorldFault.TheVariants.{Failed}
+use Rattle.world_ports.specs.declared.answers.WorldFault.TheVariants.{Failed, Memory}
 use Rattle.world_ports.specs.declared.answers.Wrote.TheVariants as wrote
 use Rattle.world_ports.specs.declared.entry.Entry.{Entry}
 use Rattle.world_ports.specs.declared.entry.Entry.TheVariants as entry
@@ -174,7 +174,16 @@ left (entry.Close port answer) recording =
     only [] (record recording { ports = remove_by number_of port recording.ports })
 left (entry.Start job (Ok ticket)) recording = only (steps.Started job.number ticket ∷ []) recording
 left (entry.Start job (Err Failed)) recording = only (steps.Failed job.number ∷ []) recording
-left other recording = only [] recording
+-- what the outside didn't do, and what is said of time and readiness, leaves no line
+left (entry.Accept door (Ok accepted.NotNow)) recording = only [] recording
+left (entry.Accept door (Err fault)) recording = only [] recording
+left (entry.Read port room bytes (Ok got.NotNow)) recording = only [] recording
+left (entry.Read port room bytes (Err Memory)) recording = only [] recording
+left (entry.Write port offered (Ok wrote.NotNow)) recording = only [] recording
+left (entry.Write port offered (Err Memory)) recording = only [] recording
+left (entry.Start job (Err Memory)) recording = only [] recording
+left (entry.Poll wait items answer) recording = only [] recording
+left (entry.Now answer) recording = only [] recording
 
 -- what is kept then
 abbrev pub with_due : Left → Recording

@@ -3,7 +3,8 @@ use Rattle.std.proofs.Common.{◌≡◌, ℕ, ◌+◌, ◌^◌, ◌<◌, List, �
 use Rattle.std.proofs.lemmas.List.{length-append}
 use Rattle.wire_text.specs.Wire.{string, announced_len}
 use Rattle.wire_text.proofs.WireLemmas.{announced_len-string, length-string}
-use Rattle.userauth_blob.specs.UserAuths.{Login, IsUserAuth}
+use Rattle.userauth_blob.specs.UserAuths.{Login}
+use Rattle.userauth_blob.specs.Logins.{IsLogin}
 use Rattle.sshsig_blob.specs.FileSignatures.{Signing, preamble, IsSshsig}
 use Rattle.sshsig_blob.proofs.ReadLemmas.{sshsig_is_read}
 
@@ -15,7 +16,7 @@ preamble_announces : (rest : List ℕ) → announced_len (preamble ++ rest) ≡ 
 unfolding announced_len
 preamble_announces rest = refl
 
-pub no_login : (message blob : List ℕ) (auth : Login) (signed : Signing) → length message < 2 ^ 30 → IsUserAuth message blob auth → IsSshsig message signed → ⊥
+pub no_login : (message blob : List ℕ) (auth : Login) (signed : Signing) → length message < 2 ^ 30 → IsLogin message blob auth → IsSshsig message signed → ⊥
 no_login message blob auth signed small login file =
     let session : announced_len message ≡ length auth.session =
     ap announced_len login.text ∙ announced_len-string auth.session _ login.short_session in

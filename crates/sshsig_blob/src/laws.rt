@@ -2,7 +2,8 @@
 
 ghost use Rattle.std.specs.Prelude.{◌≡◌, ◌↔◌, ◌^◌, ◌<◌, List, ℕ, length, Ok};
 ghost use Rattle.wire_text.specs.Wire.{IsBytes};
-ghost use Rattle.userauth_blob.specs.UserAuths.{Login, IsUserAuth};
+ghost use Rattle.userauth_blob.specs.Logins.{IsLogin};
+ghost use Rattle.userauth_blob.specs.UserAuths.{Login};
 ghost use Rattle.sshsig_blob.specs.FileSignatures.{Signing, IsSshsig};
 ghost use Rattle.sshsig_blob.specs.Reading.{signing_of};
 
@@ -18,9 +19,9 @@ pub fn a_message_is_in_one_namespace()
         → IsSshsig message other → signed ≡ other }
 {}
 
-/// No message of less than 2^30 bytes is signed both for a login and for a file: the first four
+/// No message of less than 2^30 bytes is signed both for a login, by any blob of its key, and for a file: the first four
 /// letters of `SSHSIG` would be the length of a session identifier, which is longer.
 pub fn a_login_is_no_sshsig()
     ensures { (message blob : List ℕ) (auth : Login) (signed : Signing) → length message < 2 ^ 30
-        → IsUserAuth message blob auth → IsSshsig message signed → ⊥ }
+        → IsLogin message blob auth → IsSshsig message signed → ⊥ }
 {}

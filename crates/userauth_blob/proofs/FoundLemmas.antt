@@ -10,23 +10,23 @@ use Rattle.wire_core.proofs.ReadingLemmas.{bind_ok, ended_or_is}
 use Rattle.userauth_blob.proofs.PartLemmas.{text_is, byte_is, this_text_is, session_is, name_of, method_is, key_blob_is, host_key_is}
 
 -- the field of a host key that nothing follows
-host_ends : (bytes rest : List ℕ) (host_key : Option (List ℕ)) → bytes ≡ host_field host_key ++ rest → rest ≡ [] → bytes ≡ host_field host_key
+pub host_ends : (bytes rest : List ℕ) (host_key : Option (List ℕ)) → bytes ≡ host_field host_key ++ rest → rest ≡ [] → bytes ≡ host_field host_key
 host_ends bytes rest host_key parts none = parts ∙ ap (λ (left : List ℕ). host_field host_key ++ left) none ∙ append-nil (host_field host_key)
 
 -- a string, a byte and two more parts, one after another
-joined : (byte : ℕ) (whole first second third rest a b c : List ℕ) → whole ≡ first ++ a → a ≡ byte ∷ b → b ≡ second ++ c
+pub joined : (byte : ℕ) (whole first second third rest a b c : List ℕ) → whole ≡ first ++ a → a ≡ byte ∷ b → b ≡ second ++ c
     → c ≡ third ++ rest → whole ≡ first ++ byte ∷ (second ++ (third ++ rest))
 joined byte whole first second third rest a b c at_a at_b at_c at_rest = rw (at_a, at_b, at_c, at_rest) refl
 
 -- the front of a message: session identifier, user, service
-record IsOpening (bytes session user rest : List ℕ) : Type 0 where
+pub record IsOpening (bytes session user rest : List ℕ) : Type 0 where
   pub parts : bytes ≡ string session ++ 50 ∷ (string user ++ (string connection ++ rest))
   pub left : IsBytes rest
   pub some_session : session ≢ []
   pub short_session : length session < 2 ^ 32
   pub short_user : length user < 2 ^ 32
 
-opening_is : (bytes : List ℕ) (x : (List ℕ × List ℕ) × List ℕ) → IsBytes bytes → opening_at bytes ≡ Ok x →
+pub opening_is : (bytes : List ℕ) (x : (List ℕ × List ℕ) × List ℕ) → IsBytes bytes → opening_at bytes ≡ Ok x →
     IsOpening bytes x.0.0 x.0.1 x.1
 opening_is bytes x small read =
     let a = bind_ok (session_at bytes) _ x read in
@@ -78,7 +78,7 @@ signer_is blob bytes x small read =
     })
 
 -- the front, the key and the host key are what is signed
-signed : (message blob name algorithm a b : List ℕ) (auth : Login)
+pub signed : (message blob name algorithm a b : List ℕ) (auth : Login)
     → message ≡ string auth.session ++ 50 ∷ (string auth.user ++ (string connection ++ a))
     → a ≡ string name ++ 1 ∷ (string algorithm ++ (string blob ++ b)) → name ≡ method_name auth.host_key
     → b ≡ host_field auth.host_key → message ≡ signed_text auth algorithm blob

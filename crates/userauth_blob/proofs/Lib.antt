@@ -1,5 +1,6 @@
 pub mod FieldLemmas
 pub mod FoundLemmas
+pub mod LoginLemmas
 pub mod PartLemmas
 pub mod ReadLemmas
 pub mod UniqueLemmas

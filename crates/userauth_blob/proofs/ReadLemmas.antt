@@ -19,23 +19,23 @@ abbrev pub method_of : Option (List ℕ) → AuthMethod
 method_of None = PublicKey
 method_of (Some host_key) = HostBound
 
-text_again : (text rest : List ℕ) → length text < 2 ^ 32 → text_at (string text ++ rest) ≡ Ok (text, rest)
+pub text_again : (text rest : List ℕ) → length text < 2 ^ 32 → text_at (string text ++ rest) ≡ Ok (text, rest)
 text_again text rest small = rw (string_at-string text rest small) refl
 
-byte_again : (byte : ℕ) (other : AuthFault) (rest : List ℕ) → after_byte byte other (byte ∷ rest) ≡ Ok rest
+pub byte_again : (byte : ℕ) (other : AuthFault) (rest : List ℕ) → after_byte byte other (byte ∷ rest) ≡ Ok rest
 unfolding after_byte
 byte_again byte other rest = rw (eq-eqb byte byte refl) refl
 
-after_text_again : (text : List ℕ) (other : AuthFault) (rest : List ℕ) → length text < 2 ^ 32 → after_text text other (string text ++ rest) ≡ Ok rest
+pub after_text_again : (text : List ℕ) (other : AuthFault) (rest : List ℕ) → length text < 2 ^ 32 → after_text text other (string text ++ rest) ≡ Ok rest
 unfolding after_text
 after_text_again text other rest small = rw (string_at-string text rest small, (bytes_eq-Decides text text).1 refl) refl
 
-session_again : (session rest : List ℕ) → length session < 2 ^ 32 → session ≢ [] → session_at (string session ++ rest) ≡ Ok (session, rest)
+pub session_again : (session rest : List ℕ) → length session < 2 ^ 32 → session ≢ [] → session_at (string session ++ rest) ≡ Ok (session, rest)
 unfolding session_at
 session_again [] rest small some = absurd (some refl)
 session_again (byte ∷ session) rest small some = rw (string_at-string (byte ∷ session) rest small) refl
 
-method_again : (host_key : Option (List ℕ)) (rest : List ℕ) → method_at (string (method_name host_key) ++ rest) ≡ Ok (method_of host_key, rest)
+pub method_again : (host_key : Option (List ℕ)) (rest : List ℕ) → method_at (string (method_name host_key) ++ rest) ≡ Ok (method_of host_key, rest)
 unfolding method_at method_named
 method_again None rest = rw (string_at-string (codes "publickey") rest (lit< tt)) refl
 method_again (Some host_key) rest = rw (string_at-string (codes "publickey-hostbound-v00@openssh.com") rest (lit< tt)) refl

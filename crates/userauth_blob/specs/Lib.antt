@@ -1,2 +1,3 @@
 pub mod UserAuths
 pub mod Reading
+pub mod Logins

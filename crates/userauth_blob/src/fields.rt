@@ -48,7 +48,7 @@ pub fn take_session<'a>(from: &mut Cursor<'a>) -> Result<&'a [u8], AuthFault>
 }
 
 /// Whether the blob is a public key's that can be used with the algorithm.
-fn key_fits(blob: &[u8], algorithm: &[u8]) -> bool
+pub fn key_fits(blob: &[u8], algorithm: &[u8]) -> bool
     ensures { result ≡ fits (public_key_of blob.now) algorithm.now }
 {
     match read_public(blob) {

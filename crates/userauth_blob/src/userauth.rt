@@ -22,7 +22,7 @@ pub struct UserAuth<'a> {
 }
 
 /// Takes the front of a message, up to the method: the session identifier and the user.
-fn take_opening<'a>(from: &mut Cursor<'a>) -> Result<(&'a [u8], &'a [u8]), AuthFault>
+pub fn take_opening<'a>(from: &mut Cursor<'a>) -> Result<(&'a [u8], &'a [u8]), AuthFault>
     ensures { MatchResult result
         (λ opening. opening_at from.old ≡ Ok ((opening.0.now, opening.1.now), from.new))
         (λ fault. opening_at from.old ≡ Err fault) }

@@ -1,10 +1,8 @@
-use Rattle.std.proofs.Common.{ℕ, List, ap, length, arith, ◌∙◌}
-use Rattle.std.proofs.lemmas.List.{take_all}
+use Rattle.std.proofs.Common.{ℕ, List, ap, length, arith}
 use Rattle.wire_text.specs.Wire.{string}
 use Rattle.wire_text.proofs.WireLemmas.{length-string}
 use Rattle.key_purposes.specs.Purposes.{word_of}
 use Rattle.key_purposes.specs.declared.purpose.Purpose.{Purpose}
-use Rattle.add_rules.specs.Lengths.{counted}
 use Rattle.add_rules.proofs.LengthLemmas.{one_more}
 use Rattle.add_rules.proofs.length.words_len.Goals as goal
 

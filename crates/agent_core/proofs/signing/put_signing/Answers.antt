@@ -28,7 +28,7 @@ returns-in-Some-clause-under_way c =
     let keys : KeyState = keys_of c.args.table.now c.args.lock.now in
     let signing : Request = record { blob = c.args.blob.now; message = c.args.message.now; flags = c.args.flags } in
     let unlocked : is_some c.args.lock.now ≡ false = cc (c.is_locked.ensures.value, c.if-is_locked.false) in
-    let permitted = undenied (objection key c.args.blob.now c.args.asker.now.chain.now.bindings c.args.message.now c.args.asker.now.wall) c.if-permits.ensures in
+    let permitted = undenied (objection key c.args.blob.now c.args.asker.now.chain.now.bindings c.args.message.now c.args.flags c.args.asker.now.wall) c.if-permits.ensures in
     after_ok c.sign_with.result
     (λ is. is ∙ ap (λ (w : Work). w.under_way) (served-signed c.args.asker.now key signing keys c.args.under_way.now (none_of c.args.lock.now unlocked) (sym c.in-Some.ensures.value) permitted))
     c.sign_with.ensures.under_way

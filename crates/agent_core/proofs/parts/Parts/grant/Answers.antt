@@ -1,4 +1,4 @@
-use Rattle.std.proofs.Common.{◌≡◌, ◌∙◌, [], ap, Some, sym}
+use Rattle.std.proofs.Common.{◌∙◌, ap, sym}
 use Rattle.confirm_desk.specs.Confirmations.{Confirmation}
 use Rattle.confirm_desk.specs.declared.held.Held.{Held as CodeHeld}
 use Rattle.agent_model.specs.Actions.{Stepped}

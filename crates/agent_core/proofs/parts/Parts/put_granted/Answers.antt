@@ -1,7 +1,7 @@
 use Rattle.std.proofs.Common.{◌≡◌, ◌∙◌, ℕ, Option, Some, ap, subst, sym}
 use Rattle.confirm_desk.specs.Confirmations.{Confirmation}
 use Rattle.confirm_desk.specs.declared.held.Held.{Held as CodeHeld}
-use Rattle.agent_model.specs.KeyStates.{KeyState, after_use}
+use Rattle.agent_model.specs.KeyStates.{after_use}
 use Rattle.agent_model.specs.Actions.{Stepped}
 use Rattle.agent_model.specs.State.{Port}
 use Rattle.agent_model.proofs.GrantLemmas.{granted-ends}

@@ -1,4 +1,4 @@
-use Rattle.std.proofs.Common.{◌∙◌, ◌<◌, ◌^◌, ◌+◌, suc, ap, add-one, arith, sym, true, false, Bool, List, ℕ, if◌then◌else◌, [], ◌∷◌}
+use Rattle.std.proofs.Common.{◌∙◌, ◌<◌, ◌^◌, ◌+◌, suc, ap, add-one, arith, sym, Bool, List, ℕ, if◌then◌else◌, [], ◌∷◌}
 use Rattle.agent_model.specs.NumberLists.{put_all}
 use Rattle.agent_model.specs.Step.{admitted}
 use Rattle.lists.specs.Rising.{inserted}

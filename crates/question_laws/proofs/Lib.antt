@@ -1,0 +1,2 @@
+mod OwedLemmas
+mod AskedLemmas

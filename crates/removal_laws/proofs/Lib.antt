@@ -1,0 +1,4 @@
+mod PairLemmas
+mod HeldLemmas
+mod GoneLemmas
+mod RowLemmas
