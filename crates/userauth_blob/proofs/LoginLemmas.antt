@@ -212,12 +212,12 @@ login_is_read message blob login is =
 
 -- ---- by its own blob
 
-short_host : (host_key : Option (List ℕ)) → IsHostKey host_key → IsShortHost host_key
+abbrev pub short_host : (host_key : Option (List ℕ)) → IsHostKey host_key → IsShortHost host_key
 short_host None is = tt
 short_host (Some host_key) is = is.0
 
--- what is signed for a login by the very blob is one
-pub bound_is_login : (message blob : List ℕ) (auth : Login) → IsUserAuth message blob auth → IsLogin message blob auth
+-- what is signed for a login by the very blob is one, and names that blob
+unfoldable pub bound_is_login : (message blob : List ℕ) (auth : Login) → IsUserAuth message blob auth → IsLogin message blob auth
 bound_is_login message blob auth is = record {
   algorithm = is.algorithm;
   named = blob;

@@ -1,8 +1,11 @@
 -- A message is signed by one key and for one login at most.
-use Rattle.std.proofs.Common.{◌≡◌, ℕ, ◌^◌, ◌<◌, List, [], ◌∷◌, ◌++◌, length, Option, Some, None, refl, sym, ap, ◌∙◌, lit<, arith}
+use Rattle.std.proofs.Common.{◌≡◌, ℕ, ◌^◌, ◌<◌, List, [], ◌∷◌, ◌++◌, length, Option, Some, None, refl, sym, ap, subst, ◌∙◌, lit<, arith}
 use Rattle.wire_text.proofs.WireLemmas.{same_string}
-use Rattle.userauth_blob.specs.UserAuths.{Login, connection, method_name, host_field, IsHostKey, IsUserAuth}
-use Rattle.userauth_blob.specs.Logins.{IsLogin, IsShortHost}
+use Rattle.key_blob.specs.PublicKeys.{IsPublicKey, KeyParts}
+use Rattle.key_blob.proofs.PublicLemmas.{public_is_unique}
+use Rattle.userauth_blob.specs.UserAuths.{Login, connection, method_name, host_field, IsUserAuth}
+use Rattle.userauth_blob.specs.Logins.{IsLogin, IsSameKey, IsShortHost}
+use Rattle.userauth_blob.proofs.LoginLemmas.{bound_is_login}
 
 -- the same byte in front
 behind_byte : (a b : ℕ) (s t : List ℕ) → a ∷ s ≡ b ∷ t → s ≡ t
@@ -26,26 +29,10 @@ same_login a b session user host_key =
     ∙ ap (λ (x : List ℕ). record { session = b.session; user = x; host_key = a.host_key }) user
     ∙ ap (λ (x : Option (List ℕ)). record { session = b.session; user = b.user; host_key = x }) host_key
 
--- a host key that is read is short enough for a string
-short_host : (host_key : Option (List ℕ)) → IsHostKey host_key → IsShortHost host_key
-short_host None is = tt
-short_host (Some host_key) is = is.0
-
-pub signed_once : (message blob other_blob : List ℕ) (auth other : Login) → IsUserAuth message blob auth → IsUserAuth message other_blob other →
-    (blob ≡ other_blob) × (auth ≡ other)
-signed_once message blob other_blob auth other a b =
-    let session = same_string auth.session other.session _ _ a.short_session b.short_session (sym a.text ∙ b.text) in
-    let user = same_string auth.user other.user _ _ a.short_user b.short_user (behind_byte _ _ _ _ session.1) in
-    let service = same_string connection connection _ _ (lit< tt) (lit< tt) user.1 in
-    let method = same_string (method_name auth.host_key) (method_name other.host_key) _ _ (method_is_short auth.host_key) (method_is_short other.host_key)
-    service.1 in
-    let algorithm = same_string a.algorithm b.algorithm _ _ a.short_algorithm b.short_algorithm (behind_byte _ _ _ _ method.1) in
-    let key = same_string blob other_blob _ _ a.short_blob b.short_blob algorithm.1 in
-    (key.0, same_login auth other session.0 user.0 (same_host auth.host_key other.host_key (short_host auth.host_key a.host) (short_host other.host_key b.host) method.0 key.1))
-
--- by any blob of its key
-pub login_once : (message blob other_blob : List ℕ) (auth other : Login) → IsLogin message blob auth → IsLogin message other_blob other → auth ≡ other
-login_once message blob other_blob auth other a b =
+-- what is signed names one blob, for one login
+named_once : (message blob other_blob : List ℕ) (auth other : Login) (a : IsLogin message blob auth) (b : IsLogin message other_blob other)
+    → (a.named ≡ b.named) × (auth ≡ other)
+named_once message blob other_blob auth other a b =
     let session = same_string auth.session other.session _ _ a.short_session b.short_session (sym a.text ∙ b.text) in
     let user = same_string auth.user other.user _ _ a.short_user b.short_user (behind_byte _ _ _ _ session.1) in
     let service = same_string connection connection _ _ (lit< tt) (lit< tt) user.1 in
@@ -53,4 +40,31 @@ login_once message blob other_blob auth other a b =
     service.1 in
     let algorithm = same_string a.algorithm b.algorithm _ _ a.short_algorithm b.short_algorithm (behind_byte _ _ _ _ method.1) in
     let key = same_string a.named b.named _ _ a.short_named b.short_named algorithm.1 in
-    same_login auth other session.0 user.0 (same_host auth.host_key other.host_key a.host b.host method.0 key.1)
+    (key.0, same_login auth other session.0 user.0 (same_host auth.host_key other.host_key a.host b.host method.0 key.1))
+
+-- by its own blob
+pub signed_once : (message blob other_blob : List ℕ) (auth other : Login) → IsUserAuth message blob auth → IsUserAuth message other_blob other →
+    (blob ≡ other_blob) × (auth ≡ other)
+unfolding bound_is_login
+signed_once message blob other_blob auth other a b =
+    named_once message blob other_blob auth other (bound_is_login message blob auth a) (bound_is_login message other_blob other b)
+
+-- keys that have one blob in common are one key
+one_key : (blob other named other_named : List ℕ) → named ≡ other_named → IsSameKey blob named → IsSameKey other other_named → IsSameKey blob other
+one_key blob other named other_named is a b =
+    let shared : a.two ≡ b.two = public_is_unique named a.two b.two a.is_two (subst (λ (bytes : List ℕ). IsPublicKey bytes b.two) (sym is) b.is_two) in
+    record {
+      one = a.one;
+      two = b.one;
+      is_one = a.is_one;
+      is_two = b.is_one;
+      kind = a.kind ∙ ap (λ (key : KeyParts). key.kind) shared ∙ sym b.kind;
+      fields = a.fields ∙ ap (λ (key : KeyParts). key.fields) shared ∙ sym b.fields;
+    }
+
+-- by any blob of its key
+pub login_once : (message blob other_blob : List ℕ) (auth other : Login) → IsLogin message blob auth → IsLogin message other_blob other
+    → IsSameKey blob other_blob × (auth ≡ other)
+login_once message blob other_blob auth other a b =
+    let both = named_once message blob other_blob auth other a b in
+    (one_key blob other_blob a.named b.named both.0 a.same b.same, both.1)
