@@ -9,6 +9,7 @@ import hashlib
 import json
 import os
 import pathlib
+import re
 import shutil
 import socket
 import stat
@@ -19,7 +20,7 @@ import threading
 sys.dont_write_bytecode = True
 
 import rig
-from frames import Ended
+from frames import Ended, string, strings
 from installed import Installed, keygen
 from rig import Peer, Skip, openssh_agent, run
 
@@ -537,6 +538,36 @@ def what_uninstall_leaves_is_said(folder):
 
 
 # Names of folders that a shell may take for more.
+@check
+def a_false_key_in_the_place_of_one_is_told_where_keys_are_tried(folder):
+    """Who speaks to the socket adds a key's blob with another private half: logins with it fail, and nothing else tells it."""
+    installed = Installed(folder)
+    keys = {name: keygen(folder / name, kind=kind) for name, kind in (("one", "ed25519"), ("two", "rsa"), ("git", "ecdsa"))}
+    prints = {name: run(["ssh-keygen", "-l", "-f", key]).split()[1] for name, key in keys.items()}
+    with installed.start() as daemon:
+
+        def tried(status):
+            said = mortarleek(installed, "status", "--try", status=status, SSH_AUTH_SOCK=daemon.path)
+            return re.findall(r"(?m)^tried: (\S+) (.*)$", said)
+
+        assert tried(0) == []
+        daemon.run(installed.add, "-q", keys["one"], keys["two"])
+        assert tried(0) == [(prints["one"], "signs"), (prints["two"], "signs")]
+        with Peer(rig.connected(daemon.path)) as client:
+            (blob, comment), _ = client.blobs()
+            _, public = strings(blob)
+            false = string(b"ssh-ed25519") + string(public) + string(bytes(32) + public)
+            assert client.ask(rig.ADD, false, string(comment)) == bytes([rig.SUCCESS])
+            assert client.blobs()[0] == (blob, comment)
+        assert tried(1) == [(prints["one"], "signs no random bytes here"), (prints["two"], "signs")]
+        daemon.run(installed.add, "-q", keys["one"])
+        assert tried(0) == [(prints["one"], "signs"), (prints["two"], "signs")]
+        daemon.run(installed.add, "-q", "--for", "git", keys["git"])
+        assert tried(1)[2:] == [(prints["git"], "signs no random bytes here")]
+        assert daemon.installed.folders() == [pathlib.Path(daemon.path).parent], "a private folder is left"
+    assert mortarleek(installed, "status", "--try", status=2, SSH_AUTH_SOCK=daemon.path).endswith("none answers\n")
+
+
 ODD = (
     "a b", "a  b", "it's", "a\\b", "a\\'b", "a\\';touch MARK;\\'b", "a';touch MARK;'b", "a\\\\';touch MARK;'", "a!b", "a!!", "!",
     "$HOME `touch MARK` $(touch MARK)", "a*b", "[ab]?", "~x", "a\\", "\\'", "a;touch MARK", 'a"b', "ü", "a#b", "%1", "a&b|c",

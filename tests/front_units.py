@@ -26,7 +26,7 @@ def copy_of(name, folder):
 @check
 def the_units_are_well_formed_and_hardened(folder):
     manager = dict(os.environ, XDG_RUNTIME_DIR=str(folder))
-    for name, most in (("mortarleek-agent.service", 2.0), ("mortarleek-agent.own.service", 7.0)):
+    for name, most in (("mortarleek-agent.service", 1.5), ("mortarleek-agent.own.service", 6.1)):
         unit = copy_of(name, folder)
         said = run(["systemd-analyze", "verify", "--user", "--man=no", unit], None, env=manager)
         ours = [line for line in said.splitlines() if "mortarleek" in line]

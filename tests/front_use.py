@@ -78,8 +78,8 @@ def status_calls_every_other_agent_unknown_and_none_none(folder):
         os.kill(daemon.pid, signal.SIGKILL)
         until(lambda: not any(map(is_alive, pids)), what="the end of an agent without a guard")
     assert status(installed, daemon.path, 2)[0]["agent"] == "none answers"
-    for words in (["-x"], ["x"]):
-        assert run([installed.prefix / "bin/mortarleek", "status", *words], 1) == "usage: mortarleek-status\n"
+    for words in (["-x"], ["x"], ["--try", "x"]):
+        assert run([installed.prefix / "bin/mortarleek", "status", *words], 1) == "usage: mortarleek-status [--try]\n"
 
 
 def swap(path):

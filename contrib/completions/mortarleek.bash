@@ -50,6 +50,8 @@ _mortarleek_log() {
     esac
 }
 
+_mortarleek_status() { _mortarleek_offer -W '--try' -- "$2"; }
+
 _mortarleek() {
     if [ "$COMP_CWORD" = 1 ]; then
         _mortarleek_offer -W 'add agent audit drill filter log replay serve status --version' -- "$2"
@@ -60,7 +62,8 @@ _mortarleek() {
     add) _mortarleek_add "$@" ;;
     filter) _mortarleek_filter "$@" ;;
     log) _mortarleek_log "$@" ;;
-    status | --version) COMPREPLY=() ;;
+    status) _mortarleek_status "$@" ;;
+    --version) COMPREPLY=() ;;
     drill) _mortarleek_offer -W '1000 100000' -- "$2" ;;
     *) _mortarleek_offer -f -- "$2" ;;
     esac
@@ -71,3 +74,4 @@ complete -o filenames -F _mortarleek_agent mortarleek-agent
 complete -o filenames -F _mortarleek_add mortarleek-add
 complete -o filenames -F _mortarleek_filter mortarleek-filter
 complete -o filenames -F _mortarleek_log mortarleek-log
+complete -o filenames -F _mortarleek_status mortarleek-status

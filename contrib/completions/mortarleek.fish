@@ -1,4 +1,5 @@
-# Completions of fish for mortarleek, mortarleek-agent, mortarleek-add, mortarleek-filter and mortarleek-log.
+# Completions of fish for mortarleek, mortarleek-agent, mortarleek-add, mortarleek-filter, mortarleek-log and
+# mortarleek-status.
 
 complete -c mortarleek -f -n __fish_use_subcommand -a add -d 'Add, list and remove keys'
 complete -c mortarleek -f -n __fish_use_subcommand -a agent -d 'Start or end an agent'
@@ -10,7 +11,8 @@ complete -c mortarleek -f -n __fish_use_subcommand -a replay -d 'Run the agent o
 complete -c mortarleek -f -n __fish_use_subcommand -a serve -d 'Run the agent itself at a socket'
 complete -c mortarleek -f -n __fish_use_subcommand -a status -d 'Tell which agent answers'
 complete -c mortarleek -n __fish_use_subcommand -l version -d 'Print version, commit and toolchain'
-complete -c mortarleek-status -f
+complete -c mortarleek-status -f -l try -d 'Have each key sign'
+complete -c mortarleek -n '__fish_seen_subcommand_from status' -f -l try -d 'Have each key sign'
 
 # `mortarleek agent`, `mortarleek add` and `mortarleek filter` take the same words as the programs of these names.
 function __mortarleek_agent
