@@ -58,6 +58,14 @@ die() { say "$@"; exit 1; }
 # The status and the words of OpenSSH's tools where an option's word is none, or words make no sense
 # together.
 fatal() { complain "$@"; exit 255; }
+# Where words are no use: how to use it, on standard error. Where a user asks for that, on standard output.
+usage() { tell_usage >&2; exit "${usage_status:-1}"; }
+help() { tell_usage; exit 0; }
+
+# Without these nothing here tells whose a file is, and an agent of ours would be taken for nobody's.
+for needed in id ls readlink stat; do
+    command -v "$needed" > /dev/null || die "$needed isn't there: PATH lacks it, or install coreutils"
+done
 
 # Where a program lies: installed, or in the folder in which it was built.
 program() {
@@ -68,6 +76,12 @@ program() {
         fi
     done
     return 1
+}
+
+# PROGRAM isn't there: says so, with what to do about it where this was built and where it was installed.
+lacks() {
+    if [ -f "$here/../crates.txt" ]; then die "$1 is not built: make"; fi
+    die "$1 is missing beside this program: install mortarleek anew"
 }
 
 # COMMAND: becomes it, with the agent's own list of the environment: docs/DECISIONS.md, "A child process gets". None of
@@ -179,6 +193,8 @@ make_private() {
         why="$why: others may change what stands there"
         return 1
     fi
+    why="${1%/*}: no such folder"
+    [ -d "${1%/*}/" ] || return 1
     why="${1%/*}: no folder can be made there"
     private=$(mktemp -d "$1-XXXXXXXX" 2> /dev/null)
 }

@@ -302,7 +302,7 @@ def errors_of_a_first_minute_name_cause_and_remedy(folder):
     locked = keygen(folder / "locked", passphrase="x")
     tools = folder / "tools"
     tools.mkdir()
-    for tool in ("sh", "ls", "id", "readlink", "env", "make", "bash", "dirname", "mkdir", "cat", "find"):
+    for tool in ("sh", "ls", "id", "readlink", "stat", "env", "make", "bash", "dirname", "mkdir", "cat", "find"):
         (tools / tool).symlink_to(shutil.which(tool))
     bare = dict(installed.environment, PATH=str(tools))
     with installed.start() as daemon:

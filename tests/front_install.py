@@ -137,8 +137,9 @@ def what_is_installed_works_and_is_taken_away_again(folder):
         replayed = run([target / "usr/bin/mortarleek", "replay"], input=schedule)
         assert replayed == run([rig.BUILT / "agent_prog", "replay"], input=schedule) and replayed.endswith("end\n")
         assert run([target / "usr/bin/mortarleek", "serve"], 2).startswith("mortarleek: ")
-    for words in ([], ["nothing"], ["../mortarleek"]):
-        assert run([target / "usr/bin/mortarleek", *words], 1).startswith("usage: mortarleek agent")
+    assert run([target / "usr/bin/mortarleek"], 1).startswith("usage: mortarleek agent")
+    for word in ("nothing", "../mortarleek"):
+        assert run([target / "usr/bin/mortarleek", word], 1).startswith(f"mortarleek: {word}: no such command\nusage: ")
     run([*make, "uninstall"])
     assert not (target / "usr/libexec/mortarleek").exists()
     assert [file for file in target.rglob("*") if file.is_file() or file.is_symlink()] == []

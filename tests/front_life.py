@@ -275,7 +275,7 @@ def a_record_is_a_new_file_that_is_opened_once(folder):
     ):
         make()
         said = run([installed.agent, "--record", path], 1, env=installed.environment, timeout=20)
-        assert said.startswith(f"mortarleek-agent: {path}: can't be made") and said.count("\n") == 1, said
+        assert said.startswith(f"mortarleek-agent: --record: {path}: is there already") and said.count("\n") == 1, said
         path.unlink()
     assert not (folder / "elsewhere").exists() and installed.folders() == []
     # What takes the file's place once it is made gets nothing.

@@ -226,7 +226,7 @@ def words_reach_the_agent(folder):
 def without_a_helper_that_signs_it_says_so(folder):
     installed = Installed(folder, helper=False)
     said = run([installed.agent], 1, env=installed.environment)
-    assert "no helper that signs" in said and "--stand-in" in said and said.count("\n") == 1, said
+    assert "mortarleek_signer" in said and "install mortarleek anew" in said and said.count("\n") == 1, said
     assert installed.folders() == []
     if (installed.prefix / "libexec/mortarleek/standin_helper").exists():
         with installed.start("--stand-in") as daemon:

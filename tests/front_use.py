@@ -97,7 +97,7 @@ def helper_of(installed):
 def not_started(daemon):
     """The programs of which `mortarleek status` tells that they are started no more."""
     said = daemon.run(daemon.installed.prefix / "bin/mortarleek", "status")
-    return re.findall(r"(?m)^not started: (\S+), which isn't the file that it was when the agent started$", said)
+    return re.findall(r"(?m)^not started: (\S+), which isn't the file that it was when the agent started: ", said)
 
 
 @check
@@ -180,8 +180,9 @@ def add_says_where_the_agent_that_answers_is_not_ours(folder):
         for words, asked in (([key], ""), (["-d", key], ""), (["-D"], ""), (["-x"], "a\n"), (["-X"], "a\n")):
             more = dict(input=asked, start_new_session=True)
             said = run([installed.add, *words], env=dict(installed.environment, SSH_AUTH_SOCK=other.path), **more)
-            assert said.startswith(f"mortarleek-add: the agent at {other.path} {line}"), (words, said)
-            assert line not in daemon.run(installed.add, *words, **more), words
+            goes = f"the key goes to another agent: the one at {other.path} isn't one that mortarleek agent started here (mortarleek status)\n"
+            assert said.startswith(f"mortarleek-add: {goes if words == [key] else f'the agent at {other.path} {line}'}"), (words, said)
+            assert "isn't one that" not in daemon.run(installed.add, *words, **more), words
         said = run([installed.add, "-q", key], env=dict(installed.environment, SSH_AUTH_SOCK=other.path))
         assert said == "", said
         assert "isn't" not in run([installed.add, "-l"], env=dict(installed.environment, SSH_AUTH_SOCK=other.path))
