@@ -13,7 +13,7 @@ use Rattle.world_ports.specs.declared.answers.WorldFault.TheVariants.{Failed, Me
 use Rattle.world_ports.specs.declared.entry.Entry.{Entry}
 use Rattle.world_ports.specs.declared.entry.Entry.TheVariants as entry
 use Rattle.world_ports.specs.declared.answers.Ready.{Ready}
-use Rattle.world_ports.specs.declared.events.Door.TheVariants.{Clients, Children}
+use Rattle.world_ports.specs.declared.events.Door.TheVariants.{Clients}
 use Rattle.world_ports.specs.declared.events.Moment.{Moment}
 use Rattle.agent_model.specs.Events.{Tick}
 use Rattle.agent_model.specs.Sound.{IsRising}
