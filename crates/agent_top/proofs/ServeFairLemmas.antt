@@ -15,7 +15,7 @@ use Rattle.loop_model.specs.Things.{same_door, same_thing}
 use Rattle.loop_model.specs.declared.thing.Thing.{Thing}
 use Rattle.loop_model.proofs.FairnessLemmas.{served_between}
 use Rattle.loop_model.proofs.QuietLemmas.{quiet_taken}
-use Rattle.ready_loop.specs.Serving.{Setting, Stage, Unbound, HalfBound, Running, Refused, after_bind, begun, bound, children_path, gone_on, may_come, ran}
+use Rattle.ready_loop.specs.Serving.{Setting, Stage, Unbound, Running, Refused, after_bind, begun, bound, gone_on, may_come, ran}
 use Rattle.ready_loop.proofs.ServingLemmas.{ran-append}
 use Rattle.agent_top.specs.ServeFair.{IsFair, ServesFairly}
 
@@ -67,25 +67,24 @@ after_entries-all setting from (next ∷ later) to legal =
 
 -- ---- a service comes of a loop that runs
 
-unbound : (door : Door) (path : List ℕ) (stage to : Stage) (thing : Thing) (next : Entry)
+unbound : (path : List ℕ) (stage to : Stage) (thing : Thing) (next : Entry)
     → is_service thing next ≡ true
-    → bound door path stage next ≡ Some to → ⊥
-unbound door path stage to thing (entry.Bind other at answer) service is = cc
-unbound door path stage to thing (entry.Poll wait items answer) service is = cc
-unbound door path stage to thing (entry.Accept other answer) service is = cc
-unbound door path stage to thing (entry.Read port room bytes answer) service is = cc
-unbound door path stage to thing (entry.Write port offered answer) service is = cc
-unbound door path stage to thing (entry.Close port answer) service is = cc
-unbound door path stage to thing (entry.Start job answer) service is = cc
-unbound door path stage to thing (entry.Now answer) service is = cc
+    → bound path stage next ≡ Some to → ⊥
+unbound path stage to thing (entry.Bind Clients at answer) service is = cc
+unbound path stage to thing (entry.Bind Children at answer) service is = cc
+unbound path stage to thing (entry.Poll wait items answer) service is = cc
+unbound path stage to thing (entry.Accept other answer) service is = cc
+unbound path stage to thing (entry.Read port room bytes answer) service is = cc
+unbound path stage to thing (entry.Write port offered answer) service is = cc
+unbound path stage to thing (entry.Close port answer) service is = cc
+unbound path stage to thing (entry.Start job answer) service is = cc
+unbound path stage to thing (entry.Now answer) service is = cc
 
 serving-runs : (setting : Setting) (stage to : Stage) (thing : Thing) (next : Entry)
     → is_service thing next ≡ true
     → gone_on setting stage next ≡ Some to → (from : LoopState) × (stage ≡ Running from)
 serving-runs setting Unbound to thing next service is =
-    absurd (unbound Clients setting.path HalfBound to thing next service is)
-serving-runs setting HalfBound to thing next service is =
-    absurd (unbound Children (children_path setting.path) (begun setting) to thing next service is)
+    absurd (unbound setting.path (begun setting) to thing next service is)
 serving-runs setting (Running from) to thing next service is = (from, refl)
 serving-runs setting Refused to thing next service is = cc
 
@@ -93,7 +92,6 @@ serving-runs setting Refused to thing next service is = cc
 
 abbrev IsStill : Stage → Type 0
 IsStill Unbound = Unit {0}
-IsStill HalfBound = Unit {0}
 IsStill (Running reading) = IsQuiet reading.state reading.line
 IsStill Refused = Unit {0}
 
@@ -103,24 +101,22 @@ still_if true (Ok unit) stage to still is = let same : stage ≡ to = cc in subs
 still_if true (Err fault) stage to still is = let same : Refused ≡ to = cc in subst IsStill same tt
 still_if false answer stage to still is = cc
 
-still_bound : (door : Door) (path : List ℕ) (stage to : Stage) (next : Entry) → IsStill stage
-    → bound door path stage next ≡ Some to → IsStill to
-still_bound door path stage to (entry.Bind other at answer) still is =
-    still_if (same_door door other && bytes_eq at path) answer stage to still is
-still_bound door path stage to (entry.Poll wait items answer) still is = cc
-still_bound door path stage to (entry.Accept other answer) still is = cc
-still_bound door path stage to (entry.Read port room bytes answer) still is = cc
-still_bound door path stage to (entry.Write port offered answer) still is = cc
-still_bound door path stage to (entry.Close port answer) still is = cc
-still_bound door path stage to (entry.Start job answer) still is = cc
-still_bound door path stage to (entry.Now answer) still is = cc
+still_bound : (path : List ℕ) (stage to : Stage) (next : Entry) → IsStill stage
+    → bound path stage next ≡ Some to → IsStill to
+still_bound path stage to (entry.Bind Clients at answer) still is = still_if (bytes_eq at path) answer stage to still is
+still_bound path stage to (entry.Bind Children at answer) still is = cc
+still_bound path stage to (entry.Poll wait items answer) still is = cc
+still_bound path stage to (entry.Accept other answer) still is = cc
+still_bound path stage to (entry.Read port room bytes answer) still is = cc
+still_bound path stage to (entry.Write port offered answer) still is = cc
+still_bound path stage to (entry.Close port answer) still is = cc
+still_bound path stage to (entry.Start job answer) still is = cc
+still_bound path stage to (entry.Now answer) still is = cc
 
 still_on : (setting : Setting) (stage to : Stage) (next : Entry) → IsStill stage
     → gone_on setting stage next ≡ Some to
     → IsStill to
-still_on setting Unbound to next still is = still_bound Clients setting.path HalfBound to next tt is
-still_on setting HalfBound to next still is =
-    still_bound Children (children_path setting.path) (begun setting) to next (λ thing there. cc) is
+still_on setting Unbound to next still is = still_bound setting.path (begun setting) to next (λ thing there. cc) is
 still_on setting (Running from) to next still is =
     let one = turns setting from next to is in
     subst IsStill one.2 (quiet_taken from one.0 next one.1 still)

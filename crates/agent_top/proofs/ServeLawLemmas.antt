@@ -14,7 +14,7 @@ use Rattle.loop_model.specs.LegalJournal.{LoopState, after_if, after_if_legal, c
 use Rattle.loop_model.specs.Lines.{empty_line}
 use Rattle.loop_model.specs.Things.{same_door}
 use Rattle.loop_model.proofs.FittingLemmas.{IsAwaited, entry-fits, first_awaited, fit-append}
-use Rattle.ready_loop.specs.Serving.{Setting, Stage, Unbound, HalfBound, Running, Refused, after_bind, begun, bound, children_path, gone_on, may_come, ran}
+use Rattle.ready_loop.specs.Serving.{Setting, Stage, Unbound, Running, Refused, after_bind, begun, bound, gone_on, may_come, ran}
 use Rattle.agent_top.specs.ServeLaw.{ServesLawfully, agent_at, call_events, calls_events}
 use Rattle.agent_top.proofs.LawfulRunLemmas.{lawful_run}
 use Rattle.agent_top.proofs.ServeFairLemmas.{then_some, turns}
@@ -43,24 +43,22 @@ bind-leads setting stage true (Ok unit) is = is
 bind-leads setting stage true (Err fault) is = refl
 bind-leads setting stage false answer is = tt
 
-bound-leads : (setting : Setting) (door : Door) (path : List ℕ) (stage : Stage) (next : Entry)
+bound-leads : (setting : Setting) (path : List ℕ) (stage : Stage) (next : Entry)
     → agent_at setting stage ≡ setting.state
-    → LeadsTo setting setting.state (bound door path stage next)
-bound-leads setting door path stage (entry.Bind other at answer) is =
-    bind-leads setting stage (same_door door other && bytes_eq at path) answer is
-bound-leads setting door path stage (entry.Poll wait items answer) is = tt
-bound-leads setting door path stage (entry.Accept other answer) is = tt
-bound-leads setting door path stage (entry.Read port room bytes answer) is = tt
-bound-leads setting door path stage (entry.Write port offered answer) is = tt
-bound-leads setting door path stage (entry.Close port answer) is = tt
-bound-leads setting door path stage (entry.Start job answer) is = tt
-bound-leads setting door path stage (entry.Now answer) is = tt
+    → LeadsTo setting setting.state (bound path stage next)
+bound-leads setting path stage (entry.Bind Clients at answer) is = bind-leads setting stage (bytes_eq at path) answer is
+bound-leads setting path stage (entry.Bind Children at answer) is = tt
+bound-leads setting path stage (entry.Poll wait items answer) is = tt
+bound-leads setting path stage (entry.Accept other answer) is = tt
+bound-leads setting path stage (entry.Read port room bytes answer) is = tt
+bound-leads setting path stage (entry.Write port offered answer) is = tt
+bound-leads setting path stage (entry.Close port answer) is = tt
+bound-leads setting path stage (entry.Start job answer) is = tt
+bound-leads setting path stage (entry.Now answer) is = tt
 
 stage-leads : (setting : Setting) (stage : Stage) (next : Entry)
     → LeadsTo setting (run (agent_at setting stage) (call_events stage next)) (gone_on setting stage next)
-stage-leads setting Unbound next = bound-leads setting Clients setting.path HalfBound next refl
-stage-leads setting HalfBound next =
-    bound-leads setting Children (children_path setting.path) (begun setting) next refl
+stage-leads setting Unbound next = bound-leads setting setting.path (begun setting) next refl
 stage-leads setting (Running reading) next =
     running-leads setting (may_come setting.until_idle reading next) reading next
 stage-leads setting Refused next = tt
@@ -97,7 +95,6 @@ calls-run setting stage to (next ∷ later) legal =
 -- the event whose moment has to come next, once the loop runs, may come
 abbrev IsFit : Stage → Type 0
 IsFit Unbound = Unit {0}
-IsFit HalfBound = Unit {0}
 IsFit (Running reading) = IsAwaited reading
 IsFit Refused = Unit {0}
 
@@ -107,25 +104,24 @@ fit_if true (Ok unit) stage to fit is = let same : stage ≡ to = cc in subst Is
 fit_if true (Err fault) stage to fit is = let same : Refused ≡ to = cc in subst IsFit same tt
 fit_if false answer stage to fit is = absurd (cc)
 
-fit_bound : (door : Door) (path : List ℕ) (stage to : Stage) (next : Entry) → IsFit stage
-    → bound door path stage next ≡ Some to → IsFit to
-fit_bound door path stage to (entry.Bind other at answer) fit is =
-    fit_if (same_door door other && bytes_eq at path) answer stage to fit is
-fit_bound door path stage to (entry.Poll wait items answer) fit is = absurd (cc)
-fit_bound door path stage to (entry.Accept other answer) fit is = absurd (cc)
-fit_bound door path stage to (entry.Read port room bytes answer) fit is = absurd (cc)
-fit_bound door path stage to (entry.Write port offered answer) fit is = absurd (cc)
-fit_bound door path stage to (entry.Close port answer) fit is = absurd (cc)
-fit_bound door path stage to (entry.Start job answer) fit is = absurd (cc)
-fit_bound door path stage to (entry.Now answer) fit is = absurd (cc)
+fit_bound : (path : List ℕ) (stage to : Stage) (next : Entry) → IsFit stage
+    → bound path stage next ≡ Some to → IsFit to
+fit_bound path stage to (entry.Bind Clients at answer) fit is = fit_if (bytes_eq at path) answer stage to fit is
+fit_bound path stage to (entry.Bind Children at answer) fit is = absurd (cc)
+fit_bound path stage to (entry.Poll wait items answer) fit is = absurd (cc)
+fit_bound path stage to (entry.Accept other answer) fit is = absurd (cc)
+fit_bound path stage to (entry.Read port room bytes answer) fit is = absurd (cc)
+fit_bound path stage to (entry.Write port offered answer) fit is = absurd (cc)
+fit_bound path stage to (entry.Close port answer) fit is = absurd (cc)
+fit_bound path stage to (entry.Start job answer) fit is = absurd (cc)
+fit_bound path stage to (entry.Now answer) fit is = absurd (cc)
 
 -- what a call brings may come, and so may what it leaves due
 fit_on : (setting : Setting) (stage to : Stage) (next : Entry) → IsFit stage
     → gone_on setting stage next ≡ Some to
     → AllFit (agent_at setting stage) (call_events stage next) × IsFit to
-fit_on setting Unbound to next fit is = (tt, fit_bound Clients setting.path HalfBound to next tt is)
-fit_on setting HalfBound to next fit is =
-    (tt, fit_bound Children (children_path setting.path) (begun setting) to next (first_awaited setting.state empty_line) is)
+fit_on setting Unbound to next fit is =
+    (tt, fit_bound setting.path (begun setting) to next (first_awaited setting.state empty_line) is)
 fit_on setting (Running reading) to next fit is =
     let one = turns setting reading next to is in
     let both = entry-fits reading one.0 next fit one.1 in

@@ -16,7 +16,7 @@ pub enum Status {
     #[error("line {line} is refused: {}", told(.fault))]
     ScheduleRefused { line: u64, fault: LineFault },
     /// The words are none that the program takes.
-    #[error("usage: agent_prog serve -a PATH --helper PROGRAM [--helper-data PATH] [--relay PROGRAM --askpass PROGRAM] [-t LIFE] [--confirm-limit SECONDS] [--until-idle], or agent_prog replay [-t LIFE] [--confirm-limit SECONDS], or agent_prog drill N SEED")]
+    #[error("usage: agent_prog serve -a PATH --helper PROGRAM [--helper-data PATH] [--relay PROGRAM --askpass PROGRAM] [-t LIFE] [--confirm-limit SECONDS] [--record [--record-or-stop]] [--until-idle], or agent_prog replay [-t LIFE] [--confirm-limit SECONDS], or agent_prog drill N SEED")]
     Usage,
     /// A socket could not be bound.
     #[error("a socket could not be bound")]

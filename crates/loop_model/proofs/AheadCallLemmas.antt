@@ -7,13 +7,13 @@ use Rattle.world_ports.specs.declared.entry.Entry.{Entry}
 use Rattle.world_ports.specs.declared.entry.Entry.TheVariants as entry
 use Rattle.agent_model.specs.State.{State}
 use Rattle.loop_model.specs.Aside.{put_aside}
-use Rattle.loop_model.specs.Dues.{Due, NowFor, port_of}
+use Rattle.loop_model.specs.Dues.{Closing, Due, Free, Nothing, NowFor, Polling, port_of}
 use Rattle.loop_model.specs.Servable.{is_servable}
 use Rattle.loop_model.specs.Things.{same_thing, set_of}
 use Rattle.loop_model.specs.declared.thing.Thing.{Thing}
 use Rattle.loop_model.specs.declared.thing.Thing.TheVariants.{Accept, Read, Write}
 use Rattle.loop_model.specs.Fairness.{is_service}
-use Rattle.loop_model.specs.Calls.{moved, served_of}
+use Rattle.loop_model.specs.Calls.{Move, moved, moved_on, served_of}
 use Rattle.loop_model.specs.Lines.{Line, after_event, hot_of, in_hand, placed, queued, queued_all, queued_port, recalled, settled}
 use Rattle.loop_model.specs.Queues.{first_servable}
 use Rattle.loop_model.proofs.AddingLemmas.{Adds, adds-queued_all, adds-queued_port, adds-returned}
@@ -42,35 +42,43 @@ ahead_event state closes own hand other thing line able is =
     (ap (ahead other thing) back.behind
     ∙ ahead_more other thing base.queue back.more (ahead_filter (is_servable state) other thing line.queue able is))
 
+ahead_moved : (due : Due) (left : State) (closes : List ℕ) (other thing : Thing) (line : Line)
+    → is_servable left other ≡ true → ahead other thing line.queue ≡ true
+    → ahead other thing (moved_on due left closes line).queue ≡ true
+ahead_moved Free left closes other thing line able is = ahead_event left closes None None other thing line able is
+ahead_moved (NowFor event) left closes other thing line able is =
+    ahead_event left closes (port_of event left.last_port) (served_of event) other thing line able is
+ahead_moved (Closing port later) left closes other thing line able is = is
+ahead_moved Polling left closes other thing line able is = is
+ahead_moved Nothing left closes other thing line able is = is
+
 -- ---- a call that doesn't serve it leaves it there
 
-pub ahead_after : (state left : State) (due : Due) (closes : List ℕ) (next : Entry) (other thing : Thing) (line : Line)
-    → is_service other next ≡ false → is_servable left other ≡ true → ahead other thing line.queue ≡ true
-    → ahead other thing (moved state due left closes next line).queue ≡ true
-ahead_after state left due closes (entry.Bind door path answer) other thing line apart able is = is
-ahead_after state left due closes (entry.Poll wait items (Ok polled.Some)) other thing line apart able is =
-    ahead_adds other thing line (queued_all state items line) (adds-queued_all state items line) is
-ahead_after state left due closes (entry.Poll wait items (Ok polled.Over)) other thing line apart able is = is
-ahead_after state left due closes (entry.Poll wait items (Err fault)) other thing line apart able is = is
-ahead_after state left due closes (entry.Accept door (Ok (accepted.Port number))) other thing line apart able is =
+pub ahead_after : (move : Move) (next : Entry) (other thing : Thing) (line : Line)
+    → is_service other next ≡ false → is_servable move.left other ≡ true → ahead other thing line.queue ≡ true
+    → ahead other thing (moved move next line).queue ≡ true
+ahead_after move (entry.Bind door path answer) other thing line apart able is = is
+ahead_after move (entry.Poll wait items (Ok polled.Some)) other thing line apart able is =
+    ahead_adds other thing line (queued_all move.state items line) (adds-queued_all move.state items line) is
+ahead_after move (entry.Poll wait items (Ok polled.Over)) other thing line apart able is = is
+ahead_after move (entry.Poll wait items (Err fault)) other thing line apart able is = is
+ahead_after move (entry.Accept door (Ok (accepted.Port number))) other thing line apart able is =
     let base = in_hand (Accept door) line in
-    ahead_adds other thing base (queued_port state number base) (adds-queued_port state number base)
+    ahead_adds other thing base (queued_port move.state number base) (adds-queued_port move.state number base)
     (ahead_left other thing (Accept door) line.queue apart is)
-ahead_after state left due closes (entry.Accept door (Ok accepted.NotNow)) other thing line apart able is =
+ahead_after move (entry.Accept door (Ok accepted.NotNow)) other thing line apart able is =
     ahead_left other thing (Accept door) line.queue apart is
-ahead_after state left due closes (entry.Accept door (Err fault)) other thing line apart able is =
+ahead_after move (entry.Accept door (Err fault)) other thing line apart able is =
     ahead_left other thing (Accept door) line.queue apart is
-ahead_after state left due closes (entry.Read port room bytes answer) other thing line apart able is =
+ahead_after move (entry.Read port room bytes answer) other thing line apart able is =
     ahead_left other thing (Read port) line.queue apart is
-ahead_after state left due closes (entry.Write port offered answer) other thing line apart able is =
+ahead_after move (entry.Write port offered answer) other thing line apart able is =
     ahead_left other thing (Write port) line.queue apart is
-ahead_after state left due closes (entry.Close port answer) other thing line apart able is = is
-ahead_after state left due closes (entry.Start job answer) other thing line apart able is = is
-ahead_after state left (NowFor event) closes (entry.Now (Ok moment)) other thing line apart able is =
-    ahead_event left closes (port_of event left.last_port) (served_of event) other thing line able is
-ahead_after state left due closes (entry.Now (Ok moment)) other thing line apart able is =
-    ahead_event left closes None None other thing line able is
-ahead_after state left due closes (entry.Now (Err want)) other thing line apart able is = is
+ahead_after move (entry.Close port answer) other thing line apart able is = is
+ahead_after move (entry.Start job answer) other thing line apart able is = is
+ahead_after move (entry.Now (Ok moment)) other thing line apart able is =
+    ahead_moved move.due move.left move.closes other thing line able is
+ahead_after move (entry.Now (Err want)) other thing line apart able is = is
 
 -- ---- a service takes the thing out of the queue
 
@@ -103,34 +111,34 @@ lacks_port state port thing line read write lacks =
     lacks_queued (hot_of mid (Write port)) state thing (Write port) mid write
     (lacks_queued (hot_of line (Read port)) state thing (Read port) line read lacks)
 
-pub ahead_of_served : (state left : State) (due : Due) (closes : List ℕ) (next : Entry) (other thing : Thing) (line : Line)
-    → is_service thing next ≡ true → set_of (moved state due left closes next line).queue other ≡ true
-    → ahead other thing (moved state due left closes next line).queue ≡ true
-ahead_of_served state left due closes (entry.Bind door path answer) other thing line service has =
+pub ahead_of_served : (move : Move) (next : Entry) (other thing : Thing) (line : Line)
+    → is_service thing next ≡ true → set_of (moved move next line).queue other ≡ true
+    → ahead other thing (moved move next line).queue ≡ true
+ahead_of_served move (entry.Bind door path answer) other thing line service has =
     absurd (cc)
-ahead_of_served state left due closes (entry.Poll wait items answer) other thing line service has =
+ahead_of_served move (entry.Poll wait items answer) other thing line service has =
     absurd (cc)
-ahead_of_served state left due closes (entry.Accept door (Ok (accepted.Port number))) other thing line service has =
+ahead_of_served move (entry.Accept door (Ok (accepted.Port number))) other thing line service has =
     let base = in_hand (Accept door) line in
     let is : Accept door ≡ thing = same_thing-true (Accept door) thing service in
     let lacks : set_of base.queue thing ≡ false =
     ap (λ (t : Thing). set_of base.queue t) (sym is) ∙ gone_at (Accept door) line.queue in
-    ahead_alone other thing (queued_port state number base).queue has
-    (lacks_port state number thing base (ap (same_thing (Read number)) (sym is)) (ap (same_thing (Write number)) (sym is))
+    ahead_alone other thing (queued_port move.state number base).queue has
+    (lacks_port move.state number thing base (ap (same_thing (Read number)) (sym is)) (ap (same_thing (Write number)) (sym is))
     lacks)
-ahead_of_served state left due closes (entry.Accept door (Ok accepted.NotNow)) other thing line service has =
+ahead_of_served move (entry.Accept door (Ok accepted.NotNow)) other thing line service has =
     left_ahead other thing (Accept door) line.queue service has
-ahead_of_served state left due closes (entry.Accept door (Err fault)) other thing line service has =
+ahead_of_served move (entry.Accept door (Err fault)) other thing line service has =
     left_ahead other thing (Accept door) line.queue service has
-ahead_of_served state left due closes (entry.Read port room bytes answer) other thing line service has =
+ahead_of_served move (entry.Read port room bytes answer) other thing line service has =
     left_ahead other thing (Read port) line.queue service has
-ahead_of_served state left due closes (entry.Write port offered answer) other thing line service has =
+ahead_of_served move (entry.Write port offered answer) other thing line service has =
     left_ahead other thing (Write port) line.queue service has
-ahead_of_served state left due closes (entry.Close port answer) other thing line service has =
+ahead_of_served move (entry.Close port answer) other thing line service has =
     absurd (cc)
-ahead_of_served state left due closes (entry.Start job answer) other thing line service has =
+ahead_of_served move (entry.Start job answer) other thing line service has =
     absurd (cc)
-ahead_of_served state left due closes (entry.Now answer) other thing line service has = absurd (cc)
+ahead_of_served move (entry.Now answer) other thing line service has = absurd (cc)
 
 -- ---- what stands before it is served first
 

@@ -10,6 +10,7 @@ use Rattle.loop_model.specs.Things.{same_thing, set_of}
 use Rattle.loop_model.specs.declared.thing.Thing.{Thing}
 use Rattle.loop_model.specs.Aside.{things_aside}
 use Rattle.loop_model.specs.Fairness.{is_service, is_waiting, waits_on}
+use Rattle.loop_model.specs.Calls.{Move}
 use Rattle.loop_model.specs.Lines.{IsQuiet, hot_of}
 use Rattle.loop_model.proofs.AsideLemmas.{set_of-append}
 use Rattle.loop_model.proofs.QuietLemmas.{quiet_taken}
@@ -59,8 +60,13 @@ between_by false (Some after) other thing reading to next last later service is 
     let led_there = after_entry reading next in
     let able : is_servable led_there.state other ≡ true =
     ap (λ (t : LoopState). is_servable t.state other) there.left ∙ has.1 in
-    let still = ahead_after reading.state led_there.state reading.due
-    (closed_by reading.state (events_brought reading.due next)) next other thing reading.line service able first in
+    let move : Move = record {
+      state = reading.state;
+      due = reading.due;
+      left = led_there.state;
+      closes = closed_by reading.state (events_brought reading.due next);
+    } in
+    let still = ahead_after move next other thing reading.line service able first in
     rest after still_quiet (ap (λ (t : LoopState). ahead other thing t.line.queue) (sym there.left) ∙ still) legal waits
 
 never_last : (other thing : Thing) (reading to : LoopState) (last : Entry)
@@ -105,8 +111,13 @@ since_by (Some after) from to thing other first last entries is quiet legal serv
     let led_there = after_entry from first in
     let queue_has : set_of led_there.line.queue other ≡ true =
     ap (λ (t : LoopState). set_of t.line.queue other) there.left ∙ has.0 in
-    let behind = ahead_of_served from.state led_there.state from.due (closed_by from.state (events_brought from.due first)) first
-    other thing from.line service queue_has in
+    let move : Move = record {
+      state = from.state;
+      due = from.due;
+      left = led_there.state;
+      closes = closed_by from.state (events_brought from.due first);
+    } in
+    let behind = ahead_of_served move first other thing from.line service queue_has in
     between other thing after to entries last again apart still_quiet
     (ap (λ (t : LoopState). ahead other thing t.line.queue) (sym there.left) ∙ behind) legal waits
 

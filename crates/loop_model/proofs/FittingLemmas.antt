@@ -140,8 +140,11 @@ of_look IsSo (port ∷ later) idle = tt
 
 of_close : (IsSo : Happening → Type 0) (due : Due) (closes : List ℕ) (idle : Bool) (port : ℕ)
     → OfDue IsSo (due_after due closes idle (entry.Close port (Ok tt)))
+of_close IsSo Free closes idle port = tt
+of_close IsSo (NowFor event) closes idle port = tt
 of_close IsSo (Closing number later) closes idle port = of_closes IsSo later
-of_close IsSo due closes idle port = tt
+of_close IsSo Polling closes idle port = tt
+of_close IsSo Nothing closes idle port = tt
 
 of_event : (IsSo : Happening → Type 0) (due : Due) (closes : List ℕ) (idle : Bool) (moment : Moment)
     → OfDue IsSo (due_after due closes idle (entry.Now (Ok moment)))

@@ -12,7 +12,7 @@ use Rattle.world_ports.specs.declared.entry.Entry.TheVariants as entry
 use Rattle.agent_model.specs.State.{State, is_open}
 use Rattle.agent_model.specs.Step.{step}
 use Rattle.loop_model.specs.Calls.{served_of}
-use Rattle.loop_model.specs.Dues.{Due, NowFor, port_of}
+use Rattle.loop_model.specs.Dues.{Closing, Due, Free, Nothing, NowFor, Polling, port_of}
 use Rattle.loop_model.specs.Elsewhere.{stands}
 use Rattle.loop_model.specs.LegalJournal.{LoopState, after_entries, after_entry, after_if_legal, closed_by, events_brought, in_state}
 use Rattle.loop_model.specs.Servable.{is_servable}
@@ -190,9 +190,12 @@ holds_led Holds place hand mark ordered state line due (entry.Start job answer) 
 holds_led Holds place hand mark ordered state line (NowFor event) (entry.Now (Ok moment)) holds =
     let left = (after_entry (in_state state line (NowFor event)) (entry.Now (Ok moment))).state in
     ordered left _ (ordered-event left (step state moment event).closes (port_of event left.last_port) (served_of event) line)
-holds_led Holds place hand mark ordered state line due (entry.Now (Ok moment)) holds =
-    let left = (after_entry (in_state state line due) (entry.Now (Ok moment))).state in
-    ordered left _ (ordered-event left (closed_by state (events_brought due (entry.Now (Ok moment)))) None None line)
+holds_led Holds place hand mark ordered state line Free (entry.Now (Ok moment)) holds =
+    let left = (after_entry (in_state state line Free) (entry.Now (Ok moment))).state in
+    ordered left _ (ordered-event left (closed_by state (events_brought Free (entry.Now (Ok moment)))) None None line)
+holds_led Holds place hand mark ordered state line (Closing port later) (entry.Now (Ok moment)) holds = holds
+holds_led Holds place hand mark ordered state line Polling (entry.Now (Ok moment)) holds = holds
+holds_led Holds place hand mark ordered state line Nothing (entry.Now (Ok moment)) holds = holds
 holds_led Holds place hand mark ordered state line due (entry.Now (Err want)) holds = holds
 
 -- ---- after any entries

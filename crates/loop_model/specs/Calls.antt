@@ -6,7 +6,7 @@ use Rattle.world_ports.specs.declared.entry.Entry.{Entry}
 use Rattle.world_ports.specs.declared.entry.Entry.TheVariants as entry
 use Rattle.agent_model.specs.State.{State, is_client}
 use Rattle.agent_model.specs.Events.{Happening, Joined, Heard, Took}
-use Rattle.loop_model.specs.Dues.{Due, NowFor, port_of}
+use Rattle.loop_model.specs.Dues.{Due, Free, NowFor, port_of}
 use Rattle.loop_model.specs.declared.thing.Thing.{Thing}
 use Rattle.loop_model.specs.declared.thing.Thing.TheVariants.{Accept, Read, Write}
 use Rattle.loop_model.specs.Lines.{Line, after_event, in_hand, queued_all, queued_port}
@@ -20,18 +20,35 @@ served_of (Heard port piece) = Some (Read port)
 served_of (Took port count) = Some (Write port)
 served_of other = None
 
--- any call: in a state, where this has to come next, with the state that it leaves and the ports that it closed
-abbrev pub moved : State → Due → State → List ℕ → Entry → Line → Line
-moved state due left closes (entry.Poll wait items (Ok polled.Some)) line = queued_all state items line
+-- a call as it is read: the state in which it came, what had to come there, and the state and the closed ports that it
+-- leaves
+pub record Move : Type 0 where
+  pub state : State
+  pub due : Due
+  pub left : State
+  pub closes : List ℕ
+
+-- the moment of an event, or of a look, with the state and the closed ports that it leaves
+abbrev pub moved_on : Due → State → List ℕ → Line → Line
+moved_on (NowFor event) left closes line = after_event left closes (port_of event left.last_port) (served_of event) line
+moved_on Free left closes line = after_event left closes None None line
+-- no moment may come there
+moved_on other left closes line = line
+
+-- any call
+abbrev pub moved : Move → Entry → Line → Line
+moved move (entry.Bind door path answer) line = line
+moved move (entry.Poll wait items (Ok polled.Some)) line = queued_all move.state items line
+moved move (entry.Poll wait items (Ok polled.Over)) line = line
+moved move (entry.Poll wait items (Err fault)) line = line
 -- both directions of a connection are ready once it has joined
-moved state due left closes (entry.Accept door (Ok (accepted.Port number))) line =
-    record (queued_port state number (in_hand (Accept door) line)) { joined = is_client door || line.joined }
-moved state due left closes (entry.Accept door other) line = in_hand (Accept door) line
-moved state due left closes (entry.Read port room bytes answer) line = in_hand (Read port) line
-moved state due left closes (entry.Write port offered answer) line = in_hand (Write port) line
--- the moment of an event, or of a look
-moved state due left closes (entry.Now (Err want)) line = line
-moved state (NowFor event) left closes (entry.Now (Ok moment)) line =
-    after_event left closes (port_of event left.last_port) (served_of event) line
-moved state due left closes (entry.Now (Ok moment)) line = after_event left closes None None line
-moved state due left closes other line = line
+moved move (entry.Accept door (Ok (accepted.Port number))) line =
+    record (queued_port move.state number (in_hand (Accept door) line)) { joined = is_client door || line.joined }
+moved move (entry.Accept door (Ok accepted.NotNow)) line = in_hand (Accept door) line
+moved move (entry.Accept door (Err fault)) line = in_hand (Accept door) line
+moved move (entry.Read port room bytes answer) line = in_hand (Read port) line
+moved move (entry.Write port offered answer) line = in_hand (Write port) line
+moved move (entry.Close port answer) line = line
+moved move (entry.Start job answer) line = line
+moved move (entry.Now (Ok moment)) line = moved_on move.due move.left move.closes line
+moved move (entry.Now (Err want)) line = line

@@ -62,38 +62,47 @@ abbrev pub due_look : List ℕ → (idle : Bool) → Due
 due_look [] true = Polling
 due_look closes idle = due_of closes
 
--- any call: where this had to come, with the ports that its event closed, and whether there is nothing to do after it.
--- A listener where the outside refused counts as one where nobody waits, and a read or a write that it refused ends the
--- port; where memory ran out, nothing more comes
+-- by its answer, what a call leaves that is no binding, no closing and no reading of the clocks. A listener where the
+-- outside refused counts as one where nobody waits, and a read or a write that it refused ends the port; where memory
+-- ran out, nothing more comes
+abbrev pub due_by_answer : Entry → Due
+-- a poll that failed, or that tells that nothing will become ready, is the last call
+due_by_answer (entry.Poll wait items (Ok polled.Some)) = Free
+-- a connection was accepted, or none waits
+due_by_answer (entry.Accept door (Ok (accepted.Port number))) = NowFor (Joined door)
+due_by_answer (entry.Accept door (Ok accepted.NotNow)) = Free
+due_by_answer (entry.Accept door (Err Failed)) = Free
+-- bytes came, or the end, or nothing yet
+due_by_answer (entry.Read port room bytes (Ok (got.Bytes n))) = NowFor (Heard port bytes)
+due_by_answer (entry.Read port room bytes (Ok got.End)) = NowFor (Ended port)
+due_by_answer (entry.Read port room bytes (Ok got.NotNow)) = Free
+due_by_answer (entry.Read port room bytes (Err Failed)) = NowFor (Ended port)
+-- bytes went, or there is no room
+due_by_answer (entry.Write port offered (Ok (wrote.Took n))) = NowFor (Took port n)
+due_by_answer (entry.Write port offered (Ok wrote.NotNow)) = Free
+due_by_answer (entry.Write port offered (Err Failed)) = NowFor (Ended port)
+-- a job was started with a ticket, or wasn't
+due_by_answer (entry.Start job (Ok ticket)) = NowFor (Started job.number ticket)
+due_by_answer (entry.Start job (Err Failed)) = NowFor (StartFailed job.number)
+due_by_answer other = Nothing
+
+-- the next port has to be closed, or all is free
+abbrev pub due_closed : Due → Due
+due_closed (Closing port later) = due_of later
+due_closed other = Free
+
+-- the clocks take an event in, and what it closed has to be closed; with no event due, it is a look
+abbrev pub due_at_moment : Due → List ℕ → (idle : Bool) → Due
+due_at_moment Free closes idle = due_look closes idle
+due_at_moment (NowFor event) closes idle = due_of closes
+due_at_moment other closes idle = Nothing
+
+-- any call: where this had to come, with the ports that its event closed, and whether there is nothing to do after it
 abbrev pub due_after : Due → List ℕ → (idle : Bool) → Entry → Due
 due_after due closes idle (entry.Bind door path answer) = due
--- a poll that failed, or that tells that nothing will become ready, is the last call
-due_after due closes idle (entry.Poll wait items (Ok polled.Some)) = Free
--- a connection was accepted, or none waits
-due_after due closes idle (entry.Accept door (Ok (accepted.Port number))) = NowFor (Joined door)
-due_after due closes idle (entry.Accept door (Ok accepted.NotNow)) = Free
-due_after due closes idle (entry.Accept door (Err Failed)) = Free
--- bytes came, or the end, or nothing yet
-due_after due closes idle (entry.Read port room bytes (Ok (got.Bytes n))) = NowFor (Heard port bytes)
-due_after due closes idle (entry.Read port room bytes (Ok got.End)) = NowFor (Ended port)
-due_after due closes idle (entry.Read port room bytes (Ok got.NotNow)) = Free
-due_after due closes idle (entry.Read port room bytes (Err Failed)) = NowFor (Ended port)
--- bytes went, or there is no room
-due_after due closes idle (entry.Write port offered (Ok (wrote.Took n))) = NowFor (Took port n)
-due_after due closes idle (entry.Write port offered (Ok wrote.NotNow)) = Free
-due_after due closes idle (entry.Write port offered (Err Failed)) = NowFor (Ended port)
--- a job was started with a ticket, or wasn't
-due_after due closes idle (entry.Start job (Ok ticket)) = NowFor (Started job.number ticket)
-due_after due closes idle (entry.Start job (Err Failed)) = NowFor (StartFailed job.number)
--- the next port has to be closed, or all is free
-due_after due closes idle (entry.Close port (Err want)) = Nothing
-due_after (Closing port later) closes idle (entry.Close number (Ok unit)) = due_of later
-due_after due closes idle (entry.Close port (Ok unit)) = Free
--- the clocks take an event in, and what it closed has to be closed; with no event due, it is a look
-due_after due closes idle (entry.Now (Err want)) = Nothing
-due_after Free closes idle (entry.Now (Ok moment)) = due_look closes idle
-due_after (NowFor event) closes idle (entry.Now (Ok moment)) = due_of closes
-due_after due closes idle other = Nothing
+due_after due closes idle (entry.Close port (Ok unit)) = due_closed due
+due_after due closes idle (entry.Now (Ok moment)) = due_at_moment due closes idle
+due_after due closes idle other = due_by_answer other
 
 -- ---- how long a poll waits
 

@@ -17,7 +17,7 @@ use Rattle.agent_model.specs.Events.{Tick, Timed}
 use Rattle.agent_model.specs.Runs.{run}
 use Rattle.agent_model.specs.State.{State, owed_of, starts}
 use Rattle.agent_model.specs.Step.{step}
-use Rattle.loop_model.specs.Calls.{moved}
+use Rattle.loop_model.specs.Calls.{Move, moved}
 use Rattle.loop_model.specs.Dues.{Due, Free, NowFor, due_after, is_closing, is_free, is_polling, reads_clock, wait_of}
 use Rattle.loop_model.specs.Lines.{Line, is_idle}
 use Rattle.loop_model.specs.Queues.{is_next}
@@ -95,7 +95,8 @@ after_entry reading next =
     let events = events_brought reading.due next in
     let closes = closed_by reading.state events in
     let state = run reading.state events in
-    let line = moved reading.state reading.due state closes next reading.line in
+    let move : Move = record { state = reading.state; due = reading.due; left = state; closes = closes } in
+    let line = moved move next reading.line in
     in_state state line (due_after reading.due closes (is_idle state line) next)
 
 -- how it reads after this entry, where a test says that the entry may come

@@ -13,7 +13,7 @@ use Rattle.world_ports.specs.declared.answers.WorldFault.TheVariants.{Failed, Me
 use Rattle.world_ports.specs.declared.entry.Entry.{Entry}
 use Rattle.world_ports.specs.declared.entry.Entry.TheVariants as entry
 use Rattle.world_ports.specs.declared.answers.Ready.{Ready}
-use Rattle.world_ports.specs.declared.events.Door.TheVariants.{Clients, Children}
+use Rattle.world_ports.specs.declared.events.Door.TheVariants.{Clients}
 use Rattle.world_ports.specs.declared.events.Moment.{Moment}
 use Rattle.agent_model.specs.Events.{Tick}
 use Rattle.agent_model.specs.Sound.{IsRising}
@@ -23,7 +23,7 @@ use Rattle.loop_model.specs.Dues.{Free, due_look, is_polling, wait_of}
 use Rattle.loop_model.specs.Lines.{Line, is_idle}
 use Rattle.loop_model.specs.LegalJournal.{LoopState, after_entries, after_entry, after_if, after_if_legal, in_state}
 use Rattle.ready_loop.specs.Moves.{Advances, LooksAndPolls, Stops, Turns, is_poll}
-use Rattle.ready_loop.specs.Serving.{HalfBound, Opens, Refused, Running, Runs, RunsUpTo, Serves, Setting, Stage, Unbound, begun, children_path, gone_on, is_deserted, may_come, ran}
+use Rattle.ready_loop.specs.Serving.{Opens, Refused, Running, Runs, RunsUpTo, Serves, Setting, Stage, Unbound, begun, gone_on, is_deserted, may_come, ran}
 use Rattle.ready_loop.specs.declared.outcome.HubFault.{HubFault}
 use Rattle.ready_loop.specs.declared.outcome.HubFault.TheVariants as faults
 use Rattle.ready_loop.specs.declared.outcome.Turn.{Turn}
@@ -88,8 +88,7 @@ serves_more ends.Idle setting from mid old between new first later = record {
   deserted = later.deserted;
   idle = later.idle;
 }
-serves_more ends.BindFault setting from mid old between new first later =
-    record { door = later.door; path = later.path; calls = upto_more first later.calls }
+serves_more ends.BindFault setting from mid old between new first later = upto_more first later
 serves_more ends.PollFault setting from mid old between new first later =
     record { wait = later.wait; items = later.items; calls = upto_more first later.calls }
 serves_more ends.Memory setting from mid old between new first later =
@@ -271,7 +270,7 @@ pub turn_at : {result answer : Result Turn HubFault} (from : LoopState) (old new
 turn_at from old new state line is turn =
     subst (λ (r : Result Turn HubFault). Turns r from old new state line) is turn
 
--- ---- the listeners
+-- ---- the listener
 
 bytes_same : (bytes : List ℕ) → bytes_eq bytes bytes ≡ true
 bytes_same bytes = (bytes_decides bytes bytes).1 refl
@@ -279,12 +278,6 @@ bytes_same bytes = (bytes_decides bytes bytes).1 refl
 first_bind : (setting : Setting) (stage : Stage)
     → (if bytes_eq setting.path setting.path then Some stage else None) ≡ Some stage
 first_bind setting stage = ap (λ (b : Bool). if b then Some stage else None) (bytes_same setting.path)
-
-later_bind : (setting : Setting) (at : List ℕ) (stage : Stage) → at ≡ children_path setting.path
-    → (if bytes_eq at (children_path setting.path) then Some stage else None) ≡ Some stage
-later_bind setting at stage is =
-    ap (λ (xs : List ℕ). if bytes_eq xs (children_path setting.path) then Some stage else None) is
-    ∙ ap (λ (b : Bool). if b then Some stage else None) (bytes_same (children_path setting.path))
 
 ran_one : (setting : Setting) (from to : Stage) (next : Entry) → gone_on setting from next ≡ Some to
     → ran setting from (next ∷ []) ≡ Some to
@@ -296,18 +289,14 @@ runs_one setting from to old new next is told =
     record { added = next ∷ []; told = told; legal = ran_one setting from to next is }
 
 -- the clients' listener couldn't be bound
-pub opens_not : (fault : WorldFault) (setting : Setting) (old new : Option (List Entry))
+opens_not : (fault : WorldFault) (setting : Setting) (old new : Option (List Entry))
     → Tells old new (is_short {T = Unit {0}} (Err fault)) (entry.Bind Clients setting.path (Err fault))
     → Opens (Err fault) setting old new
 opens_not Failed setting old new told = record {
-  door = Clients;
-  path = setting.path;
-  calls = record {
-    to = Refused;
-    before = [];
-    told = told;
-    legal = ran_one setting Unbound Refused (entry.Bind Clients setting.path (Err Failed)) (first_bind setting Refused);
-  };
+  to = Refused;
+  before = [];
+  told = told;
+  legal = ran_one setting Unbound Refused (entry.Bind Clients setting.path (Err Failed)) (first_bind setting Refused);
 }
 opens_not Memory setting old new (inl told) = record {
   to = Refused;
@@ -318,33 +307,10 @@ opens_not Memory setting old new (inr told) = record {
   calls = record { added = []; told = told; legal = refl };
 }
 
--- the clients' listener was bound, and then the children's or not
-pub opens_by : (result : Result Unit WorldFault) (setting : Setting) (old between new : Option (List Entry)) (at : List ℕ)
-    → at ≡ children_path setting.path
-    → Grows old between (entry.Bind Clients setting.path (Ok tt) ∷ [])
-    → Tells between new (is_short result) (entry.Bind Children at result)
+-- by whether the clients' listener was bound
+pub opens_by : (result : Result Unit WorldFault) (setting : Setting) (old new : Option (List Entry))
+    → Tells old new (is_short result) (entry.Bind Clients setting.path result)
     → Opens result setting old new
-opens_by (Ok unit) setting old between new at is first told =
-    runs_more (runs_one setting Unbound HalfBound old between (entry.Bind Clients setting.path (Ok tt)) (first_bind setting HalfBound) first)
-    (runs_one setting HalfBound (begun setting) between new (entry.Bind Children at (Ok unit)) (later_bind setting at (begun setting) is) told)
-opens_by (Err Failed) setting old between new at is first told = record {
-  door = Children;
-  path = at;
-  calls = upto_more (runs_one setting Unbound HalfBound old between (entry.Bind Clients setting.path (Ok tt)) (first_bind setting HalfBound) first)
-      (record {
-        to = Refused;
-        before = [];
-        told = told;
-        legal = ran_one setting HalfBound Refused (entry.Bind Children at (Err Failed)) (later_bind setting at Refused is);
-      });
-}
-opens_by (Err Memory) setting old between new at is first (inl told) = record {
-  to = Refused;
-  calls = runs_more (runs_one setting Unbound HalfBound old between (entry.Bind Clients setting.path (Ok tt)) (first_bind setting HalfBound) first)
-      (runs_one setting HalfBound Refused between new (entry.Bind Children at (Err Memory)) (later_bind setting at Refused is) told);
-}
-opens_by (Err Memory) setting old between new at is first (inr told) = record {
-  to = HalfBound;
-  calls = runs_more (runs_one setting Unbound HalfBound old between (entry.Bind Clients setting.path (Ok tt)) (first_bind setting HalfBound) first)
-      (record { added = []; told = told; legal = refl });
-}
+opens_by (Ok unit) setting old new told =
+    runs_one setting Unbound (begun setting) old new (entry.Bind Clients setting.path (Ok unit)) (first_bind setting (begun setting)) told
+opens_by (Err fault) setting old new told = opens_not fault setting old new told

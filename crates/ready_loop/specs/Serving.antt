@@ -1,6 +1,6 @@
--- A whole run of the loop (ours): both listeners are bound, the clients' first, and then the calls come as
--- LegalJournal.antt of loop_model says. Read from the end.
-use Rattle.std.specs.Prelude.{◌≡◌, ℕ, Bool, true, List, [], ◌∷◌, ◌++◌, Option, Some, None, Result, Ok, Err, ◌==◌, ◌&&◌, not, if◌then◌else◌, codes, option_and_then, option_map}
+-- A whole run of the loop (ours): the clients' listener is bound, and then the calls come as LegalJournal.antt of
+-- loop_model says. Child processes are started with their connections, so nothing is bound for them. Read from the end.
+use Rattle.std.specs.Prelude.{◌≡◌, ℕ, Bool, true, List, [], ◌∷◌, ◌++◌, Option, Some, None, Result, Ok, Err, ◌==◌, ◌&&◌, not, if◌then◌else◌, option_and_then, option_map}
 use Rattle.std.specs.Str.{bytes_eq}
 use Rattle.world_ports.specs.Journal.{Grows}
 use Rattle.world_ports.specs.declared.answers.Polled.{Polled}
@@ -10,12 +10,10 @@ use Rattle.world_ports.specs.declared.answers.WorldFault.{WorldFault}
 use Rattle.world_ports.specs.declared.answers.WorldFault.TheVariants as fault
 use Rattle.world_ports.specs.declared.entry.Entry.{Entry}
 use Rattle.world_ports.specs.declared.entry.Entry.TheVariants as entry
-use Rattle.world_ports.specs.declared.events.Door.{Door}
-use Rattle.world_ports.specs.declared.events.Door.TheVariants.{Clients, Children}
+use Rattle.world_ports.specs.declared.events.Door.TheVariants.{Clients}
 use Rattle.agent_model.specs.State.{State, client_count}
 use Rattle.loop_model.specs.Dues.{Free}
 use Rattle.loop_model.specs.Lines.{empty_line, is_idle}
-use Rattle.loop_model.specs.Things.{same_door}
 use Rattle.loop_model.specs.LegalJournal.{LoopState, after_if_legal, in_state}
 use Rattle.ready_loop.specs.Moves.{is_poll}
 use Rattle.ready_loop.specs.declared.outcome.ServeEnd.{ServeEnd}
@@ -28,10 +26,9 @@ pub record Setting : Type 0 where
   pub until_idle : Bool
   pub state : State
 
--- how far a run is: no listener is bound, or that of the clients, or both; or one couldn't be bound
+-- how far a run is: the listener isn't bound, or the loop runs; or it couldn't be bound
 pub data Stage : Type 0 where
   Unbound : Stage
-  HalfBound : Stage
   Running : (reading : LoopState) → Stage
   Refused : Stage
 
@@ -39,22 +36,17 @@ pub data Stage : Type 0 where
 abbrev pub begun : Setting → Stage
 begun setting = Running (in_state setting.state empty_line Free)
 
--- ---- listeners
-
--- the path at which child processes connect
-abbrev pub children_path : List ℕ → List ℕ
-children_path path = path ++ codes ".children"
+-- ---- the listener
 
 -- the stage after a listener was to be bound, by whether it was
 abbrev pub after_bind : {E : Type 0} → Result Unit E → Stage → Stage
 after_bind (Ok unit) next = next
 after_bind (Err fault) next = Refused
 
--- this listener is to be bound, at this path
-abbrev pub bound : Door → List ℕ → Stage → Entry → Option Stage
-bound door path next (entry.Bind other at answer) =
-    if same_door door other && bytes_eq at path then Some (after_bind answer next) else None
-bound door path next other = None
+-- the clients' listener is to be bound, at this path
+abbrev pub bound : List ℕ → Stage → Entry → Option Stage
+bound path next (entry.Bind Clients at answer) = if bytes_eq at path then Some (after_bind answer next) else None
+bound path next other = None
 
 -- ---- turns
 
@@ -70,8 +62,7 @@ may_come until_idle reading next = not (is_poll next && (until_idle && is_desert
 
 -- the entry may come, and this is how far the run is then
 abbrev pub gone_on : Setting → Stage → Entry → Option Stage
-gone_on setting Unbound next = bound Clients setting.path HalfBound next
-gone_on setting HalfBound next = bound Children (children_path setting.path) (begun setting) next
+gone_on setting Unbound next = bound setting.path (begun setting) next
 gone_on setting (Running reading) next =
     if may_come setting.until_idle reading next then option_map Running (after_if_legal reading next) else None
 gone_on setting Refused next = None
@@ -102,11 +93,9 @@ pub record RunsUpToPoll (setting : Setting) (from : Stage) (old new : Option (Li
   pub items : List Ready
   pub calls : RunsUpTo setting from old new (entry.Poll wait items answer)
 
--- a listener couldn't be bound
-pub record RunsUpToBind (setting : Setting) (from : Stage) (old new : Option (List Entry)) : Type 0 where
-  pub door : Door
-  pub path : List ℕ
-  pub calls : RunsUpTo setting from old new (entry.Bind door path (Err fault.Failed))
+-- the listener couldn't be bound
+abbrev pub RunsUpToBind : Setting → Stage → Option (List Entry) → Option (List Entry) → Type 0
+RunsUpToBind setting from old new = RunsUpTo setting from old new (entry.Bind Clients setting.path (Err fault.Failed))
 
 -- it was to end so: a client has connected, none is open, and nothing can be served
 pub record RunsUntilIdle (setting : Setting) (from : Stage) (old new : Option (List Entry)) : Type 0 where
@@ -130,7 +119,7 @@ Serves BindFault setting from old new = RunsUpToBind setting from old new
 Serves PollFault setting from old new = RunsUpToPoll setting from old new (Err fault.Failed)
 Serves Memory setting from old new = RunsOut setting from old new
 
--- what the calls are that bind both listeners, by whether both were bound
+-- what the calls are that bind the listener, by whether it was bound
 abbrev pub Opens : Result Unit WorldFault → Setting → Option (List Entry) → Option (List Entry) → Type 0
 Opens (Ok unit) setting old new = Runs setting Unbound old new (begun setting)
 Opens (Err fault.Failed) setting old new = RunsUpToBind setting Unbound old new

@@ -19,6 +19,5 @@ mod turn;
 
 pub use agent::Core;
 pub use hub::Hub;
-pub use listeners::children_path;
 pub use outcome::{HubFault, ServeEnd, Turn};
 pub use serving::serve;

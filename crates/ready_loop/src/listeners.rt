@@ -1,25 +1,15 @@
-//! The listeners of an agent that serves.
+//! The listener of an agent that serves.
 
-ghost use Rattle.std.specs.Prelude.{◌≡◌, ◌≤◌, Bool, Err, IfOk, string_bytes};
+ghost use Rattle.std.specs.Prelude.{◌≡◌, ◌≤◌, Bool, Err};
 ghost use Rattle.agent_model.specs.State.{State};
-ghost use Rattle.ready_loop.specs.Serving.{Opens, children_path};
+ghost use Rattle.ready_loop.specs.Serving.{Opens};
 ghost use Rattle.world_ports.specs.Causes.{Rose};
 ghost use Rattle.world_ports.specs.declared.answers.WorldFault.TheVariants.{Failed};
 
-use std::alloc::{AllocError, Global};
 use world_ports::{Door, World, WorldFault};
 
-/// Where child processes connect: beside the clients' path.
-pub fn children_path(alloc: Global, path: &str) -> Result<String, AllocError>
-    ensures { IfOk result (λ made. string_bytes made ≡ children_path path.now) }
-{
-    let mut made = String::from_str(alloc, path)?;
-    made.push_str(".children")?;
-    Ok(made)
-}
-
-// Binds both listeners, the clients' first.
-pub fn open<W: World>(alloc: Global, world: &mut W, path: &str) -> Result<(), WorldFault>
+// Binds the clients' listener.
+pub fn open<W: World>(world: &mut W, path: &str) -> Result<(), WorldFault>
     ensures opened { (until_idle : Bool) (state : State) → Opens result
         (record { path = path.now; until_idle = until_idle; state = state })
         (W.journal world.old) (W.journal world.new) }
@@ -29,11 +19,5 @@ pub fn open<W: World>(alloc: Global, world: &mut W, path: &str) -> Result<(), Wo
     ensures later { W.faults world.old ≤ W.faults world.new }
     ensures led { W.leads world.old world.new }
 {
-    let Ok(children) = children_path(alloc, path) else {
-        return Err(WorldFault::Memory);
-    };
-    match world.bind(Door::Clients, path) {
-        Ok(()) => world.bind(Door::Children, &children),
-        Err(fault) => Err(fault),
-    }
+    world.bind(Door::Clients, path)
 }

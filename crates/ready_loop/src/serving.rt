@@ -61,7 +61,7 @@ fn run<R: Wait, A: Core, W: World>(
     unreachable!()
 }
 
-/// Serves clients that connect at `path`, and child processes beside it, at `path` with `.children` behind it.
+/// Serves clients that connect at `path`, and the child processes that it starts.
 ///
 /// With `until_idle` the loop ends once a client has come, none is left and nothing can be served: it doesn't wait
 /// there. Without it only a fault ends it, or a world in which nothing becomes ready any more.
@@ -84,7 +84,7 @@ pub fn serve<R: Wait, A: Core, W: World>(
     ensures later { W.faults world.old ≤ W.faults world.new }
     ensures led { W.leads world.old world.new }
 {
-    match open(alloc, world, path) {
+    match open(world, path) {
         Ok(()) => {
             let mut hub = Hub::new(alloc);
             run(rt, &mut hub, agent, world, until_idle)

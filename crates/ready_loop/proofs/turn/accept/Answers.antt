@@ -1,7 +1,5 @@
-use Rattle.std.proofs.Common.{refl, Ok, Err, Result, ap, subst, sym, ◌≡◌, ◌∙◌, true, false, Some}
-use Rattle.world_ports.specs.declared.answers.Accepted.{Accepted}
+use Rattle.std.proofs.Common.{refl, Ok, Err, ap, subst, sym, ◌≡◌, ◌∙◌, false, Some}
 use Rattle.world_ports.specs.declared.answers.Accepted.TheVariants as accepted
-use Rattle.world_ports.specs.declared.answers.WorldFault.{WorldFault}
 use Rattle.world_ports.specs.declared.answers.WorldFault.TheVariants.{Failed, Memory}
 use Rattle.world_ports.specs.declared.entry.Entry.TheVariants as entry
 use Rattle.agent_model.specs.Events.{Joined}

@@ -1,4 +1,4 @@
-use Rattle.std.proofs.Common.{Ok, Err, Result, [], refl, take, length, arith, rules, subst, ap, ◌∙◌, true}
+use Rattle.std.proofs.Common.{Ok, Err, Result, [], refl, take, length, arith, rules, subst, ap, ◌∙◌}
 use Rattle.std.proofs.lemmas.List.{length-take}
 use Rattle.world_ports.specs.Journal.{got_of}
 use Rattle.world_ports.specs.Worlds.{GotWithin, KeepsRest}
@@ -7,9 +7,7 @@ use Rattle.world_ports.specs.declared.answers.Got.TheVariants as got
 use Rattle.world_ports.specs.declared.answers.WorldFault.{WorldFault}
 use Rattle.world_ports.specs.declared.answers.WorldFault.TheVariants.{Failed, Memory}
 use Rattle.world_ports.specs.declared.entry.Entry.TheVariants as entry
-use Rattle.loop_model.specs.Dues.{Free}
 use Rattle.loop_model.specs.declared.thing.Thing.TheVariants.{Read}
-use Rattle.loop_model.specs.LegalJournal.{after_entry, in_state}
 use Rattle.ready_loop.proofs.CallLemmas as calls
 use Rattle.ready_loop.proofs.TurningLemmas.{serves_then, told_at}
 use Rattle.ready_loop.proofs.RoomLemmas.{wiped_again}

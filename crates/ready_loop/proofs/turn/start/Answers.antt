@@ -1,9 +1,7 @@
-use Rattle.std.proofs.Common.{refl, None, Ok, Err, Result, List, ℕ, ap, ◌∙◌, true}
+use Rattle.std.proofs.Common.{refl, None, Ok, Err, Result, List, ℕ, ap, ◌∙◌}
 use Rattle.world_ports.specs.declared.answers.WorldFault.{WorldFault}
 use Rattle.world_ports.specs.declared.answers.WorldFault.TheVariants.{Failed, Memory}
 use Rattle.world_ports.specs.declared.entry.Entry.TheVariants as entry
-use Rattle.loop_model.specs.Dues.{Free}
-use Rattle.loop_model.specs.LegalJournal.{after_entry, in_state}
 use Rattle.loop_model.specs.Lines.{after_event}
 use Rattle.ready_loop.proofs.CallLemmas as calls
 use Rattle.ready_loop.proofs.RoundingLemmas.{keeps-event, keeps-is}

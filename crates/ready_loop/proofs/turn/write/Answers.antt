@@ -1,13 +1,11 @@
-use Rattle.std.proofs.Common.{Ok, Err, Result, ap, length, subst, ◌∙◌, true, refl}
+use Rattle.std.proofs.Common.{Ok, Err, Result, ap, length, subst, ◌∙◌, refl}
 use Rattle.world_ports.specs.Worlds.{TookWithin}
 use Rattle.world_ports.specs.declared.answers.Wrote.{Wrote}
 use Rattle.world_ports.specs.declared.answers.Wrote.TheVariants as wrote
 use Rattle.world_ports.specs.declared.answers.WorldFault.{WorldFault}
 use Rattle.world_ports.specs.declared.answers.WorldFault.TheVariants.{Failed, Memory}
 use Rattle.world_ports.specs.declared.entry.Entry.TheVariants as entry
-use Rattle.loop_model.specs.Dues.{Free}
 use Rattle.loop_model.specs.declared.thing.Thing.TheVariants.{Write}
-use Rattle.loop_model.specs.LegalJournal.{after_entry, in_state}
 use Rattle.ready_loop.proofs.CallLemmas as calls
 use Rattle.ready_loop.proofs.TurningLemmas.{serves_then, told_at}
 use Rattle.ready_loop.proofs.HandingLemmas.{front-next, write-at}
