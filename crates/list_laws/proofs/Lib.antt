@@ -1,0 +1,5 @@
+mod FoundLemmas
+mod OrderLemmas
+mod TriedLemmas
+mod ListLemmas
+mod RunLemmas
