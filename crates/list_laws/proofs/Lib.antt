@@ -1,5 +1,5 @@
 mod FoundLemmas
 mod OrderLemmas
 mod TriedLemmas
-mod ListLemmas
-mod RunLemmas
+pub mod ListLemmas
+pub mod RunLemmas

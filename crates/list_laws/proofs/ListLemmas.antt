@@ -1,5 +1,5 @@
 -- What a request for identities is replied is what the past tells.
-use Rattle.std.proofs.Common.{◌≡◌, ℕ, List, [], ◌∷◌, ◌++◌, map, refl, sym, ap, subst, ◌∙◌, inl, inr, Bool, true, false, cond, is_some, Option, Some, None, Result, Ok}
+use Rattle.std.proofs.Common.{◌≡◌, ℕ, List, [], ◌∷◌, ◌++◌, map, refl, sym, ap, subst, ◌∙◌, inl, inr, arith, Bool, true, false, cond, is_some, Option, Some, None, Result, Ok}
 use Rattle.std.specs.List.{filter}
 use Rattle.std.specs.Option.{option_map}
 use Rattle.world_ports.specs.declared.Door.TheVariants.{Clients}
@@ -12,6 +12,7 @@ use Rattle.dest_rule.specs.Rules.{visible}
 use Rattle.dest_rule.specs.declared.binding.Binding.{Binding}
 use Rattle.helper_link.specs.Telling.{Telling, telling}
 use Rattle.helper_link.specs.declared.fault.LinkFault.{LinkFault}
+use Rattle.identity_table.specs.Identities.{find_identity}
 use Rattle.agent_model.specs.Actions.{Granted, Outcome, Requested, Requesting, Work, stay}
 use Rattle.agent_model.specs.Answers.{answers_in, helper_tells, lose, lose_if, with_answers}
 use Rattle.agent_model.specs.Binds.{agent_request_of}
@@ -33,12 +34,12 @@ use Rattle.agent_model.proofs.PortsLemmas.{change_port-twice, find_port-change_p
 use Rattle.agent_model.proofs.ServeLemmas.{Serves, adds, confirms, denies, empties, lists, locks, removes, serves-any, signs, unlocks, verifies}
 use Rattle.agent_model.proofs.TiedLemmas.{tied-quiet}
 use Rattle.agent_laws.specs.Dues.{proved_of}
-use Rattle.agent_laws.specs.Past.{PastAddition, held_by, was_locked}
+use Rattle.agent_laws.specs.Past.{PastAddition, was_locked}
 use Rattle.agent_laws.proofs.HoldsLemmas.{Holds, facts_of, key_of}
 use Rattle.agent_laws.proofs.StepLemmas.{calm-quiet}
-use Rattle.list_laws.specs.Lists.{all_standing, entry_of, in_order, listed_to, shown_to, tried}
+use Rattle.list_laws.specs.Lists.{all_standing, entry_of, in_order, listed_to, shown_to, standing, tried}
 use Rattle.list_laws.proofs.FoundLemmas.{AreInOrder, filter_map-same, map-filter_map}
-use Rattle.list_laws.proofs.OrderLemmas.{AreFresh, HoldsBehind, IsIdle, found_is, holds-idle, order-granted, order-served}
+use Rattle.list_laws.proofs.OrderLemmas.{AreFresh, HoldsBehind, IsIdle, holds-idle, order-granted, order-served}
 use Rattle.list_laws.proofs.TriedLemmas.{IsUnasked, KeepTries, Tries, tried_then, tries-absent, tries-asked, tries-ended, tries-lose, tries-quiet, tries-same, tries-tells, tries-unasked}
 
 -- ---- what the table shows
@@ -70,6 +71,12 @@ pub record Knows (life : Option ℕ) (past : List Stamped) (state : State) : Typ
       → proved_of number past ≡ port.chain
   pub tried : (number : ℕ) (port : Port) → find_port number state.ports ≡ Some port
       → tried number past ≡ port.attempted
+
+-- what a blob finds is the addition that stands
+pub held-stands : (life : Option ℕ) (past : List Stamped) (state : State) → Knows life past state → (blob : List ℕ)
+    → find_identity blob state.held.table.identities ≡ option_map (key_of life) (standing life state.moment.mono past blob)
+held-stands life past state knows blob =
+    sym (knows.fresh blob) ∙ knows.holds.found blob state.moment.mono (omega arith)
 
 knows-quiet : {event : Happening} {old new : State} (life : Option ℕ) (past : List Stamped)
     → Quiet event old new → IsTied old → Knows life past old → Knows life past new
@@ -142,9 +149,8 @@ module _ (life : Option ℕ) (past : List Stamped) (body_len : ℕ) (port : Port
   all_held : state.held.table.identities ≡ map (key_of life) (all_standing life state.moment.mono past)
   all_held =
       knows.order
-      ∙ filter_map-same _ (λ blob. option_map (key_of life) (held_by ((facts_of past).last blob) life state.moment.mono)) (in_order life past)
-      (found_is life asker (facts_of past) (in_order life past) state.held state.under_way knows.holds knows.fresh knows.order)
-      ∙ sym (map-filter_map (λ blob. held_by ((facts_of past).last blob) life state.moment.mono) (key_of life) (in_order life past))
+      ∙ filter_map-same _ (λ blob. option_map (key_of life) (standing life state.moment.mono past blob)) (in_order life past) (held-stands life past state knows)
+      ∙ sym (map-filter_map (standing life state.moment.mono past) (key_of life) (in_order life past))
 
   seen_is : seen_by asker state.held ≡ shown_to life port.number state.moment past
   seen_is =

@@ -372,6 +372,11 @@ module _ (settings : Settings) (before : List Timed) where
   told : Tells settings.life (past_of settings before) reached
   told = run-tells settings.life [] (first_state settings) before (first-tied settings) (first-judged settings) (first-tells settings)
 
+  -- what is known as an event begins
+  pub each-knows : (moment : Moment) → Knows settings.life (past_of settings before) (at_moment moment reached)
+  each-knows moment =
+      knows settings.life (past_of settings before) reached moment Tick reached_tied reached_judged told
+
   pub each-listed : (one : Timed) (requesting : Requesting)
       → IsAmong (Requested requesting) (step reached one.moment one.event).actions
       → agent_request_of requesting.body ≡ Ok ListIdentities → IsListed settings before one requesting
