@@ -31,7 +31,7 @@ standing life now past blob = held_by (last_addition blob past) life now
 abbrev pub at_end : List ℕ → List (List ℕ) → List (List ℕ)
 at_end blob blobs = filter (λ other. not (bytes_eq other blob)) blobs ++ blob ∷ []
 
--- behind something done: a blob comes by an addition where none of it stood
+-- behind something done, by which blobs stood: one that is added while it doesn't stand comes, to the end
 abbrev pub come_by : Done → (stood : List ℕ → Bool) → List (List ℕ) → List (List ℕ)
 come_by (DidAdd addition) stood blobs =
     if stood addition.key.blob then blobs else at_end addition.key.blob blobs
@@ -95,10 +95,14 @@ after settings before one = (step (run (first_state settings) before) one.moment
 -- what its client is listed, by what was done before the event, at its moment
 abbrev pub due_list : Settings → List Timed → Timed → Requesting → List (List ℕ × List ℕ)
 due_list settings before one requesting =
-    listed_to settings.life requesting.port (after settings before one).moment (past_of settings before)
+    listed_to settings.life requesting.port (after settings before one).moment
+    (past_of settings before)
 
 -- the request that the event serves behind those before is replied exactly that list, and its client is
 -- owed that reply and nothing else
-pub record IsListed (settings : Settings) (before : List Timed) (one : Timed) (requesting : Requesting) : Type 0 where
-  pub verdict : requesting.verdict ≡ Replies (Identities (due_list settings before one requesting))
-  pub owed : owed_of requesting.port (after settings before one) ≡ identities_answer (due_list settings before one requesting)
+pub record IsListed (settings : Settings) (before : List Timed) (one : Timed)
+    (requesting : Requesting) : Type 0 where
+  pub verdict :
+      requesting.verdict ≡ Replies (Identities (due_list settings before one requesting))
+  pub owed : owed_of requesting.port (after settings before one)
+      ≡ identities_answer (due_list settings before one requesting)

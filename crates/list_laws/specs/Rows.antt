@@ -28,10 +28,10 @@ proved_to port tag = at 0 (Proved (record {
 abbrev pub listed_at : ℕ → ℕ → List Stamped → List (List ℕ × List ℕ)
 listed_at second port past = listed_to None port (moment_at second) past
 
--- an entry with the comment "one", and one with the comment "two"
+-- the entry of the key of this tag, with the comment "one"
 abbrev pub one : ℕ → List ℕ × List ℕ
 one tag = (blob tag, codes "one")
 
--- with the other comment
+-- the same with the comment "two"
 abbrev pub two : ℕ → List ℕ × List ℕ
 two tag = (blob tag, codes "two")

@@ -83,8 +83,11 @@ question_by raising added chain wall = string (to_child_body (Confirm raising.jo
 -- by what was done before the event and without a state: the last addition of the blob that is to sign stands at the
 -- event's second, it is the one that the raising names, and what the child process takes is a front of the question about
 -- it, over the bindings that were proved of the asker
-pub record IsAskedByThePast (settings : Settings) (before : List Timed) (one : Timed) (later : List Timed) (raising : Raising) : Type 0 where
+pub record IsAskedByThePast (settings : Settings) (before : List Timed) (one : Timed) (later : List Timed)
+    (raising : Raising) : Type 0 where
   pub added : PastAddition
-  pub stands : standing settings.life (after settings before one).moment.mono (past_of settings before) raising.signing.blob ≡ Some added
+  pub stands : standing settings.life (after settings before one).moment.mono (past_of settings before)
+      raising.signing.blob ≡ Some added
   pub addition : raising.addition ≡ added.number
-  pub taken : IsFront (taken_of raising.job (after settings before one) later) (question_by raising added (proved_of raising.port (past_of settings before)) one.moment.wall)
+  pub taken : IsFront (taken_of raising.job (after settings before one) later)
+      (question_by raising added (proved_of raising.port (past_of settings before)) one.moment.wall)
