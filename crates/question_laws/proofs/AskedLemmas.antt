@@ -1,5 +1,5 @@
 -- What is raised in an event is asked as it is to be signed.
-use Rattle.std.proofs.Common.{◌≡◌, ◌==◌, ℕ, ◌+◌, ◌<◌, ◌≤◌, List, [], ◌∷◌, ◌++◌, refl, sym, ap, subst, ◌∙◌, ◌⊎◌, inl, inr, arith, Bool, true, cond, Option, Some, None, Result, Ok}
+use Rattle.std.proofs.Common.{◌≡◌, ◌==◌, ℕ, ◌+◌, ◌<◌, ◌≤◌, List, refl, sym, ap, subst, ◌∙◌, ◌⊎◌, inl, inr, arith, true, cond, Some, Result}
 use Rattle.std.proofs.lemmas.Bool.Decides.{nat_tests}
 use Rattle.world_ports.specs.declared.Moment.{Moment}
 use Rattle.wire_text.specs.Frames.{front_body}
@@ -9,9 +9,8 @@ use Rattle.confirm_desk.specs.Confirmations.{Confirmation, confirmation_of, find
 use Rattle.confirm_desk.specs.Prompt.{prompt_for}
 use Rattle.dest_rule.specs.declared.binding.Binding.{Binding}
 use Rattle.helper_link.specs.Telling.{telling}
-use Rattle.identity_table.specs.Identities.{HeldKey, find_identity}
-use Rattle.agent_model.specs.Actions.{Action, Asked, Outcome, Raised, Raising, Requested, Work}
-use Rattle.agent_model.specs.Answers.{helper_tells}
+use Rattle.identity_table.specs.Identities.{find_identity}
+use Rattle.agent_model.specs.Actions.{Action, Outcome, Raised, Raising, Work}
 use Rattle.agent_model.specs.Asking.{JobsRise}
 use Rattle.agent_model.specs.Binds.{agent_request_of}
 use Rattle.agent_model.specs.Dispatch.{Asker, Served, host_for}

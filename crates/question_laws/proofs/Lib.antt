@@ -1,2 +1,3 @@
 mod OwedLemmas
 mod AskedLemmas
+mod AddedLemmas

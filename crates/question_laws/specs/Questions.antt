@@ -9,9 +9,12 @@ use Rattle.dest_rule.specs.declared.binding.Binding.{Binding}
 use Rattle.identity_table.specs.Identities.{HeldKey, find_identity}
 use Rattle.agent_model.specs.Actions.{Raising}
 use Rattle.agent_model.specs.Events.{Happening, Timed, Took}
-use Rattle.agent_model.specs.State.{Confirmer, Port, Role, State, UnderWay, find_port, role_of}
+use Rattle.agent_model.specs.State.{Confirmer, Port, Role, Settings, State, UnderWay, find_port, role_of}
 use Rattle.agent_model.specs.Step.{step}
 use Rattle.agent_model.specs.Time.{at_moment}
+use Rattle.agent_laws.specs.Dues.{proved_of}
+use Rattle.agent_laws.specs.Past.{PastAddition}
+use Rattle.list_laws.specs.Lists.{after, past_of, standing}
 
 -- ---- the question
 
@@ -67,3 +70,24 @@ pub record IsAsked (state : State) (one : Timed) (later : List Timed) (raising :
   pub question : List ℕ
   pub about : IsQuestion (at_moment one.moment state) raising question
   pub taken : IsFront (taken_of raising.job (step state one.moment one.event).state later) question
+
+-- ---- by what was added
+
+-- the same frame by an addition: its comment, fingerprint and purposes, and the host by its destination constraints
+abbrev pub question_by : Raising → PastAddition → List Binding → (wall : ℕ) → List ℕ
+question_by raising added chain wall = string (to_child_body (Confirm raising.job
+    (prompt_for added.addition.comment added.addition.key.blob added.addition.terms.purposes
+    (login_host added.addition.terms.rules added.addition.key.blob chain raising.signing.message wall)
+    raising.signing.message)))
+
+-- by what was done before the event and without a state: the last addition of the blob that is to sign stands at the
+-- event's second, it is the one that the raising names, and what the child process takes is a front of the question about
+-- it, over the bindings that were proved of the asker
+pub record IsAskedByThePast (settings : Settings) (before : List Timed) (one : Timed) (later : List Timed)
+    (raising : Raising) : Type 0 where
+  pub added : PastAddition
+  pub stands : standing settings.life (after settings before one).moment.mono (past_of settings before)
+      raising.signing.blob ≡ Some added
+  pub addition : raising.addition ≡ added.number
+  pub taken : IsFront (taken_of raising.job (after settings before one) later)
+      (question_by raising added (proved_of raising.port (past_of settings before)) one.moment.wall)

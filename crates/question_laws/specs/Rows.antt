@@ -1,5 +1,5 @@
 -- Literal rows: what the child process of a job takes (ours).
-use Rattle.std.specs.Prelude.{ℕ, List, [], ◌∷◌, Some}
+use Rattle.std.specs.Prelude.{[], ◌∷◌, Some}
 use Rattle.world_ports.specs.declared.Door.TheVariants.{Children}
 use Rattle.confirm_desk.specs.Confirmations.{Confirmation}
 use Rattle.agent_model.specs.State.{State, first_state, new_port, no_limits, no_settings, nothing_under_way}

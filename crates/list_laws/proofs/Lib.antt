@@ -1,0 +1,5 @@
+mod FoundLemmas
+mod OrderLemmas
+mod TriedLemmas
+pub mod ListLemmas
+pub mod RunLemmas
