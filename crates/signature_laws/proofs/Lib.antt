@@ -1,0 +1,3 @@
+mod SignatureLemmas
+mod StreamLemmas
+mod RowLemmas
