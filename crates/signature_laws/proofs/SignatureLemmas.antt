@@ -31,7 +31,7 @@ use Rattle.signature_laws.specs.Signatures as said
 
 -- ---- among lists
 
-in-behind : {A : Type 0} (one : A) (some more : List A) → IsIn one more → IsIn one (some ++ more)
+pub in-behind : {A : Type 0} (one : A) (some more : List A) → IsIn one more → IsIn one (some ++ more)
 in-behind one [] more there = there
 in-behind one (first ∷ some) more there = inr (in-behind one some more there)
 
@@ -214,6 +214,6 @@ of-ask settings before life answers ask answer by there about =
     let state : State = first_state settings in
     let found = has-message (messages_of (run state before) life) answers answer by.fit by.each there in
     let put = has-ask found.message
-        (first-puts settings (before ++ life)).messages (in-whole state before life found.message found.there) in
+    (first-puts settings (before ++ life)).messages (in-whole state before life found.message found.there) in
     by-message put.earlier put.moment put.asking put.rest (history state (before ++ life)) found.message ask answer put.told
     put.is found.is about
