@@ -1,11 +1,9 @@
 -- The literal rows, computed.
-use Rattle.std.proofs.Common.{◌≡◌, ℕ, ◌^◌, ◌<◌, ◌≤◌, List, [], ◌∷◌, ◌++◌, length, Option, None, Ok, refl, sym, subst, arith}
-use Rattle.wire_text.specs.Bounds.{longest_body, longest_to_child}
-use Rattle.wire_text.specs.Frames.{IsBody, frames}
+use Rattle.std.proofs.Common.{◌≡◌, [], ◌∷◌, length, None, Ok, refl, sym, subst, arith}
 use Rattle.wire_text.specs.Wire.{string, uint32, uint64}
 use Rattle.wire_core.specs.Fields.{string_at, string_len}
-use Rattle.child_msg.specs.ChildFrames.{FromChildFits, ToChildFits, from_child_body, to_child_body}
-use Rattle.child_msg.specs.Messages.{FromChildMessage, Refused}
+use Rattle.child_msg.specs.ChildFrames.{ToChildFits, from_child_body, to_child_body}
+use Rattle.child_msg.specs.Messages.{Refused}
 use Rattle.ecdsa_wire.specs.Names.{type_of as ecdsa_type_of}
 use Rattle.rsa_wire.specs.Names.{type_of as rsa_type_of}
 use Rattle.helper_core.specs.Laws.{IsAnswerBy}

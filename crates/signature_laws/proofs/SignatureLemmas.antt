@@ -1,15 +1,13 @@
 -- An answer of the signer is traced to the body that it answers, this to the message that was put, and this to its ask.
-use Rattle.std.proofs.Common.{◌≡◌, ◌==◌, ◌⊎◌, inl, inr, ℕ, ◌||◌, if◌then◌else◌, Bool, true, false, List, [], ◌∷◌, ◌++◌, map, Option, Some, None, Result, Ok, Err, refl, sym, ap, subst}
+use Rattle.std.proofs.Common.{◌≡◌, ◌==◌, inl, inr, ℕ, ◌||◌, if◌then◌else◌, Bool, true, false, List, [], ◌∷◌, ◌++◌, map, Option, Some, None, Result, Ok, Err, refl, sym, ap, subst}
 use Rattle.std.specs.Option.{is_some}
 use Rattle.world_ports.specs.declared.Moment.{Moment}
 use Rattle.child_msg.specs.ChildFrames.{ToChildFits, to_child_body}
 use Rattle.child_msg.specs.Messages.{Denied, False, FromChildMessage, Granted, Hello, Refused, Signed, Signing, ToChildMessage, True}
-use Rattle.child_msg.specs.Reading.{to_child_of}
 use Rattle.child_msg.proofs.PrintedLemmas.{to_child_of-to_child_body}
 use Rattle.helper_core.specs.Laws.{AreAnswers, IsAnswerBy}
 use Rattle.helper_core.specs.Routes.{Route, Answered, HandedOn, counted, reply_message, signed_under, verdict_under}
 use Rattle.helper_core.specs.declared.asked.Asked.TheVariants as asked
-use Rattle.helper_link.specs.HelperLink.{sign_request, verify_request}
 use Rattle.key_wire.specs.declared.fault.KeyFault.{KeyFault}
 use Rattle.signer_keys.specs.Answers.{route_of, route_to}
 use Rattle.signer_keys.specs.declared.types.KeyType.{KeyType}

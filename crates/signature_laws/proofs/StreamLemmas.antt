@@ -1,7 +1,7 @@
 -- The first bytes of frames are those of the first bodies.
-use Rattle.std.proofs.Common.{◌≡◌, ◌⊎◌, inl, inr, ℕ, ◌^◌, ◌<◌, List, [], ◌∷◌, ◌++◌, map, Result, Ok, refl, sym, ap, subst, ◌∙◌, arith}
+use Rattle.std.proofs.Common.{◌≡◌, inl, inr, ℕ, ◌^◌, ◌<◌, List, [], ◌∷◌, ◌++◌, map, Ok, refl, sym, ap, subst, ◌∙◌, arith}
 use Rattle.wire_text.specs.Bounds.{longest_body, longest_to_child}
-use Rattle.wire_text.specs.Frames.{IsBody, Split, frames, split, split_up_to}
+use Rattle.wire_text.specs.Frames.{Split, frames, split, split_up_to}
 use Rattle.wire_text.proofs.SplitLemmas.{split-append, split-string}
 use Rattle.child_msg.specs.ChildFrames.{from_child_body, to_child_body}
 use Rattle.child_msg.specs.Messages.{FromChildMessage, ToChildMessage}
