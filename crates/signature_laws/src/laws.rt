@@ -8,8 +8,8 @@ ghost use Rattle.agent_model.specs.State.{Settings, first_state};
 ghost use Rattle.agent_laws.specs.Puts.{messages_of};
 ghost use Rattle.signature_laws.specs.Signatures.{AreBySigner, IsIn, IsOfItsAsk};
 
-/// Over any settings and any events, cut at any place, where a life of the helper may have begun: if a list of answers is
-/// the signer's to the first of the messages that were put behind that place, then each signature among them, and each
+/// Over any settings and any events, cut at any place, as where the helper before was lost: if a list of answers is the
+/// signer's to the first of the messages that were put behind that place, then each signature among them, and each
 /// refusal, has the number of an ask that was told before, for a signature. It is the signature of that ask's message, by its
 /// flags, with the private string of the last addition of its key, as RFC 8032, RFC 6979 and RFC 8017 give it, or a refusal
 /// where they give none; of keys whose types the signer does not know, it is what the helper behind it says.
