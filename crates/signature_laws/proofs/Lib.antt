@@ -1,0 +1,4 @@
+mod SignatureLemmas
+mod StreamLemmas
+mod ToldLemmas
+mod RowLemmas
