@@ -125,8 +125,8 @@ proofs() {
 by_verdict() {
     awk '
         { name = $0; sub(/: .*/, "", name); said = substr($0, length(name) + 3) }
-        !(said in names) { order[++count] = said }
-        { names[said] = names[said] (said in names ? ", " : "") name }
+        said in names { names[said] = names[said] ", " name; next }
+        { order[++count] = said; names[said] = name }
         END {
             for (i = 1; i <= count; i++) {
                 verdict = order[i]
