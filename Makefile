@@ -95,14 +95,14 @@ SCRIPTS := $(notdir $(wildcard front/mortarleek front/mortarleek-*))
 # What these start and source beside the programs.
 PARTS := agent_guard front_end.sh proof_of version
 # Of the programs that are installed those that can be proved: mortarleek-helper is another's second reading.
-LAID = $(filter $(PROGRAMS),$(INSTALLED) $(notdir $(wildcard $(HELPERS:%=bin/%))))
+LAID = $(filter-out mortarleek-helper,$(INSTALLED) $(notdir $(wildcard $(HELPERS:%=bin/%))))
 # A page that serves for several names.
 PAGES := mortarleek-serve:agent_prog mortarleek-replay:agent_prog mortarleek-drill:agent_prog mortarleek-audit:audit_prog
 page = $(firstword $(subst :, ,$(1)))
 
 install: $(patsubst %,bin/%,$(filter-out $(QUICK),$(INSTALLED)))
 	@scripts/take-unproved install $(LAID:%=bin/%)
-	install -d $(BIN) $(LIBEXEC) $(SHARE)/man/man1 $(SHARE)/man/man8 $(COMPLETIONS) $(UNITS)
+	install -d $(BIN) $(LIBEXEC) $(SHARE)/mortarleek $(SHARE)/man/man1 $(SHARE)/man/man8 $(COMPLETIONS) $(UNITS)
 	$(if $(INSTALLED),install -m $(MODE) $(INSTALLED:%=bin/%) $(LIBEXEC))
 	install -m 755 $(SCRIPTS:%=front/%) $(BIN)
 	install -m 755 front/agent_guard front/proof_of $(LIBEXEC)

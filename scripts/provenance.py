@@ -123,5 +123,6 @@ def write_names(file: Path, names: set[str]) -> None:
     """A name a line; no file where there are none."""
     if names:
         file.write_text("".join(f"{name}\n" for name in sorted(names)))
+        file.chmod(0o644)
     else:
         file.unlink(missing_ok=True)

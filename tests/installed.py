@@ -7,9 +7,14 @@ import re
 import shutil
 import signal
 import subprocess
+import sys
 
 import rig
 from rig import Skip, children, is_alive, run, until
+
+sys.path.append(str(rig.TOP / "scripts"))
+
+from provenance import record_of, write_records
 
 check = rig.Checks("daily")
 PROGRAM = rig.agent_program()
@@ -52,6 +57,14 @@ class Installed:
 
     def folders(self):
         return sorted(self.temporary.iterdir())
+
+
+def call_proved(records, folder, *names):
+    """Writes records of these programs of a folder, as if they had been proved there; answers what is said of each then."""
+    said = ("12ab", "no"), "a kit", "logic=proved by this test"
+    made = {name: record_of(name, folder / name, "0" * 64, *said) for name in names}
+    write_records(records, {name: record | {"time": "2026-12-01T12:00:00Z"} for name, record in made.items()})
+    return "commit 12ab, a kit"
 
 
 @contextlib.contextmanager

@@ -318,10 +318,10 @@ def a_program_with_one_byte_more_is_called_not_proved(folder):
     assert repository.proof().startswith("prog: proved: ")
     for text, why in (
         (None, "no file PROVED tells of it"),
-        ("", "PROVED has no record of it"),
-        (records.read_text().replace("program: prog", "program: progs"), "PROVED has no record of it"),
-        (records.read_text().replace("sha256: ", "sha256: 0"), "PROVED has no record of it"),
-        ("program: prog\nsize: 6\n\n" + records.read_text(), "PROVED has no record of it"),
+        ("", "PROVED does not tell of it"),
+        (records.read_text().replace("program: prog", "program: progs"), "PROVED does not tell of it"),
+        (records.read_text().replace("sha256: ", "sha256: 0"), "PROVED does not tell of it"),
+        ("program: prog\nsize: 6\n\n" + records.read_text(), "PROVED does not tell of it"),
     ):
         kept = records.read_text() if records.exists() else ""
         records.unlink()
