@@ -280,7 +280,8 @@ def the_package_has_the_very_bytes_that_were_proved_or_says_not(folder):
         (("changed",), "NOT proved: add_tool.", 1),
     ):
         package, _ = packed(*words)
-        assert f"\n {line}\n" in run(["dpkg", "-I", package]), words
+        told = run(["dpkg", "-I", package])
+        assert f" {line}\n" in told, told
         unpacked = folder / f"unpacked{len(words)}"
         run(["dpkg", "-x", package, unpacked])
         libexec = unpacked / "usr/libexec/mortarleek"

@@ -400,6 +400,14 @@ def an_installed_program_that_its_user_cannot_read_is_known_by_what_was_installe
         assert run([teller, program]) == proved
         said = run([*rig.AS_NOBODY, teller, program], None)
         assert said == (unknown if case == "packed" else proved), (case, said)
+        # Where a tool is missing nothing is called proved.
+        for missing, user in (("stat", rig.AS_NOBODY), ("sha256sum", [])):
+            tools = folder / f"without {missing} in {case}"
+            tools.mkdir()
+            for tool in {"sh", "setpriv", "awk", "sed", "head", "tr", "grep", "stat", "sha256sum"} - {missing}:
+                (tools / tool).symlink_to(shutil.which(tool))
+            said = run([*user, teller, program], 2, env={"PATH": str(tools)})
+            assert said == f"agent_prog: NOT compared: {missing} cannot be run\n", (case, said)
         # The second of the last change tells one file from another.
         time.sleep(1.1)
         for text, to_its_user in (("proveD", unknown), ("proved ", f"agent_{OTHER}")):
