@@ -11,6 +11,9 @@
 #                 where programs are not what was proved, or wants UNPROVED=yes
 # make uninstall  removes what that copied
 # make deb        builds a Debian package of it, in bin/; wants UNPROVED=yes where programs are not what was proved
+# make release    what others get of a version, in a folder of bin/release: tarball, package, sources, sums, PROVED; of
+#                 what the gate proved alone
+# make check-release FOLDER=..  whether a folder is that
 # make picture    draws the crates anew: docs/layers.svg and docs/crates.svg (needs graphviz)
 
 RT ?= rt
@@ -25,7 +28,8 @@ UNPROVED ?=
 export UNPROVED
 SOURCES := crates.txt $(shell find crates -name out -prune -o \( -name '*.rt' -o -name '*.antt' \) -print)
 
-.PHONY: all programs proof quick toolchain proofs version helper demo check nightly bench install uninstall deb picture clean
+.PHONY: all programs proof quick toolchain proofs version helper demo check nightly bench install uninstall deb release \
+    check-release picture clean
 # scripts/prove does side by side what can be done so.
 .NOTPARALLEL:
 
@@ -146,6 +150,12 @@ deb: $(patsubst %,bin/%,$(filter-out $(QUICK),$(INSTALLED))) version
 	debian/rules clean
 	@cat bin/version
 	@front/proof_of $(LAID:%=bin/%) || :
+
+release:
+	@RT='$(RT)' scripts/release $(PREFIX)
+
+check-release:
+	@scripts/release --check '$(FOLDER)'
 
 picture:
 	scripts/crates-dot --layers > docs/layers.dot

@@ -13,7 +13,7 @@ import tempfile
 
 import rig
 from hosts import Hosts
-from installed import call_proved, check, keygen
+from installed import call_proved, check, keygen, sum_of_sources
 from rig import Skip, is_alive, run, until
 
 
@@ -289,7 +289,65 @@ def the_package_has_the_very_bytes_that_were_proved_or_says_not(folder):
         told = run([libexec / "proof_of", *programs], status)
         assert told.count(": proved: commit 12ab, a kit\n") == 5 - status, told
         assert not status or "add_tool: NOT proved: PROVED does not tell of it\n" in told, told
-        assert run([unpacked / "usr/bin/mortarleek", "--version"]).count("NOT proved: ") == 1 + status
+        (others,) = re.findall(r"(?m)^NOT proved: (.*): ", run([unpacked / "usr/bin/mortarleek", "--version"]))
+        assert set(others.split(", ")) == {"mortarleek-helper", *(["add_tool"] if status else [])}, others
+
+
+@check
+def a_release_is_made_of_what_the_gate_proved_alone_and_is_checked(folder):
+    source = folder / "source"
+    source.mkdir()
+    copy_of_the_repository(source)
+    git = ["git", "-c", "user.name=me", "-c", "user.email=me@here", "-c", "commit.gpgsign=false"]
+    for words in (["init", "-q"], ["add", "-A"], ["commit", "-qm", "a version"]):
+        run([*git, *words], cwd=source)
+    commit = run([*git, "rev-parse", "HEAD"], cwd=source).strip()
+    names = ("agent_prog", "mortarleek_signer", "add_tool")
+    for name in names:
+        rig.script(source / "bin" / name, "exit 2")
+    quick = {"DPKG_DEB_COMPRESSOR_TYPE": "gzip", "DPKG_DEB_COMPRESSOR_LEVEL": "1"}
+    kit = rig.script(folder / "rt", "echo a-kit of this test")
+    make = ["make", "--no-print-directory", "-C", source]
+    environment = dict(os.environ, RT=str(kit), **quick)
+
+    def released(status=0):
+        return run([*make, "release"], status, env=environment, stdin=subprocess.DEVNULL, timeout=900)
+
+    assert "release: no bin/PROVED: .ci/run\n" in released(2)
+    call_proved(source / "bin/PROVED", source / "bin", *names)
+    told = released(2)
+    assert f"{sorted(names)[0]} was proved at commit 12ab, changed: no: run the gate (.ci/run) at this one" in told, told
+    call_proved(source / "bin/PROVED", source / "bin", *names, commit=commit)
+    assert "it wasn't the gate that proved all" in released(2)
+    of_gate = {"commit": commit, "checker": "rt ci: 9 passed, 0 failed", "sources": lambda name: sum_of_sources(source, name)}
+    call_proved(source / "bin/PROVED", source / "bin", *names, **of_gate)
+    (source / "more").write_text("")
+    assert "release: the tree has changes" in released(2)
+    (source / "more").unlink()
+    made = source / released().splitlines()[-1]
+    number = run([source / "scripts/version"], cwd=source).split()[1]
+    names_of = {"GATE", "PROVED", "SHA256SUMS", "sbom.cdx.json", f"mortarleek_{number}_amd64.deb"}
+    names_of |= {f"mortarleek-{number}-{part}.tar.gz" for part in ("source", "x86_64")}
+    assert {file.name for file in made.iterdir()} == names_of, sorted(made.iterdir())
+    looks = [*make, "check-release"]
+    told = run([*looks, f"FOLDER={made}"]).splitlines()
+    assert len(told) == 5 and told[-1] == f"proved at commit {commit} by a kit: 9 passed, 0 failed", told
+    for name, text, why in (
+        ("GATE", "9 passed, 1 failed\n", "GATE: not the bytes of SHA256SUMS"),
+        ("more", "", "SHA256SUMS doesn't list what is there: more"),
+        ("PROVED", (made / "PROVED").read_text().replace("sha256: ", "sha256: 0", 1), "_amd64.deb: add_tool isn't what PROVED tells of|x86_64.tar.gz: add_tool"),
+        ("PROVED", re.sub("(?m)^sources: .", "sources: x", (made / "PROVED").read_text(), count=1), "not the sources of add_tool of which PROVED"),
+    ):
+        changed = folder / "changed"
+        shutil.copytree(made, changed)
+        (changed / name).write_text(text)
+        if name == "PROVED":
+            # With sums that fit.
+            lines = run(["sha256sum", *sorted(names_of - {"SHA256SUMS"})], cwd=changed)
+            (changed / "SHA256SUMS").write_text(lines)
+        told = run([*looks, f"FOLDER={changed}"], 2)
+        assert re.search(f"release: .*({why})" if name != "more" else why, told), (name, told)
+        shutil.rmtree(changed)
 
 
 @check

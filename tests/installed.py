@@ -14,7 +14,7 @@ from rig import Skip, children, is_alive, run, until
 
 sys.path.append(str(rig.TOP / "scripts"))
 
-from provenance import record_of, write_records
+from provenance import record_of, sum_of_sources, write_records
 
 check = rig.Checks("daily")
 PROGRAM = rig.agent_program()
@@ -59,12 +59,12 @@ class Installed:
         return sorted(self.temporary.iterdir())
 
 
-def call_proved(records, folder, *names):
+def call_proved(records, folder, *names, commit="12ab", checker="logic=proved by this test", sources=lambda name: "0" * 64):
     """Writes records of these programs of a folder, as if they had been proved there; answers what is said of each then."""
-    said = ("12ab", "no"), "a kit", "logic=proved by this test"
-    made = {name: record_of(name, folder / name, "0" * 64, *said) for name in names}
+    said = (commit, "no"), "a kit", checker
+    made = {name: record_of(name, folder / name, sources(name), *said) for name in names}
     write_records(records, {name: record | {"time": "2026-12-01T12:00:00Z"} for name, record in made.items()})
-    return "commit 12ab, a kit"
+    return f"commit {commit}, a kit"
 
 
 @contextlib.contextmanager
