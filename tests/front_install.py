@@ -13,7 +13,8 @@ import tempfile
 
 import rig
 from hosts import Hosts
-from installed import call_proved, check, keygen, sum_of_sources
+from installed import call_proved, check, keygen
+from provenance import sum_of_sources
 from rig import Skip, is_alive, run, until
 
 

@@ -14,7 +14,7 @@ from rig import Skip, children, is_alive, run, until
 
 sys.path.append(str(rig.TOP / "scripts"))
 
-from provenance import record_of, sum_of_sources, write_records
+from provenance import record_of, write_records
 
 check = rig.Checks("daily")
 PROGRAM = rig.agent_program()
