@@ -1,13 +1,19 @@
-# make            proves what the programs stand on, a line for each crate, and builds them into bin/
+# make            proves what the programs stand on, a line for each crate, and builds them into bin/; bin/PROVED has a
+#                 record of each: which bytes, of which sources, by which toolchain
+# make proof      says of each program in bin/ whether it is what was proved
 # make quick      builds what is installed without proofs, in some minutes: `mortarleek --version` then says NOT proved
 # make demo       shows the agent at work with OpenSSH's tools, built without proofs where it isn't proved yet
 # make check      proves and tests everything: the gate, .ci/run
 # make nightly    what takes hours: .ci/nightly
 # make bench      measures, beside other programs of the same machine
 # make helper     builds mortarleek-helper, a second helper that signs, which isn't proved, with the packages that it wants
-# make install    copies what was built to $(DESTDIR)$(PREFIX), with manuals, completions and a systemd unit
+# make install    copies what was built to $(DESTDIR)$(PREFIX), with manuals, completions and a systemd unit; asks first
+#                 where programs are not what was proved, or wants UNPROVED=yes
 # make uninstall  removes what that copied
-# make deb        builds a Debian package of it, in bin/
+# make deb        builds a Debian package of it, in bin/; wants UNPROVED=yes where programs are not what was proved
+# make release    what others get of a version, in a folder of bin/release: tarball, package, sources, sums, PROVED; of
+#                 what the gate proved alone
+# make check-release FOLDER=..  whether a folder is that
 # make picture    draws the crates anew: docs/layers.svg and docs/crates.svg (needs graphviz)
 
 RT ?= rt
@@ -15,11 +21,15 @@ PREFIX ?= /usr/local
 # Not those that answer a table: the gate runs them.
 PROGRAMS := $(filter-out %_table,$(patsubst crates/%/src/main.rt,%,$(wildcard crates/*/src/main.rt)))
 INSTALLED := agent_prog
-# Those that `make quick` built and nothing has replaced since.
-UNPROVED := $(shell cat bin/unproved 2> /dev/null)
+# Those that `make quick` built and nothing has replaced since: `make install` doesn't prove them.
+QUICK := $(shell cat bin/unproved 2> /dev/null)
+# `yes` takes programs that are not proved without a question.
+UNPROVED ?=
+export UNPROVED
 SOURCES := crates.txt $(shell find crates -name out -prune -o \( -name '*.rt' -o -name '*.antt' \) -print)
 
-.PHONY: all programs quick toolchain proofs version helper demo check nightly bench install uninstall deb picture clean
+.PHONY: all programs proof quick toolchain proofs version helper demo check nightly bench install uninstall deb release \
+    check-release picture clean
 # scripts/prove does side by side what can be done so.
 .NOTPARALLEL:
 
@@ -27,18 +37,17 @@ all: programs version
 
 # One run of scripts/prove for all of them: it reads all sources, which takes seconds.
 programs: toolchain
-	@RT='$(RT)' scripts/prove $(PROGRAMS)
-	@mkdir -p bin
-	@for name in $(PROGRAMS); do \
-	    if cmp -s crates/$$name/out/$$name bin/$$name; then touch bin/$$name; \
-	    else cp crates/$$name/out/$$name bin/$$name || exit 1; fi; \
-	done
-	@rm -f bin/unproved
+	@RT='$(RT)' scripts/prove --into-bin $(PROGRAMS)
+
+# Ends with an error where one isn't.
+proof:
+	@front/proof_of $(wildcard $(PROGRAMS:%=bin/%))
 
 quick: toolchain
 	@RT='$(RT)' scripts/quick $(filter $(PROGRAMS),$(INSTALLED) $(HELPERS))
 	@RT='$(RT)' scripts/version > bin/version
 	@cat bin/version
+	@front/proof_of $(LAID:%=bin/%) || :
 
 toolchain:
 	@RT='$(RT)' scripts/toolchain
@@ -48,10 +57,7 @@ proofs: toolchain
 
 $(PROGRAMS:%=bin/%): bin/%: $(SOURCES)
 	@RT='$(RT)' scripts/toolchain
-	@RT='$(RT)' scripts/prove $*
-	@mkdir -p bin
-	cp crates/$*/out/$* $@
-	@[ ! -f bin/unproved ] || sed -i '/^$*$$/d' bin/unproved
+	@RT='$(RT)' scripts/prove --into-bin $*
 
 # What `mortarleek --version` says of what is in bin/.
 version:
@@ -91,22 +97,26 @@ COMPLETIONS := $(SHARE)/bash-completion/completions $(SHARE)/zsh/site-functions 
 HELPERS := mortarleek_signer mortarleek-helper standin_helper confirm_relay add_tool terms_relay filter_proxy audit_prog log_prog
 SCRIPTS := $(notdir $(wildcard front/mortarleek front/mortarleek-*))
 # What these start and source beside the programs.
-PARTS := agent_guard front_end.sh version
+PARTS := agent_guard front_end.sh proof_of version
+# Of the programs that are installed those that can be proved: mortarleek-helper is another's second reading.
+LAID = $(filter-out mortarleek-helper,$(INSTALLED) $(notdir $(wildcard $(HELPERS:%=bin/%))))
 # A page that serves for several names.
 PAGES := mortarleek-serve:agent_prog mortarleek-replay:agent_prog mortarleek-drill:agent_prog mortarleek-audit:audit_prog
 page = $(firstword $(subst :, ,$(1)))
 
-install: $(patsubst %,bin/%,$(filter-out $(UNPROVED),$(INSTALLED)))
-	install -d $(BIN) $(LIBEXEC) $(SHARE)/man/man1 $(SHARE)/man/man8 $(COMPLETIONS) $(UNITS)
+install: $(patsubst %,bin/%,$(filter-out $(QUICK),$(INSTALLED)))
+	@scripts/take-unproved install $(LAID:%=bin/%)
+	install -d $(BIN) $(LIBEXEC) $(SHARE)/mortarleek $(SHARE)/man/man1 $(SHARE)/man/man8 $(COMPLETIONS) $(UNITS)
 	$(if $(INSTALLED),install -m $(MODE) $(INSTALLED:%=bin/%) $(LIBEXEC))
 	install -m 755 $(SCRIPTS:%=front/%) $(BIN)
-	install -m 755 front/agent_guard $(LIBEXEC)
+	install -m 755 front/agent_guard front/proof_of $(LIBEXEC)
 	install -m 644 front/front_end.sh $(LIBEXEC)
 	[ -f bin/version ] || RT='$(RT)' scripts/version > bin/version
 	install -m 644 bin/version $(LIBEXEC)
 	for name in $(HELPERS); do \
 	    if [ -x bin/$$name ]; then install -m $(MODE) bin/$$name $(LIBEXEC) || exit 1; fi; \
 	done
+	scripts/lay-records $(SHARE)/mortarleek $(LIBEXEC) $(if $(DESTDIR),packed,installed) $(LAID)
 	install -m 644 man/*.1 $(SHARE)/man/man1
 	install -m 644 man/*.8 $(SHARE)/man/man8
 	$(foreach name,$(PAGES),ln -sf $(lastword $(subst :, ,$(name))).1 $(SHARE)/man/man1/$(call page,$(name)).1 && ):
@@ -117,7 +127,7 @@ install: $(patsubst %,bin/%,$(filter-out $(UNPROVED),$(INSTALLED)))
 	install -m 644 contrib/completions/_mortarleek $(SHARE)/zsh/site-functions
 	sed 's,/usr/local/bin,$(PREFIX)/bin,' $(UNIT) > $(UNITS)/mortarleek-agent.service
 	chmod 644 $(UNITS)/mortarleek-agent.service
-	@grep '^NOT proved' bin/version >&2 || :
+	@front/proof_of $(LAID:%=bin/%) | sed -n '/: proved: /!p' >&2
 
 uninstall:
 	rm -f $(SCRIPTS:%=$(BIN)/%) $(INSTALLED:%=$(LIBEXEC)/%) $(HELPERS:%=$(LIBEXEC)/%) $(PARTS:%=$(LIBEXEC)/%)
@@ -126,18 +136,26 @@ uninstall:
 	rm -f $(foreach name,$(PAGES),$(SHARE)/man/man1/$(call page,$(name)).1)
 	rm -f $(SCRIPTS:%=$(SHARE)/bash-completion/completions/%)
 	rm -f $(SCRIPTS:%=$(SHARE)/fish/vendor_completions.d/%.fish) $(SHARE)/zsh/site-functions/_mortarleek
-	rm -f $(UNITS)/mortarleek-agent.service
+	rm -f $(UNITS)/mortarleek-agent.service $(SHARE)/mortarleek/PROVED $(SHARE)/mortarleek/unproved
+	@[ ! -d $(SHARE)/mortarleek ] || rmdir --ignore-fail-on-non-empty $(SHARE)/mortarleek
 	@if [ -d $(LIBEXEC) ] && ! rmdir $(LIBEXEC) 2> /dev/null; then \
 	    echo 'left in $(LIBEXEC), since make install puts no such files there:' && ls -Aq $(LIBEXEC); \
 	fi
 
-# Says of which version, commit and toolchain the package is.
-deb: $(INSTALLED:%=bin/%) version
-	@[ ! -s bin/unproved ] || { echo 'deb: `make quick` built what is no package: make' >&2; exit 1; }
+# Says of which version, commit and toolchain the package is, and what of it is proved.
+deb: $(patsubst %,bin/%,$(filter-out $(QUICK),$(INSTALLED))) version
+	@scripts/take-unproved deb $(LAID:%=bin/%)
 	dpkg-checkbuilddeps
-	debian/rules binary
+	UNPROVED=yes debian/rules binary
 	debian/rules clean
 	@cat bin/version
+	@front/proof_of $(LAID:%=bin/%) || :
+
+release:
+	@RT='$(RT)' scripts/release $(PREFIX)
+
+check-release:
+	@scripts/release --check '$(FOLDER)'
 
 picture:
 	scripts/crates-dot --layers > docs/layers.dot

@@ -126,6 +126,30 @@ version() {
     printf 'mortarleek, of a version that nobody wrote down: make\n'
 }
 
+# PROGRAM ...: whether each is what was proved, a line each, by the file PROVED.
+proofs() {
+    if teller=$(program proof_of); then
+        "$teller" "$@"
+    else
+        for told in "$@"; do printf '%s: NOT compared: no proof_of is there: make install\n' "${told##*/}"; done
+    fi
+}
+
+# The lines of `proofs` on the standard input, with programs of which the same is said in one: what, of which, why.
+by_verdict() {
+    awk '
+        { name = $0; sub(/: .*/, "", name); said = substr($0, length(name) + 3) }
+        said in names { names[said] = names[said] ", " name; next }
+        { order[++count] = said; names[said] = name }
+        END {
+            for (i = 1; i <= count; i++) {
+                verdict = order[i]
+                sub(/: .*/, "", verdict)
+                print verdict ": " names[order[i]] ": " substr(order[i], length(verdict) + 3)
+            }
+        }'
+}
+
 # FILE: prints its mode and its owner, as `ls -n` shows them, and sets variables of these names.
 mode_and_owner() {
     read -r mode _ owner _ << END

@@ -13,7 +13,8 @@ import tempfile
 
 import rig
 from hosts import Hosts
-from installed import check, keygen
+from installed import call_proved, check, keygen
+from provenance import sum_of_sources
 from rig import Skip, is_alive, run, until
 
 
@@ -83,7 +84,7 @@ COMP_WORDS=(mortarleek-log -); COMP_CWORD=1; _mortarleek_log mortarleek-log - mo
 @check
 def what_is_installed_works_and_is_taken_away_again(folder):
     target = folder / "target"
-    make = ["make", "--no-print-directory", "-C", rig.TOP, f"DESTDIR={target}", "PREFIX=/usr"]
+    make = ["make", "--no-print-directory", "-C", rig.TOP, f"DESTDIR={target}", "PREFIX=/usr", "UNPROVED=yes"]
     agents = ["agent_prog"] if (rig.BUILT / "agent_prog").exists() else []
     run([*make, f"INSTALLED={' '.join(agents)}", "-o", "bin/agent_prog", "install"])
     found = {str(file.relative_to(target / "usr")): file for file in target.rglob("*") if file.is_file()}
@@ -168,7 +169,7 @@ def what_a_user_installed_is_closed_to_that_user_s_programs(folder):
     run(["chown", "-R", f"{rig.NOBODY}:{rig.NOBODY}", source, home])
     other = rig.AS_NOBODY
     environment = {"PATH": os.environ["PATH"], "HOME": str(home)}
-    make = ["make", "--no-print-directory", "-o", "bin/agent_prog", "install", f"PREFIX={home}/.local"]
+    make = ["make", "--no-print-directory", "-o", "bin/agent_prog", "install", f"PREFIX={home}/.local", "UNPROVED=yes"]
     for _ in range(2):
         run([*other, *make], cwd=source, env=environment)
     program = home / ".local/libexec/mortarleek/agent_prog"
@@ -186,7 +187,7 @@ def what_a_user_installed_is_closed_to_that_user_s_programs(folder):
 def typed():
     """The lines that README gives to type, from the installation to a login."""
     page = (rig.TOP / "README.md").read_text()
-    return re.findall(r"(?m)^\$ (.*)$", page[page.index("**To install,**") : page.index("## What it does")])
+    return re.findall(r"(?m)^\$ (.*)$", page[page.index("**To install:**") : page.index("## What it does")])
 
 
 @check
@@ -199,7 +200,7 @@ def a_new_user_installs_it_and_logs_in(folder):
     copy_of_the_repository(source)
     for name in ("agent_prog", "mortarleek_signer", "add_tool"):
         shutil.copy(rig.built(name), source / "bin")
-    environment = {"PATH": os.environ["PATH"], "HOME": str(home), "TMPDIR": str(folder)}
+    environment = {"PATH": os.environ["PATH"], "HOME": str(home), "TMPDIR": str(folder), "UNPROVED": "yes"}
     assert install.startswith("make && make install "), install
     install = install.replace("make && make install", "make --no-print-directory -o bin/agent_prog install")
     run(["sh", "-c", install], cwd=source, env=environment)
@@ -237,9 +238,18 @@ def packed(place="source"):
     programs = ("agent_prog", "mortarleek_signer", "mortarleek-helper", "confirm_relay", "standin_helper", "add_tool", "terms_relay", "filter_proxy")
     for name in programs:
         shutil.copy(rig.BUILT / name if (rig.BUILT / name).exists() else folder / "none", folder / "bin" / name)
+    call_proved(folder / "bin/PROVED", folder / "bin", *(name for name in programs if name != "mortarleek-helper"))
+    if place == "changed":
+        with open(folder / "bin/add_tool", "ab") as program:
+            program.write(b"\0")
     quick = {"DPKG_DEB_COMPRESSOR_TYPE": "gzip", "DPKG_DEB_COMPRESSOR_LEVEL": "1"}
     environment = dict(os.environ, RT=str(rig.script(folder / "rt", "echo a-kit of this test")), **quick)
-    said = run(["make", "--no-print-directory", "-o", "bin/agent_prog", "deb"], cwd=folder, env=environment, timeout=900)
+    make = ["make", "--no-print-directory", "-o", "bin/agent_prog", "deb"]
+    if place == "changed":
+        told = run(make, 2, cwd=folder, env=environment, stdin=subprocess.DEVNULL)
+        assert "add_tool: NOT proved: " in told and "deb: not proved: " in told and not list((folder / "bin").glob("*.deb")), told
+        make.append("UNPROVED=yes")
+    said = run(make, cwd=folder, env=environment, timeout=900)
     (package,) = (folder / "bin").glob("*.deb")
     return package, said
 
@@ -248,7 +258,7 @@ def packed(place="source"):
 def the_package_has_no_faults_and_says_what_it_is_of(folder):
     package, said = packed()
     version = (package.parent / "version").read_text()
-    assert said.endswith(version) and version.splitlines()[2] == "a-kit of this test", said[-300:]
+    assert version in said and version.splitlines()[2] == "a-kit of this test", said[-300:]
     number = version.split()[1]
     assert package.name == f"mortarleek_{number}_amd64.deb", package
     said = run(["lintian", "--allow-root", "--fail-on", "error,warning", package], timeout=900)
@@ -263,6 +273,100 @@ def the_package_has_no_faults_and_says_what_it_is_of(folder):
     linked = run([rig.TOP / "scripts/sbom", "--built-using"]).strip()
     assert f"Built-Using: {linked}\n" in told and "rust-openssl (= " in linked, told
     assert "Suggests: ssh-askpass-gnome\n" in told, told
+
+
+@check
+def the_package_has_the_very_bytes_that_were_proved_or_says_not(folder):
+    for words, line, status in (
+        ((), "Proved, each of the 7 programs that can be.", 0),
+        (("changed",), "NOT proved: add_tool.", 1),
+    ):
+        package, _ = packed(*words)
+        told = run(["dpkg", "-I", package])
+        assert f" {line}\n" in told, told
+        unpacked = folder / f"unpacked{len(words)}"
+        run(["dpkg", "-x", package, unpacked])
+        libexec = unpacked / "usr/libexec/mortarleek"
+        programs = [libexec / name for name in ("add_tool", "agent_prog", "confirm_relay", "filter_proxy", "mortarleek_signer")]
+        told = run([libexec / "proof_of", *programs], status)
+        assert told.count(": proved: commit 12ab, a kit\n") == 5 - status, told
+        assert not status or "add_tool: NOT proved: PROVED does not tell of it\n" in told, told
+        (others,) = re.findall(r"(?m)^NOT proved: (.*): ", run([unpacked / "usr/bin/mortarleek", "--version"]))
+        assert set(others.split(", ")) == {"mortarleek-helper", *(["add_tool"] if status else [])}, others
+
+
+@check
+def a_release_is_made_of_what_the_gate_proved_alone_and_is_checked(folder):
+    source = folder / "source"
+    source.mkdir()
+    copy_of_the_repository(source)
+    git = ["git", "-c", "user.name=me", "-c", "user.email=me@here", "-c", "commit.gpgsign=false"]
+    for words in (["init", "-q"], ["add", "-A"], ["commit", "-qm", "a version"]):
+        run([*git, *words], cwd=source)
+    commit = run([*git, "rev-parse", "HEAD"], cwd=source).strip()
+    names = ("agent_prog", "mortarleek_signer", "add_tool")
+    for name in names:
+        rig.script(source / "bin" / name, "exit 2")
+    quick = {"DPKG_DEB_COMPRESSOR_TYPE": "gzip", "DPKG_DEB_COMPRESSOR_LEVEL": "1"}
+    kit = rig.script(folder / "rt", "echo a-kit of this test")
+    make = ["make", "--no-print-directory", "-C", source]
+    environment = dict(os.environ, RT=str(kit), **quick)
+
+    def released(status=0):
+        return run([*make, "release"], status, env=environment, stdin=subprocess.DEVNULL, timeout=900)
+
+    assert "release: no bin/PROVED: .ci/run\n" in released(2)
+    call_proved(source / "bin/PROVED", source / "bin", *names)
+    told = released(2)
+    assert f"{sorted(names)[0]} was proved at commit 12ab, changed: no: run the gate (.ci/run) at this one" in told, told
+    call_proved(source / "bin/PROVED", source / "bin", *names, commit=commit)
+    assert "it wasn't the gate that proved all" in released(2)
+    of_gate = {"commit": commit, "checker": "rt ci: 9 passed, 0 failed", "sources": lambda name: sum_of_sources(source, name)}
+    call_proved(source / "bin/PROVED", source / "bin", *names, **of_gate)
+    (source / "more").write_text("")
+    assert "release: the tree has changes" in released(2)
+    (source / "more").unlink()
+    made = source / released().splitlines()[-1]
+    number = run([source / "scripts/version"], cwd=source).split()[1]
+    names_of = {"GATE", "PROVED", "SHA256SUMS", "sbom.cdx.json", f"mortarleek_{number}_amd64.deb"}
+    names_of |= {f"mortarleek-{number}-{part}.tar.gz" for part in ("source", "x86_64")}
+    assert {file.name for file in made.iterdir()} == names_of, sorted(made.iterdir())
+    looks = [*make, "check-release"]
+    told = run([*looks, f"FOLDER={made}"]).splitlines()
+    assert len(told) == 5 and told[-1] == f"proved at commit {commit} by a kit: 9 passed, 0 failed", told
+    for name, text, why in (
+        ("GATE", "9 passed, 1 failed\n", "GATE: not the bytes of SHA256SUMS"),
+        ("more", "", "SHA256SUMS doesn't list what is there: more"),
+        ("PROVED", (made / "PROVED").read_text().replace("sha256: ", "sha256: 0", 1), "_amd64.deb: add_tool isn't what PROVED tells of|x86_64.tar.gz: add_tool"),
+        ("PROVED", re.sub("(?m)^sources: .", "sources: x", (made / "PROVED").read_text(), count=1), "not the sources of add_tool of which PROVED"),
+    ):
+        changed = folder / "changed"
+        shutil.copytree(made, changed)
+        (changed / name).write_text(text)
+        if name == "PROVED":
+            # With sums that fit.
+            lines = run(["sha256sum", *sorted(names_of - {"SHA256SUMS"})], cwd=changed)
+            (changed / "SHA256SUMS").write_text(lines)
+        told = run([*looks, f"FOLDER={changed}"], 2)
+        assert re.search(f"release: .*({why})" if name != "more" else why, told), (name, told)
+        shutil.rmtree(changed)
+
+
+@check
+def the_demo_says_whether_what_it_shows_is_proved(folder):
+    source = folder / "source"
+    source.mkdir()
+    copy_of_the_repository(source)
+    names = ("agent_prog", "mortarleek_signer")
+    for name in names:
+        shutil.copy(rig.built(name), source / "bin")
+    proved = call_proved(source / "bin/PROVED", source / "bin", *names)
+    with open(source / "bin/mortarleek_signer", "ab") as program:
+        program.write(b"\0")
+    shown = run([source / "scripts/demo"], timeout=300)
+    assert f"# The agent is bin/agent_prog, proved: {proved}.\n" in shown, shown
+    other = "NOT proved: its bytes are others than those that were proved"
+    assert f"# The helper that signs is bin/mortarleek_signer, {other}.\n" in shown, shown
 
 
 @check

@@ -11,7 +11,7 @@ import subprocess
 import tempfile
 
 import rig
-from installed import Installed, check, keygen
+from installed import Installed, call_proved, check, keygen
 from rig import is_alive, openssh_agent, our_agent, run, until
 
 
@@ -80,6 +80,35 @@ def status_calls_every_other_agent_unknown_and_none_none(folder):
     assert status(installed, daemon.path, 2)[0]["agent"] == "none answers"
     for words in (["-x"], ["x"], ["--try", "x"]):
         assert run([installed.prefix / "bin/mortarleek", "status", *words], 1) == "usage: mortarleek-status [--try]\n"
+
+
+@check
+def status_tells_whether_what_was_started_is_proved(folder):
+    installed = Installed(folder)
+    libexec, records = installed.prefix / "libexec/mortarleek", installed.prefix / "share/mortarleek/PROVED"
+    records.parent.mkdir(parents=True)
+    names = ("agent_prog", helper_of(installed).name)
+    other = "its bytes are others than those that were proved"
+
+    def told(daemon):
+        said = daemon.run(installed.prefix / "bin/mortarleek", "status")
+        return re.findall(r"(?m)^((?:NOT )?proved: .*)$", said)
+
+    with installed.start() as daemon:
+        assert told(daemon) == [f"NOT proved: {', '.join(names)}: no file PROVED tells of it"], told(daemon)
+    proved = call_proved(records, libexec, *names)
+    with installed.start() as daemon:
+        assert told(daemon) == [f"proved: {', '.join(names)}: {proved}"], told(daemon)
+        # As it was when they were started, whatever is written later.
+        records.write_text(records.read_text().replace("program: agent_prog", "program: another"))
+        assert told(daemon) == [f"proved: {', '.join(names)}: {proved}"], told(daemon)
+        said = run([installed.prefix / "bin/mortarleek", "--version"])
+        assert re.search("(?m)^NOT proved: agent_prog, .*: PROVED does not tell of it$", said), said
+    call_proved(records, libexec, *names)
+    with open(libexec / "agent_prog", "ab") as program:
+        program.write(b"\0")
+    with installed.start() as daemon:
+        assert told(daemon) == [f"NOT proved: agent_prog: {other}", f"proved: {names[1]}: {proved}"], told(daemon)
 
 
 def swap(path):

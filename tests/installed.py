@@ -7,9 +7,14 @@ import re
 import shutil
 import signal
 import subprocess
+import sys
 
 import rig
 from rig import Skip, children, is_alive, run, until
+
+sys.path.append(str(rig.TOP / "scripts"))
+
+from provenance import record_of, write_records
 
 check = rig.Checks("daily")
 PROGRAM = rig.agent_program()
@@ -52,6 +57,14 @@ class Installed:
 
     def folders(self):
         return sorted(self.temporary.iterdir())
+
+
+def call_proved(records, folder, *names, commit="12ab", checker="logic=proved by this test", sources=lambda name: "0" * 64):
+    """Writes records of these programs of a folder, as if they had been proved there; answers what is said of each then."""
+    said = (commit, "no"), "a kit", checker
+    made = {name: record_of(name, folder / name, sources(name), *said) for name in names}
+    write_records(records, {name: record | {"time": "2026-12-01T12:00:00Z"} for name, record in made.items()})
+    return f"commit {commit}, a kit"
 
 
 @contextlib.contextmanager

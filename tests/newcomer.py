@@ -3,6 +3,7 @@
 what is said where the toolchain is missing. A stand-in for `rt` and for apt-get writes down what it was asked for; of
 `make demo` itself tests/transcripts.sh has the output."""
 
+import hashlib
 import itertools
 import json
 import os
@@ -12,6 +13,7 @@ import select
 import shutil
 import subprocess
 import sys
+import time
 
 sys.dont_write_bytecode = True
 
@@ -51,6 +53,9 @@ if "bad" in name:
 kept = pathlib.Path("out") / (f"rlib/{name}.rlib" if words[0] == "lib" else name)
 kept.parent.mkdir(parents=True, exist_ok=True)
 kept.write_text("proved")
+if words[0] == "run":
+    kept.chmod(0o755)
+    print("logic=proved by a stand-in")
 sys.exit(0 if words[0] == "lib" else 2)
 """
 
@@ -60,7 +65,7 @@ class Repository:
 
     def __init__(self, folder, crates):
         self.folder, self.calls = folder, folder / "calls"
-        for part in ("Makefile", "scripts", "tests"):
+        for part in ("Makefile", "scripts", "tests", "front", "CHANGELOG.md"):
             run(["cp", "-r", rig.TOP / part, folder])
         self.lay(crates)
         rt = folder / "rt"
@@ -80,6 +85,22 @@ class Repository:
     def prove(self, *words, status=0, **more):
         self.calls.write_text("")
         return run([self.folder / "scripts/prove", *words], status, env=self.environment, **more)
+
+    def make(self, *words, status=0, **more):
+        make = ["make", "--no-print-directory", "-C", self.folder, *words]
+        return run(make, status, env=self.environment, **more)
+
+    def proof(self, status=0):
+        """What is said of the program in bin/."""
+        return run([self.folder / "front/proof_of", self.folder / "bin/prog"], status)
+
+    def record(self, file="bin/PROVED"):
+        lines = (self.folder / file).read_text().splitlines()
+        return dict(line.split(": ", 1) for line in lines)
+
+    def lay_for_installation(self):
+        for part in ("man", "contrib", "debian"):
+            run(["cp", "-r", rig.TOP / part, self.folder])
 
     def told(self):
         """What the toolchain was asked for."""
@@ -169,7 +190,7 @@ def a_failed_proof_is_shown_and_nothing_more_is_begun(folder):
 def behind_the_gate_nothing_is_proved_that_no_program_needs(folder):
     """Where the gate keeps nothing: what programs are linked of is proved again, and said so."""
     repository = Repository(folder, CRATES)
-    repository.prove("--passed")
+    assert repository.prove("--gate") == "9 passed, 0 failed\n"
     assert repository.proved() == []
     assert repository.prove().startswith("2 crates are proved already, 4 are to be proved\n")
     assert sorted(repository.proved()) == ["long_a", "long_b", "low", "prog"], repository.proved()
@@ -203,21 +224,196 @@ def make_builds_of_what_is_proved_and_wants_no_package(folder):
     assert calls.index("apt-get -qy") < calls.index("the other helper"), calls
 
 
+QUICK = "prog: NOT proved: `make quick` built it\n"
+OTHER = "prog: NOT proved: its bytes are others than those that were proved\n"
+
+
 @check
 def what_make_quick_built_is_called_not_proved_until_make_proves_it(folder):
     repository = Repository(folder, CRATES)
-    shutil.copy(rig.TOP / "CHANGELOG.md", folder)
     (folder / "bin").mkdir()
-    built, unproved, mark = folder / "bin/prog", folder / "bin/unproved", "NOT proved: built by make quick: prog\n"
+    built, unproved = folder / "bin/prog", folder / "bin/unproved"
     for words in ([], ["bin/prog"]):
         built.write_text("not proved")
         # As scripts/quick leaves them.
         os.utime(built, (0, 0))
         unproved.write_text("prog\n")
-        assert run([folder / "scripts/version"], env=repository.environment).endswith(mark)
-        run(["make", "--no-print-directory", "-C", folder, *words], env=repository.environment)
-        assert built.read_text() == "proved", words
-        assert mark not in run([folder / "scripts/version"], env=repository.environment), words
+        assert repository.proof(1) == QUICK
+        repository.make(*words)
+        assert built.read_text() == "proved" and not unproved.exists(), words
+        assert repository.proof().startswith("prog: proved: "), words
+
+
+@check
+def a_record_tells_which_bytes_were_proved_of_which_sources(folder):
+    repository = Repository(folder, CRATES)
+    (folder / "HANDLES").write_text("Handles allowed: none.\n")
+    repository.make()
+    record = repository.record()
+    made = (folder / "crates/prog/out/prog").read_bytes()
+    assert record["sha256"] == hashlib.sha256(made).hexdigest() and record["size"] == str(len(made)), record
+    assert (record["kit"], record["checker"]) == ("a stand-in", "logic=proved by a stand-in"), record
+    assert (record["commit"], record["changed"]) == ("unknown", "unknown"), record
+    assert re.fullmatch(r"2\d{3}-\d\d-\d\dT\d\d:\d\d:\d\dZ", record["time"]), record
+    # By hand, as docs/DAILY.md says it: of the crate and those below it, and of no other.
+    below = ("long_a", "long_b", "low", "prog")
+    files = [f"crates/{name}/src/{'main' if name == 'prog' else 'lib'}.rt" for name in below]
+    lines = "long_a: low\nlong_b: long_a\nlow:\nprog: long_b\nHandles allowed: none.\n" + run(["sha256sum", *files], cwd=folder)
+    assert run([folder / "scripts/sources", "prog"]) == lines
+    assert record["sources"] == hashlib.sha256(lines.encode()).hexdigest()
+    # In a repository of git the commit, and whether a source of this program differs from it.
+    git = ["git", "-c", "user.name=me", "-c", "user.email=me@here", "-c", "commit.gpgsign=false"]
+    (folder / ".gitignore").write_text("out/\nbin/\n")
+    for words in (["init", "-q"], ["add", "-A"], ["commit", "-qm", "first"]):
+        run([*git, *words], cwd=folder)
+    commit = run([*git, "rev-parse", "HEAD"], cwd=folder).strip()
+    for change, changed in ((lambda: None, "no"), (lambda: repository.change("aside"), "no"), (lambda: repository.change("low"), "yes")):
+        change()
+        (folder / "crates/prog/out/prog").unlink()
+        repository.make()
+        record = repository.record()
+        assert (record["commit"], record["changed"]) == (commit, changed), record
+    assert repository.proof() == f"prog: proved: commit {commit}, with changes, a stand-in\n"
+
+
+@check
+def no_program_is_recorded_that_the_toolchain_did_not_call_proved(folder):
+    repository = Repository(folder, CRATES)
+    rt = folder / "rt"
+    rt.write_text(RT.replace('print("logic=proved by a stand-in")', "pass"))
+    repository.prove("--into-bin", "prog", status=1)
+    assert not (folder / "bin/PROVED").exists() and not (folder / "bin/prog").exists()
+    # What somebody put into out/ meanwhile is proved anew.
+    rt.write_text(RT)
+    repository.prove("--into-bin", "prog")
+    (folder / "crates/prog/out/prog").write_text("somebody's")
+    repository.make()
+    assert repository.proved() and (folder / "bin/prog").read_text() == "proved"
+    # Nor what a gate that failed, or that meets other sources in its end, left there.
+    for wrong in ("sys.exit(1)", 'open("crates/low/src/lib.rt", "a").write("// more\\n")'):
+        rt.write_text(RT.replace('    print("9 passed, 0 failed")\n', f'    print("9 passed, 0 failed")\n    {wrong}\n'))
+        (folder / "crates/prog/out/prog").write_text("a gate's")
+        repository.prove("--gate", status=1)
+        assert "a gate" not in (folder / "bin/PROVED").read_text()
+        assert repository.record("crates/prog/out/PROVED")["checker"] == "logic=proved by a stand-in"
+    rt.write_text(RT)
+    repository.prove("--gate")
+    assert repository.record("crates/prog/out/PROVED")["checker"] == "rt ci: 9 passed, 0 failed"
+    repository.make()
+    assert (folder / "bin/prog").read_text() == "a gate's" and repository.proof().startswith("prog: proved: ")
+
+
+@check
+def a_program_with_one_byte_more_is_called_not_proved(folder):
+    repository = Repository(folder, CRATES)
+    repository.make()
+    built, records = folder / "bin/prog", folder / "bin/PROVED"
+    assert repository.proof() == "prog: proved: commit unknown, a stand-in\n"
+    built.write_text("proved ")
+    assert repository.proof(1) == OTHER
+    built.write_text("proveD")
+    assert repository.proof(1) == OTHER
+    # Its proof is there still.
+    repository.make()
+    assert repository.proof().startswith("prog: proved: ")
+    for text, why in (
+        (None, "no file PROVED tells of it"),
+        ("", "PROVED does not tell of it"),
+        (records.read_text().replace("program: prog", "program: progs"), "PROVED does not tell of it"),
+        (records.read_text().replace("sha256: ", "sha256: 0"), "PROVED does not tell of it"),
+        ("program: prog\nsize: 6\n\n" + records.read_text(), "PROVED does not tell of it"),
+    ):
+        kept = records.read_text() if records.exists() else ""
+        records.unlink()
+        if text is not None:
+            records.write_text(text)
+        assert repository.proof(1) == f"prog: NOT proved: {why}\n", text
+        records.write_text(kept)
+    # What a record says can't act on a terminal.
+    records.write_text(records.read_text().replace("a stand-in", "a \x1b[2Jstand-in"))
+    assert repository.proof() == "prog: proved: commit unknown, a ?[2Jstand-in\n"
+
+
+# With a program that is installed.
+WITH_AGENT = {**{name: uses for name, uses in CRATES.items() if name != "prog"}, "agent_prog": ["long_b"]}
+
+
+@check
+def what_is_not_proved_is_installed_and_packed_only_where_that_is_asked_for(folder):
+    repository = Repository(folder, WITH_AGENT)
+    repository.lay_for_installation()
+    target = folder / "target"
+    words = ["-o", "bin/agent_prog", f"DESTDIR={target}"]
+    installed, front = target / "usr/local/libexec/mortarleek", target / "usr/local/bin/mortarleek"
+    repository.make()
+    assert "NOT proved" not in repository.make(*words, "install", stdin=subprocess.DEVNULL)
+    told = "mortarleek [0-9.]+\ncommit unknown\na stand-in\nproved: agent_prog: commit unknown, a stand-in\n"
+    assert re.fullmatch(told, run([front, "--version"])), run([front, "--version"])
+    (installed / "agent_prog").write_text("proved ")
+    assert "NOT proved: agent_prog: its bytes are others" in run([front, "--version"])
+    repository.make(*words, "uninstall")
+    (folder / "bin/agent_prog").write_text("proved ")
+    told = f"agent_{OTHER}install: not proved: `make` proves it, `make install UNPROVED=yes` takes it as it is\n"
+    for goal in ("install", "deb"):
+        said = repository.make(*words, goal, status=2, stdin=subprocess.DEVNULL)
+        assert told.replace("install", goal) in said, said
+    assert not installed.exists()
+    for typed, status in ((b"n\n", 2), (b"\n", 2), (b"y\n", 0)):
+        make = ["make", "--no-print-directory", "-C", folder, *words, "install"]
+        shown, ended = on_a_terminal(make, repository.environment, typed)
+        assert ended == status and "Take them all the same? [y/N]" in shown and OTHER in shown, (typed, shown)
+        assert installed.exists() == (status == 0), typed
+    for mark, why in (("", "no file PROVED tells of it"), ("agent_prog\n", "`make quick` built it")):
+        (folder / "bin/unproved").write_text(mark)
+        said = repository.make(*words, "UNPROVED=yes", "install", stdin=subprocess.DEVNULL)
+        assert f"agent_prog: NOT proved: {why if mark else 'its bytes are'}" in said, said
+        assert f"NOT proved: agent_prog: {why}\n" in run([front, "--version"]), (mark, run([front, "--version"]))
+    repository.make(*words, "uninstall")
+    assert [file for file in target.rglob("*") if file.is_file()] == []
+
+
+@check
+def an_installed_program_that_its_user_cannot_read_is_known_by_what_was_installed(folder):
+    """Installed by root and by a user, who both keep it from the user's programs and so from the user; and packed."""
+    if os.geteuid() != 0:
+        raise rig.Skip("it takes root to be another user")
+    folder.chmod(0o755)
+    repository = Repository(folder, WITH_AGENT)
+    repository.lay_for_installation()
+    repository.make()
+    unknown = "agent_prog: NOT compared: only root may read it: sudo mortarleek --version\n"
+    for case, installer in (("root's", []), ("packed", []), ("the user's", rig.AS_NOBODY)):
+        prefix = folder / f"prefix of {case}"
+        if installer:
+            run(["chown", "-R", f"{rig.NOBODY}:{rig.NOBODY}", folder])
+        run(["chmod", "-R", "a+rX", folder])
+        make = ["make", "--no-print-directory", "-C", folder, "-o", "bin/agent_prog", "install"]
+        words = [f"PREFIX={folder}/prefix", f"UNITS={folder}/units"]
+        run([*installer, *make, *words], env=repository.environment, stdin=subprocess.DEVNULL)
+        (folder / "prefix").rename(prefix)
+        teller, program = prefix / "libexec/mortarleek/proof_of", prefix / "libexec/mortarleek/agent_prog"
+        assert program.stat().st_mode & 0o777 == (0o111 if installer else 0o711)
+        records = prefix / "share/mortarleek/PROVED"
+        if case == "packed":
+            records.write_text(re.sub("(?m)^installed: .*\n", "", records.read_text()))
+        proved = "agent_prog: proved: commit unknown, a stand-in\n"
+        assert run([teller, program]) == proved
+        said = run([*rig.AS_NOBODY, teller, program], None)
+        assert said == (unknown if case == "packed" else proved), (case, said)
+        # Where a tool is missing nothing is called proved.
+        for missing, user in (("stat", rig.AS_NOBODY), ("sha256sum", [])):
+            tools = folder / f"without {missing} in {case}"
+            tools.mkdir()
+            for tool in {"sh", "setpriv", "awk", "sed", "head", "tr", "grep", "stat", "sha256sum"} - {missing}:
+                (tools / tool).symlink_to(shutil.which(tool))
+            said = run([*user, teller, program], 2, env={"PATH": str(tools)})
+            assert said == f"agent_prog: NOT compared: {missing} cannot be run\n", (case, said)
+        # The second of the last change tells one file from another.
+        time.sleep(1.1)
+        for text, to_its_user in (("proveD", unknown), ("proved ", f"agent_{OTHER}")):
+            program.write_text(text)
+            assert run([teller, program], 1) == f"agent_{OTHER}"
+            assert run([*rig.AS_NOBODY, teller, program], None) == to_its_user, (case, text)
 
 
 @check
@@ -243,6 +439,28 @@ def a_missing_toolchain_is_told_in_readme_s_words(folder):
     assert not repository.calls.exists() or repository.proved() == []
 
 
+def on_a_terminal(words, environment, typed):
+    """What a command shows on a terminal where this is typed once it asks, and its status."""
+    process, terminal = pty.fork()
+    if process == 0:
+        os.execvpe(words[0], [str(word) for word in words], environment)
+    shown, sent = b"", False
+    while True:
+        if not select.select([terminal], [], [], 20)[0]:
+            raise AssertionError(shown)
+        try:
+            more = os.read(terminal, 4096)
+        except OSError:
+            break
+        if not more:
+            break
+        shown += more
+        if not sent and b"[y/N]" in shown:
+            os.write(terminal, typed)
+            sent = True
+    return shown.decode().replace("\r\n", "\n"), os.waitstatus_to_exitcode(os.waitpid(process, 0)[1])
+
+
 class Apt:
     """A machine without packages, in which apt-get and sudo write down what they are asked for."""
 
@@ -264,25 +482,7 @@ class Apt:
         return self.calls.read_text()
 
     def on_a_terminal(self, typed, *names):
-        """What is shown on a terminal where this is typed, and the status."""
-        process, terminal = pty.fork()
-        if process == 0:
-            os.execve(self.words[0], [str(word) for word in (*self.words, *names)], self.environment)
-        shown, sent = b"", False
-        while True:
-            if not select.select([terminal], [], [], 20)[0]:
-                raise AssertionError(shown)
-            try:
-                more = os.read(terminal, 4096)
-            except OSError:
-                break
-            if not more:
-                break
-            shown += more
-            if not sent and b"[y/N]" in shown:
-                os.write(terminal, typed)
-                sent = True
-        return shown.decode().replace("\r\n", "\n"), os.waitstatus_to_exitcode(os.waitpid(process, 0)[1])
+        return on_a_terminal([*self.words, *names], self.environment, typed)
 
 
 INSTALL = "apt-get -qy -o DPkg::Lock::Timeout=300 install --no-install-recommends one two\n"

@@ -281,7 +281,7 @@ AS_NOBODY = ("setpriv", f"--reuid={NOBODY}", f"--regid={NOBODY}", "--clear-group
 
 
 # What the front ends start and source.
-SHELL_PARTS = ("agent_guard", "front_end.sh")
+SHELL_PARTS = ("agent_guard", "front_end.sh", "proof_of")
 
 
 def lay_scripts(folder, libexec=None):

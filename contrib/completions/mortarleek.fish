@@ -10,7 +10,7 @@ complete -c mortarleek -f -n __fish_use_subcommand -a log -d 'Tell what signatur
 complete -c mortarleek -f -n __fish_use_subcommand -a replay -d 'Run the agent over a schedule'
 complete -c mortarleek -f -n __fish_use_subcommand -a serve -d 'Run the agent itself at a socket'
 complete -c mortarleek -f -n __fish_use_subcommand -a status -d 'Tell which agent answers'
-complete -c mortarleek -n __fish_use_subcommand -l version -d 'Print version, commit and toolchain'
+complete -c mortarleek -n __fish_use_subcommand -l version -d 'Print version, commit and toolchain, and what is proved'
 complete -c mortarleek-status -f -l try -d 'Have each key sign'
 complete -c mortarleek -n '__fish_seen_subcommand_from status' -f -l try -d 'Have each key sign'
 
