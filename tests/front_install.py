@@ -268,7 +268,10 @@ def the_package_has_no_faults_and_says_what_it_is_of(folder):
         assert re.search(rf"(?m)^-rwx--x--x root/root .*/{name}$", listed), listed
     for name in ("SECURITY.md", "sbom.cdx.json", "changelog", "copyright"):
         assert re.search(rf"/usr/share/doc/mortarleek/{name}(\.gz)?$", listed, re.MULTILINE), (name, listed)
+    assert "./usr/lib/systemd/system-sleep/mortarleek\n" in listed and "/doc/mortarleek/examples/record.conf" in listed, listed
+    assert "standin_helper" not in re.sub(r"\S*/man8/\S*", "", listed), listed
     told = run(["dpkg", "-I", package])
+    assert "Depends: openssh-client, " in told, told
     assert "Architecture: amd64" in told and f"Built as {number} of commit " in told and "a-kit of this test" in told, told
     linked = run([rig.TOP / "scripts/sbom", "--built-using"]).strip()
     assert f"Built-Using: {linked}\n" in told and "rust-openssl (= " in linked, told
@@ -278,7 +281,7 @@ def the_package_has_no_faults_and_says_what_it_is_of(folder):
 @check
 def the_package_has_the_very_bytes_that_were_proved_or_says_not(folder):
     for words, line, status in (
-        ((), "Proved, each of the 7 programs that can be.", 0),
+        ((), "Proved, each of the 6 programs that can be.", 0),
         (("changed",), "NOT proved: add_tool.", 1),
     ):
         package, _ = packed(*words)
