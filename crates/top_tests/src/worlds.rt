@@ -9,23 +9,19 @@ use std::sync::Wait;
 use std::test::*;
 use world_ports::{Cue, Door, Entry};
 
-// Both listeners are bound, the clock is read, and then comes the first wait.
+// The listener is bound, the clock is read, and then comes the first wait.
 #[test]
 fn a_world_that_fails_gives_its_status(rt: HostRuntime) {
     let alloc = rt.alloc();
-    for (call, status) in [
-        (1, Status::BindFault),
-        (2, Status::BindFault),
-        (3, Status::PollFault),
-    ] {
+    for (call, status) in [(1, Status::BindFault), (2, Status::PollFault)] {
         let failing = calls(&rt, alloc, call);
         let (ended, _world) = serve_failing(&rt, alloc, Vec::new(alloc), failing);
         assert_eq!(rt; ended, status, "call {call}");
     }
 }
 
-// A client connects and lists, and at the second wait another one connects. The first wait is call 3. Then the client is
-// accepted (4) and read (5), nobody else waits (6), the client is written to (7), and it has sent no more (8); call 9 is
+// A client connects and lists, and at the second wait another one connects. The first wait is call 2. Then the client is
+// accepted (3) and read (4), nobody else waits (5), the client is written to (6), and it has sent no more (7); call 8 is
 // the second wait.
 fn lists(alloc: Global) -> Result<Vec<Vec<Cue>>, AllocError> {
     let asks = vec![in alloc;
@@ -36,8 +32,8 @@ fn lists(alloc: Global) -> Result<Vec<Vec<Cue>>, AllocError> {
     Ok(vec![in alloc; asks, later]?)
 }
 
-// A client adds a key, by the same calls, and at the second wait asks for a signature with it. That is read (10), and then
-// the helper is started (11).
+// A client adds a key, by the same calls, and at the second wait asks for a signature with it. That is read (9), and then
+// the helper is started (10).
 fn signs(alloc: Global) -> Result<Vec<Vec<Cue>>, AllocError> {
     let adds = vec![in alloc; Cue::Connect(Door::Clients), adds(alloc, 1)?]?;
     let asks = vec![in alloc; asks(alloc, 1, b"abc")?]?;
@@ -76,10 +72,10 @@ const EMPTY: &[u8] = b"\0\0\0\x05\x0c\0\0\0\0";
 fn each_call_fails_alone(rt: HostRuntime) -> Result<(), Fail> {
     let alloc = rt.alloc();
     for (call, wanted) in [
-        (4, (Status::Done, EMPTY, false)),
-        (5, (Status::Done, b"".as_slice(), true)),
-        (7, (Status::Done, b"".as_slice(), true)),
-        (9, (Status::PollFault, EMPTY, false)),
+        (3, (Status::Done, EMPTY, false)),
+        (4, (Status::Done, b"".as_slice(), true)),
+        (6, (Status::Done, b"".as_slice(), true)),
+        (8, (Status::PollFault, EMPTY, false)),
     ] {
         fails(&rt, alloc, lists(alloc)?, call, wanted);
     }
@@ -89,7 +85,7 @@ fn each_call_fails_alone(rt: HostRuntime) -> Result<(), Fail> {
         &rt,
         alloc,
         signs(alloc)?,
-        11,
+        10,
         (Status::Done, &refused, false),
     );
     Ok(())
