@@ -1,6 +1,5 @@
 -- What the link has heard is the rest of what the helper said in its life, and what was put in this life was put in the run.
 use Rattle.std.proofs.Common.{◌≡◌, ◌⊎◌, inl, inr, ◌==◌, ◌+◌, ℕ, zero, suc, List, [], ◌∷◌, ◌++◌, arith, refl, ap, sym, subst, ◌∙◌, Option, Some, None, Bool, true, false, if◌then◌else◌}
-use Rattle.std.specs.Str.{bytes_eq}
 use Rattle.std.proofs.lemmas.List.{append-nil}
 use Rattle.std.proofs.lemmas.List.Sums.{sum_by-append, sum_by-cons}
 use Rattle.std.proofs.lemmas.Bool.Decides.{nat_tests}
@@ -11,7 +10,6 @@ use Rattle.wire_text.specs.Bounds.{longest_body}
 use Rattle.wire_text.specs.Frames.{Bad, Front, More, Split, Whole, after_front, front, split, split_up_to}
 use Rattle.wire_text.proofs.SplitLemmas.{split-append}
 use Rattle.child_msg.specs.Messages.{ToChildMessage}
-use Rattle.confirm_desk.specs.Confirmations.{find_linked}
 use Rattle.helper_link.specs.HelperLink.{HelperLink, linked_to}
 use Rattle.helper_link.specs.Settling.{Settles, Settling, Stops, Verdict, after_verdict, at_rest, settle, settling, verdict}
 use Rattle.helper_link.specs.Telling.{Telling, telling}

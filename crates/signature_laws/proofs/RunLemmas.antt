@@ -1,5 +1,5 @@
 -- Over runs: what comes of an ask is the signer's answer to what was put for it.
-use Rattle.std.proofs.Common.{◌≡◌, ◌⊎◌, inl, inr, ◌==◌, ℕ, if◌then◌else◌, Bool, true, false, List, [], ◌∷◌, ◌++◌, Option, Some, None, Ok, refl, sym, ap, subst, ◌∙◌}
+use Rattle.std.proofs.Common.{◌≡◌, ◌⊎◌, inl, inr, ◌==◌, ℕ, if◌then◌else◌, Bool, true, false, List, [], ◌∷◌, ◌++◌, refl, sym, ap, subst, ◌∙◌}
 use Rattle.world_ports.specs.declared.Moment.{Moment}
 use Rattle.wire_text.specs.Bounds.{longest_body}
 use Rattle.wire_text.specs.Frames.{Split, split}
@@ -23,10 +23,10 @@ use Rattle.agent_laws.proofs.StreamLemmas.{step-only, step-said}
 use Rattle.signature_laws.specs.Lives.{AreSigned, AreSigners, IsBySigner, IsForBinding, IsOwn, Lead, Life, life_at, new_life}
 use Rattle.signature_laws.specs.Lives as lives
 use Rattle.signature_laws.specs.Signatures.{AreBySigner, IsIn, IsOfItsAsk}
-use Rattle.signature_laws.proofs.LifeLemmas.{HasLife, IsFollowed, followed-at, followed-first, followed-lead, has-life, put-behind, put-lead}
+use Rattle.signature_laws.proofs.LifeLemmas.{IsFollowed, followed-at, followed-first, followed-lead, has-life, put-behind, put-lead}
 use Rattle.signature_laws.proofs.SignatureLemmas.{binding-of-put, in-behind, of-put}
 use Rattle.signature_laws.proofs.StreamLemmas.{heard-in}
-use Rattle.signature_laws.proofs.ToldLemmas.{HasBody, message_for, said-body}
+use Rattle.signature_laws.proofs.ToldLemmas.{message_for, said-body}
 
 -- what a moment brings answers nothing
 ends-fate : (ask : ℕ) (given : Answer) {actions : List Action} → AreEnds actions → fate_of ask actions ≡ Gets given → ⊥
