@@ -137,18 +137,18 @@ still-failed (Some job) state = still-failed_by job.kind job.number (job_left jo
 -- ---- what is said
 
 -- a HELLO stands in front of these bytes
-record HelloOf (number : ℕ) (heard : List ℕ) (state : State) : Type 0 where
-  rest : List ℕ
-  is : IsHello number heard rest state
+pub record HelloOf (number : ℕ) (heard : List ℕ) (state : State) : Type 0 where
+  pub rest : List ℕ
+  pub is : IsHello number heard rest state
 
 -- who brings bytes of the stream is the helper, or becomes it
-record Spoken (number : ℕ) (piece : List ℕ) (state : State) : Type 0 where
-  port : Port
-  found : find_port number state.ports ≡ Some port
-  door : port.door ≡ Children
-  how : (state.under_way.link.state ≡ states.Linked number) ⊎ HelloOf number (port.heard ++ piece) state
+pub record Spoken (number : ℕ) (piece : List ℕ) (state : State) : Type 0 where
+  pub port : Port
+  pub found : find_port number state.ports ≡ Some port
+  pub door : port.door ≡ Children
+  pub how : (state.under_way.link.state ≡ states.Linked number) ⊎ HelloOf number (port.heard ++ piece) state
 
-spoken : (event : Happening) (state : State) (bytes : List ℕ) → Says state event bytes → (number : ℕ) (piece : List ℕ)
+pub spoken : (event : Happening) (state : State) (bytes : List ℕ) → Says state event bytes → (number : ℕ) (piece : List ℕ)
     → event ≡ Heard number piece → Spoken number piece state
 spoken event state bytes (goes_on n p port found door linked) number piece is =
     let one : n ≡ number = cc in
@@ -164,12 +164,12 @@ spoken event state bytes (begins n p rest port found door hello) number piece is
     }
 
 -- it is a piece at a port
-record IsPiece (event : Happening) : Type 0 where
-  number : ℕ
-  piece : List ℕ
-  is : event ≡ Heard number piece
+pub record IsPiece (event : Happening) : Type 0 where
+  pub number : ℕ
+  pub piece : List ℕ
+  pub is : event ≡ Heard number piece
 
-says-piece : (event : Happening) (state : State) (bytes : List ℕ) → Says state event bytes → IsPiece event
+pub says-piece : (event : Happening) (state : State) (bytes : List ℕ) → Says state event bytes → IsPiece event
 says-piece event state bytes (goes_on number piece port found door linked) = record { number = number; piece = piece; is = refl }
 says-piece event state bytes (begins number piece rest port found door hello) = record { number = number; piece = piece; is = refl }
 

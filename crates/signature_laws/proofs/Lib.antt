@@ -5,3 +5,4 @@ mod HeardLemmas
 mod LifeLemmas
 mod RunLemmas
 mod RowLemmas
+mod LifeRowLemmas
