@@ -17,6 +17,7 @@ use Rattle.signer_keys.specs.Signing.{signature_for, signed_by}
 use Rattle.signer_keys.specs.Types.{type_of}
 use Rattle.signer_keys.specs.Verifying.{verdict_of, verifying_route}
 use Rattle.agent_model.specs.Actions.{Asked, Asking}
+use Rattle.agent_model.specs.Errands.{binding_of}
 use Rattle.agent_model.specs.Events.{Timed}
 use Rattle.agent_model.specs.Runs.{Stamped, history, run}
 use Rattle.agent_model.specs.State.{Settings, State, first_state}
@@ -24,6 +25,7 @@ use Rattle.agent_model.specs.Step.{step}
 use Rattle.agent_laws.specs.History.{onto}
 use Rattle.agent_laws.specs.Puts.{ArePut, IsMessage, asks, messages_of, none, passes, signs, verifies}
 use Rattle.agent_laws.proofs.HistoryLemmas.{first-puts}
+use Rattle.signature_laws.specs.Lives.{IsForBinding}
 use Rattle.signature_laws.specs.Signatures.{AllFit, AreBySigner, IsIn, IsOfItsAsk, IsSignatureFor, hands_on, refuses, request_with}
 use Rattle.signature_laws.specs.Signatures as said
 
@@ -205,13 +207,105 @@ by-message earlier moment asking later actions message ask answer told (signs si
 by-message earlier moment asking later actions message ask answer told (verifies bind when requesting before purpose past port read) is about =
     absurd (never-verdict (verdict_of bind.host_key bind.session bind.signature) asking.ask ask answer is about)
 
+-- what is put in these events counts, and the answers are to messages that are among it
+pub of-put : (settings : Settings) (events : List Timed) (messages : List ToChildMessage) (answers : List FromChildMessage) (ask : ℕ) (answer : FromChildMessage)
+    → ((message : ToChildMessage) → IsIn message messages → IsIn message (messages_of (first_state settings) events))
+    → AreBySigner messages answers → IsIn answer answers → IsAbout ask answer
+    → IsOfItsAsk (history (first_state settings) events) ask answer
+of-put settings events messages answers ask answer among by there about =
+    let found = has-message messages answers answer by.fit by.each there in
+    let put = has-ask found.message (first-puts settings events).messages (among found.message found.there) in
+    by-message put.earlier put.moment put.asking put.rest (history (first_state settings) events) found.message ask answer put.told
+    put.is found.is about
+
 pub of-ask : (settings : Settings) (before life : List Timed) (answers : List FromChildMessage) (ask : ℕ) (answer : FromChildMessage)
     → AreBySigner (messages_of (run (first_state settings) before) life) answers → IsIn answer answers → IsAbout ask answer
     → IsOfItsAsk (history (first_state settings) (before ++ life)) ask answer
 of-ask settings before life answers ask answer by there about =
     let state : State = first_state settings in
-    let found = has-message (messages_of (run state before) life) answers answer by.fit by.each there in
-    let put = has-ask found.message
-    (first-puts settings (before ++ life)).messages (in-whole state before life found.message found.there) in
-    by-message put.earlier put.moment put.asking put.rest (history state (before ++ life)) found.message ask answer put.told
-    put.is found.is about
+    of-put settings (before ++ life) (messages_of (run state before) life) answers ask answer (in-whole state before life) by there about
+
+-- ---- the answers to verifications
+
+-- the answer is to a verification
+abbrev IsJudging : ℕ → FromChildMessage → Type 0
+IsJudging ask (True number) = number ≡ ask
+IsJudging ask (False number) = number ≡ ask
+IsJudging ask other = ⊥
+
+unjudged-either : (number ask : ℕ) (text : List ℕ) (is : Bool)
+    → IsJudging ask (if is then Signed number text else Refused number) → ⊥
+unjudged-either number ask text true judging = judging
+unjudged-either number ask text false judging = judging
+
+unjudged-under : (number ask : ℕ) (reply : Option FromChildMessage) → IsJudging ask (signed_under number reply) → ⊥
+unjudged-under number ask None judging = judging
+unjudged-under number ask (Some (Signed other text)) judging = unjudged-either number ask text (other == number) judging
+unjudged-under number ask (Some (Hello job ticket)) judging = judging
+unjudged-under number ask (Some (Refused other)) judging = judging
+unjudged-under number ask (Some (True other)) judging = judging
+unjudged-under number ask (Some (False other)) judging = judging
+unjudged-under number ask (Some (Granted job)) judging = judging
+unjudged-under number ask (Some (Denied job)) judging = judging
+
+-- a request to sign has no such answer
+unjudged : (request : Signing) (ask : ℕ) (answer : FromChildMessage) → IsSignatureFor request answer
+    → IsJudging ask answer → ⊥
+unfolding counted
+unjudged request ask answer (said.signs text is) judging = judging
+unjudged request ask answer (refuses fault is) judging = judging
+unjudged request ask answer (hands_on reply of_blob of_private) judging =
+    unjudged-under request.ask ask (reply_message reply) judging
+
+judging-either : (number ask : ℕ) (is : Bool) → IsJudging ask (if is then True number else False number) → number ≡ ask
+judging-either number ask true judging = judging
+judging-either number ask false judging = judging
+
+judging-under : (number ask : ℕ) (reply : Option FromChildMessage) → IsJudging ask (verdict_under number reply) → number ≡ ask
+judging-under number ask None judging = judging
+judging-under number ask (Some (True other)) judging = judging-either number ask (other == number) judging
+judging-under number ask (Some (Hello job ticket)) judging = judging
+judging-under number ask (Some (Signed other text)) judging = judging
+judging-under number ask (Some (Refused other)) judging = judging
+judging-under number ask (Some (False other)) judging = judging
+judging-under number ask (Some (Granted job)) judging = judging
+judging-under number ask (Some (Denied job)) judging = judging
+
+-- the answer to a verification has its number
+judging-verdict : (judged : Verdict) (number ask : ℕ) (answer : FromChildMessage)
+    → IsAnswerBy (verifying_route judged number) answer → IsJudging ask answer → number ≡ ask
+unfolding counted
+judging-verdict verdict.Right number ask answer is judging = subst (IsJudging ask) is judging
+judging-verdict verdict.Wrong number ask answer is judging = subst (IsJudging ask) is judging
+judging-verdict verdict.Elsewhere number ask answer is judging =
+    judging-under number ask (reply_message is.0) (subst (IsJudging ask) is.1 judging)
+
+binding-by : (earlier : List Stamped) (moment : Moment) (asking : Asking) (later : List Stamped) (actions : List Stamped)
+    (message : ToChildMessage) (ask : ℕ) (answer : FromChildMessage)
+    → actions ≡ earlier ++ record { moment = moment; action = Asked asking } ∷ later
+    → IsMessage (onto [] earlier) asking message → IsAnswerBy (route_to (Ok message)) answer → IsJudging ask answer
+    → IsForBinding actions ask
+binding-by earlier moment asking later actions message ask answer told (signs signing added purpose key) is judging =
+    let request : Signing = request_with added signing asking.ask in
+    let made : IsSignatureFor request answer = by-types request (type_of request.blob) (type_of request.private) answer refl refl is in
+    absurd (unjudged request ask answer made judging)
+binding-by earlier moment asking later actions message ask answer told (verifies bind when requesting before purpose past port read) is judging = record {
+  earlier = earlier;
+  moment = moment;
+  asking = asking;
+  later = later;
+  told = told;
+  number = judging-verdict (verdict_of bind.host_key bind.session bind.signature) asking.ask ask answer is judging;
+  binding = binding_of bind;
+  purpose = purpose;
+}
+
+pub binding-of-put : (settings : Settings) (events : List Timed) (messages : List ToChildMessage) (answers : List FromChildMessage) (ask : ℕ) (answer : FromChildMessage)
+    → ((message : ToChildMessage) → IsIn message messages → IsIn message (messages_of (first_state settings) events))
+    → AreBySigner messages answers → IsIn answer answers → IsJudging ask answer
+    → IsForBinding (history (first_state settings) events) ask
+binding-of-put settings events messages answers ask answer among by there judging =
+    let found = has-message messages answers answer by.fit by.each there in
+    let put = has-ask found.message (first-puts settings events).messages (among found.message found.there) in
+    binding-by put.earlier put.moment put.asking put.rest (history (first_state settings) events) found.message ask answer put.told
+    put.is found.is judging

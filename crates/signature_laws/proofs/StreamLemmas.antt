@@ -57,7 +57,7 @@ sends-signed messages stream replies read =
       framed = sends.framed;
     }
 
-in-ahead : {A : Type 0} (one : A) (some more : List A) → IsIn one some → IsIn one (some ++ more)
+pub in-ahead : {A : Type 0} (one : A) (some more : List A) → IsIn one some → IsIn one (some ++ more)
 in-ahead one [] more there = absurd there
 in-ahead one (first ∷ some) more (inl same) = inl same
 in-ahead one (first ∷ some) more (inr there) = inr (in-ahead one some more there)

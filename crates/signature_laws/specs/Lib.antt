@@ -1,3 +1,4 @@
 pub mod Signatures
 pub mod Streams
+pub mod Lives
 pub mod Rows

@@ -1,8 +1,11 @@
 //! Literal rows.
 
-ghost use Rattle.std.specs.Prelude.{[], ◌∷◌};
+ghost use Rattle.std.specs.Prelude.{[], ◌∷◌, map};
 ghost use Rattle.child_msg.specs.Messages.{Refused};
-ghost use Rattle.signature_laws.specs.Rows.{to_sign};
+ghost use Rattle.agent_model.specs.State.{first_state, no_settings};
+ghost use Rattle.agent_laws.specs.Deciding.{at};
+ghost use Rattle.signature_laws.specs.Lives.{IsBySigner, Lead, new_life};
+ghost use Rattle.signature_laws.specs.Rows.{begins_to_refuse, one_life, refused_later, to_sign};
 ghost use Rattle.signature_laws.specs.Signatures.{AreBySigner};
 ghost use Rattle.signature_laws.specs.Streams.{AreHeard, AreRead};
 
@@ -12,4 +15,11 @@ pub fn a_request_is_read_and_its_refusal_heard()
     ensures by { AreBySigner (to_sign ∷ []) (Refused 1 ∷ []) }
     ensures read { AreRead (to_sign ∷ []) (0 ∷ 0 ∷ 0 ∷ 25 ∷ 1 ∷ []) }
     ensures heard { AreHeard (Refused 1 ∷ []) (0 ∷ 0 ∷ 0 ∷ 9 ∷ 102 ∷ []) }
+{}
+
+/// Where a client asks, and the helper names itself and begins to refuse, what was put to this helper is the request, though
+/// it was put before, and what it said is the five bytes behind its HELLO; and with the rest of its refusal it is the signer.
+pub fn a_helper_begins_to_refuse()
+    ensures led { Lead (first_state no_settings) new_life (map (at 0) begins_to_refuse) one_life }
+    ensures by { IsBySigner one_life refused_later }
 {}

@@ -1,0 +1,387 @@
+-- What an event makes of what the link has heard: it brings bytes of the helper's stream, or they stay, but for a loss.
+use Rattle.std.proofs.Common.{◌≡◌, ◌≢◌, ◌⊎◌, inl, inr, ◌==◌, ℕ, zero, suc, List, [], ◌∷◌, ◌++◌, arith, refl, ap, sym, subst, ◌∙◌, Option, Some, None, Bool, true, false, Result, Ok, Err, if◌then◌else◌}
+use Rattle.std.specs.Str.{bytes_eq}
+use Rattle.std.proofs.lemmas.Bool.Decides.{nat_tests}
+use Rattle.std.proofs.lemmas.Slice.Eq.{bytes_eq-Decides}
+use Rattle.world_ports.specs.declared.Door.{Door}
+use Rattle.world_ports.specs.declared.Door.TheVariants.{Children, Clients}
+use Rattle.world_ports.specs.declared.Job.{Job}
+use Rattle.world_ports.specs.declared.JobKind.{JobKind}
+use Rattle.world_ports.specs.declared.JobKind.TheVariants as kinds
+use Rattle.wire_text.specs.Bounds.{longest_body}
+use Rattle.wire_text.specs.Frames.{Bad, Front, More, Whole, after_front, front, front_body}
+use Rattle.child_msg.specs.Messages.{Denied, False, FromChildMessage, Granted as GrantedMessage, Hello, Refused, Signed, True}
+use Rattle.child_msg.specs.Reading.{from_child_of}
+use Rattle.child_msg.specs.declared.fault.ChildFault.{ChildFault}
+use Rattle.confirm_desk.specs.Confirmations.{Confirmation, Consent, No, NotYet, Yes, consent, find_asker, find_job, find_linked}
+use Rattle.helper_link.specs.declared.state.LinkState.TheVariants as states
+use Rattle.agent_model.specs.Actions.{Granted, Outcome, Requested, Requesting, Work}
+use Rattle.agent_model.specs.Children.{changed, closed, confirmer_goes_on, confirmer_named, failed_by, first_frame, first_message, heard_more, hello_heard, is_started_by, job_left, named_by, shut, start_failed}
+use Rattle.agent_model.specs.Answers.{lose_where}
+use Rattle.agent_model.specs.Consents.{consent_by, find_started, grant_to, over_if}
+use Rattle.agent_model.specs.Binds.{agent_request_of}
+use Rattle.agent_model.specs.Dispatch.{Asker, Served, serve}
+use Rattle.agent_model.specs.Events.{Ended, Happening, Heard, Joined, StartFailed, Started, Tick, Took}
+use Rattle.agent_model.specs.State.{Client, Confirmer, Helper, Nothing, Port, Role, StartedJob, State, UnderWay, Unnamed, Waits, find_port, find_to_start, is_linked_to, role_by_helper, role_of}
+use Rattle.agent_model.specs.Step.{asker_at, ended_at, ended_by_role, handle, heard_at, heard_by_role, look_front, look_port, look_waits, took_at, took_by_role, took_some}
+use Rattle.agent_model.proofs.GrantLemmas.{IsGranted, allowed, disallowed, grant-ends, unasked}
+use Rattle.agent_model.proofs.MakeLemmas.{role-client, role-confirmer, role-door, role-free, role-helper, role-other}
+use Rattle.agent_model.proofs.PortsLemmas.{found_number}
+use Rattle.agent_model.proofs.ServeLemmas.{IsServed, answered, asked, raised, refused, serve-ends}
+use Rattle.agent_laws.specs.Answered.{IsHello, Says, begins, goes_on, times_lost}
+
+-- ---- what was heard stays
+
+-- what is left of it behind so many losses
+abbrev pub left_of : ℕ → List ℕ → List ℕ
+left_of zero heard = heard
+left_of (suc more) heard = []
+
+abbrev pub IsStill : List ℕ → Outcome → Type 0
+IsStill heard outcome = outcome.state.under_way.link.heard ≡ left_of (times_lost outcome.actions) heard
+
+still-served : {asker : Asker} {held : _} {under_way : UnderWay} {served : Served} (request : Requesting)
+    → IsServed asker held under_way served
+    → served.work.under_way.link.heard ≡ left_of (times_lost (Requested request ∷ served.work.actions)) under_way.link.heard
+still-served request (answered reply kept keeps) = refl
+still-served request (refused cause) = refl
+still-served request (asked errand free right) = refl
+still-served request (raised key signing free) = refl
+
+still-front : (answer : Front) (port : Port) (state : State)
+    → IsStill state.under_way.link.heard (look_front answer port state)
+still-front (Whole body_len) port state =
+    let body : List ℕ = front_body body_len port.heard in
+    let asker : Asker = asker_at state.moment port in
+    let served : Served = serve (agent_request_of body) asker state.held state.under_way in
+    still-served (record { port = port.number; body = body; verdict = served.work.verdict }) (serve-ends asker state.held state.under_way body)
+still-front (Bad announced) port state = refl
+still-front More port state = refl
+
+still-waits : (waits : Waits) (owed : List ℕ) (port : Port) (state : State)
+    → IsStill state.under_way.link.heard (look_waits waits owed port state)
+still-waits Nothing [] port state = still-front (front longest_body port.heard) port state
+still-waits waits owed port state = refl
+
+still-look : (found : Option Port) (state : State) → IsStill state.under_way.link.heard (look_port found state)
+still-look None state = refl
+still-look (Some port) state = still-waits port.waits port.owed port state
+
+still-over : (found : Option Confirmation) (state : State) → IsStill state.under_way.link.heard (over_if found state)
+still-over None state = refl
+still-over (Some confirmation) state = refl
+
+still-granted : {chain : List _} {confirmation : Confirmation} {wall : ℕ} {held : _} {under_way : UnderWay} {work : Work}
+    → IsGranted chain confirmation wall held under_way work
+    → work.under_way.link.heard ≡ left_of (times_lost (Granted confirmation.job ∷ work.actions)) under_way.link.heard
+still-granted (disallowed never) = refl
+still-granted (unasked cause key may fault) = refl
+still-granted (allowed key may free) = refl
+
+still-grant : (found : Option Port) (confirmation : Confirmation) (state : State)
+    → IsStill state.under_way.link.heard (grant_to found confirmation state)
+still-grant None confirmation state = refl
+still-grant (Some port) confirmation state = still-granted (grant-ends port.chain confirmation state)
+
+still-consent : (said : Consent) (confirmation : Confirmation) (piece : List ℕ) (state : State)
+    → IsStill state.under_way.link.heard (consent_by said confirmation piece state)
+still-consent NotYet confirmation piece state = refl
+still-consent Yes confirmation piece state = still-grant (find_port confirmation.asker state.ports) confirmation state
+still-consent No confirmation piece state = refl
+
+still-goes_on : (found : Option Confirmation) (rest : List ℕ) (state : State)
+    → IsStill state.under_way.link.heard (confirmer_goes_on found rest state)
+still-goes_on None rest state = refl
+still-goes_on (Some confirmation) rest state =
+    still-consent (consent confirmation.job (confirmation.heard ++ rest)) confirmation rest state
+
+still-took_role : (role : Role) (number count : ℕ) (state : State)
+    → IsStill state.under_way.link.heard (took_by_role role number count state)
+still-took_role Client number count state =
+    let took : State = changed number (took_some count) state in still-look (find_port number took.ports) took
+still-took_role Unnamed number count state = refl
+still-took_role Helper number count state = refl
+still-took_role (Confirmer confirmation) number count state = refl
+
+still-took : (found : Option Port) (count : ℕ) (state : State)
+    → IsStill state.under_way.link.heard (took_at found count state)
+still-took None count state = refl
+still-took (Some port) count state =
+    still-took_role (role_of port.door port.number state.under_way) port.number count state
+
+still-ended_role : (role : Role) (number : ℕ) (state : State)
+    → IsStill state.under_way.link.heard (ended_by_role role number state)
+still-ended_role Client number state = still-over (find_asker number state.under_way.confirmations) (closed number state)
+still-ended_role Unnamed number state = refl
+still-ended_role Helper number state = refl
+still-ended_role (Confirmer confirmation) number state = refl
+
+still-ended : (found : Option Port) (state : State) → IsStill state.under_way.link.heard (ended_at found state)
+still-ended None state = refl
+still-ended (Some port) state =
+    still-ended_role (role_of port.door port.number state.under_way) port.number state
+
+still-failed_by : (kind : JobKind) (number : ℕ) (state : State)
+    → IsStill state.under_way.link.heard (failed_by kind number state)
+still-failed_by kinds.Helper number state = by_test (is_started_by number state.under_way.link.state)
+  where
+    by_test : (is : Bool) → IsStill state.under_way.link.heard (lose_where is state)
+    by_test true = refl
+    by_test false = refl
+still-failed_by kinds.Confirm number state = still-over (find_job number state.under_way.confirmations) state
+
+still-failed : (found : Option Job) (state : State) → IsStill state.under_way.link.heard (start_failed found state)
+still-failed None state = refl
+still-failed (Some job) state = still-failed_by job.kind job.number (job_left job.number state)
+
+-- ---- what is said
+
+-- a HELLO stands in front of these bytes
+pub record HelloOf (number : ℕ) (heard : List ℕ) (state : State) : Type 0 where
+  pub rest : List ℕ
+  pub is : IsHello number heard rest state
+
+-- who brings bytes of the stream is the helper, or becomes it
+pub record Spoken (number : ℕ) (piece : List ℕ) (state : State) : Type 0 where
+  pub port : Port
+  pub found : find_port number state.ports ≡ Some port
+  pub door : port.door ≡ Children
+  pub how : (state.under_way.link.state ≡ states.Linked number) ⊎ HelloOf number (port.heard ++ piece) state
+
+pub spoken : (event : Happening) (state : State) (bytes : List ℕ) → Says state event bytes → (number : ℕ) (piece : List ℕ)
+    → event ≡ Heard number piece → Spoken number piece state
+spoken event state bytes (goes_on n p port found door linked) number piece is =
+    let one : n ≡ number = cc in
+    record { port = port; found = ap (λ m. find_port m state.ports) (sym one) ∙ found; door = door; how = inl (linked ∙ ap states.Linked one) }
+spoken event state bytes (begins n p rest port found door hello) number piece is =
+    let one : n ≡ number = cc in
+    let two : p ≡ piece = cc in
+    record {
+      port = port;
+      found = ap (λ m. find_port m state.ports) (sym one) ∙ found;
+      door = door;
+      how = inr (subst (λ m. HelloOf m (port.heard ++ piece) state) one (subst (λ q. HelloOf n (port.heard ++ q) state) two record { rest = rest; is = hello }));
+    }
+
+-- it is a piece at a port
+pub record IsPiece (event : Happening) : Type 0 where
+  pub number : ℕ
+  pub piece : List ℕ
+  pub is : event ≡ Heard number piece
+
+pub says-piece : (event : Happening) (state : State) (bytes : List ℕ) → Says state event bytes → IsPiece event
+says-piece event state bytes (goes_on number piece port found door linked) = record { number = number; piece = piece; is = refl }
+says-piece event state bytes (begins number piece rest port found door hello) = record { number = number; piece = piece; is = refl }
+
+-- ---- each event
+
+-- it brings bytes of the helper's stream, or what was heard stays
+pub data Effect (event : Happening) (state : State) (outcome : Outcome) : Type 0 where
+  still : ((bytes : List ℕ) → Says state event bytes → ⊥) → IsStill state.under_way.link.heard outcome
+      → Effect event state outcome
+  said : (bytes : List ℕ) → Says state event bytes → Effect event state outcome
+
+role-linked : (door : Door) (number : ℕ) (under_way : UnderWay) → door ≡ Children
+    → under_way.link.state ≡ states.Linked number → role_of door number under_way ≡ Helper
+role-linked door number under_way child linked =
+    let same : (number == number) ≡ true = grind (arith, nat_tests) in
+    ap (λ d. role_of d number under_way) child
+    ∙ ap (λ l. role_by_helper (is_linked_to number l) number under_way.confirmations) linked
+    ∙ ap (λ b. role_by_helper b number under_way.confirmations) same
+
+-- of a child process that hadn't named itself
+module _ (number : ℕ) (piece : List ℕ) (port : Port) (state : State) (found : find_port number state.ports ≡ Some port) (door : port.door ≡ Children) (free : find_linked number state.under_way.confirmations ≡ None) (other : state.under_way.link.state ≢ states.Linked number) where
+  abbrev heard : List ℕ
+  heard = port.heard ++ piece
+
+  abbrev more : State
+  more = changed number (heard_more piece) state
+
+  never : (HelloOf number heard state → ⊥) → (bytes : List ℕ) → Says state (Heard number piece) bytes → ⊥
+  never unnamed bytes says =
+      let at = spoken (Heard number piece) state bytes says number piece refl in
+      let same : at.port ≡ port = cc in
+      by_how at.port same at.how
+    where
+      by_how : (one : Port) → one ≡ port
+          → (state.under_way.link.state ≡ states.Linked number) ⊎ HelloOf number (one.heard ++ piece) state → ⊥
+      by_how one same (inl linked) = other linked
+      by_how one same (inr hello) = unnamed (subst (λ (p : Port). HelloOf number (p.heard ++ piece) state) same hello)
+
+  module _ (body_len : ℕ) (whole : front longest_body heard ≡ Whole body_len) where
+    abbrev rest : List ℕ
+    rest = after_front body_len heard
+
+    read-hello : (hello : HelloOf number heard state)
+        → from_child_of (front_body body_len heard) ≡ Ok (Hello hello.is.job hello.is.ticket)
+    read-hello hello =
+        let both : Whole body_len ≡ Whole hello.is.body_len = sym whole ∙ hello.is.whole in
+        let same : body_len ≡ hello.is.body_len = cc in
+        ap (λ n. from_child_of (front_body n heard)) same ∙ hello.is.hello
+
+    not-hello : (read : Result FromChildMessage ChildFault) → from_child_of (front_body body_len heard) ≡ read
+        → ((job : ℕ) (ticket : List ℕ) → read ≡ Ok (Hello job ticket) → ⊥)
+        → (bytes : List ℕ) → Says state (Heard number piece) bytes → ⊥
+    not-hello read is other_read =
+        never (λ hello. other_read hello.is.job hello.is.ticket (sym is ∙ read-hello hello))
+
+    module _ (job : ℕ) (ticket : List ℕ) (read : from_child_of (front_body body_len heard) ≡ Ok (Hello job ticket)) where
+      -- the job that it names, where it is one
+      named-one : (named : Option StartedJob) → find_started job state.under_way.started ≡ named
+          → (hello : HelloOf number heard state) → named ≡ Some hello.is.one
+      named-one named is hello =
+          let both : Ok (Hello job ticket) ≡ Ok (Hello hello.is.job hello.is.ticket) = sym read ∙ read-hello hello in
+          let same : job ≡ hello.is.job = cc in
+          sym is ∙ ap (λ j. find_started j state.under_way.started) same ∙ hello.is.started
+
+      named-ticket : (one : StartedJob) → find_started job state.under_way.started ≡ Some one
+          → (hello : HelloOf number heard state) → one.ticket ≡ ticket
+      named-ticket one is hello =
+          let both : Ok (Hello job ticket) ≡ Ok (Hello hello.is.job hello.is.ticket) = sym read ∙ read-hello hello in
+          let shown : ticket ≡ hello.is.ticket = cc in
+          let found_one : Some one ≡ Some hello.is.one = named-one (Some one) is hello in
+          let same : one ≡ hello.is.one = cc in
+          ap (λ (o : StartedJob). o.ticket) same ∙ hello.is.same ∙ sym shown
+
+      effect-named : (one : StartedJob) (kind : JobKind) → find_started job state.under_way.started ≡ Some one
+          → one.ticket ≡ ticket → one.job.kind ≡ kind
+          → Effect (Heard number piece) state (named_by kind one.job.number number rest more)
+      effect-named one kinds.Helper started same is =
+          said rest (begins number piece rest port found door record {
+            unlinked = other;
+            free = free;
+            body_len = body_len;
+            whole = whole;
+            behind = refl;
+            job = job;
+            ticket = ticket;
+            hello = read;
+            one = one;
+            started = started;
+            kind = is;
+            same = same;
+          })
+      effect-named one kinds.Confirm started same is =
+          still
+          (never (λ hello.
+          let found_one : Some one ≡ Some hello.is.one = named-one (Some one) started hello in
+          let equal : one ≡ hello.is.one = cc in
+          let kind : kinds.Confirm ≡ kinds.Helper = sym is ∙ ap (λ (o : StartedJob). o.job.kind) equal ∙ hello.is.kind in
+          absurd (cc)))
+          (still-goes_on (find_job one.job.number (confirmer_named one.job.number number more).under_way.confirmations) rest (confirmer_named one.job.number number more))
+
+      effect-ticket : (one : StartedJob) (shown : Bool) → find_started job state.under_way.started ≡ Some one
+          → bytes_eq one.ticket ticket ≡ shown
+          → Effect (Heard number piece) state (if shown then named_by one.job.kind one.job.number number rest more else shut number more)
+      effect-ticket one true started is =
+          effect-named one one.job.kind started ((bytes_eq-Decides one.ticket ticket).0 is) refl
+      effect-ticket one false started is =
+          still
+          (never (λ hello.
+          let equal : bytes_eq one.ticket ticket ≡ true = (bytes_eq-Decides one.ticket ticket).1 (named-ticket one started hello) in
+          let no : true ≡ false = sym equal ∙ is in
+          absurd (cc)))
+          refl
+
+      effect-hello : (named : Option StartedJob) → find_started job state.under_way.started ≡ named
+          → Effect (Heard number piece) state (hello_heard named ticket number rest more)
+      effect-hello None started =
+          still
+          (never (λ hello. let no : None ≡ Some hello.is.one = named-one None started hello in absurd (cc)))
+          refl
+      effect-hello (Some one) started = effect-ticket one (bytes_eq one.ticket ticket) started refl
+
+    effect-message : (read : Result FromChildMessage ChildFault) → from_child_of (front_body body_len heard) ≡ read
+        → Effect (Heard number piece) state (first_message read number rest more)
+    effect-message (Ok (Hello job ticket)) is =
+        effect-hello job ticket is (find_started job state.under_way.started) refl
+    effect-message (Ok (Signed ask signature)) is = still (not-hello _ is (λ job ticket same. absurd (cc))) refl
+    effect-message (Ok (Refused ask)) is = still (not-hello _ is (λ job ticket same. absurd (cc))) refl
+    effect-message (Ok (True ask)) is = still (not-hello _ is (λ job ticket same. absurd (cc))) refl
+    effect-message (Ok (False ask)) is = still (not-hello _ is (λ job ticket same. absurd (cc))) refl
+    effect-message (Ok (GrantedMessage granted)) is = still (not-hello _ is (λ job ticket same. absurd (cc))) refl
+    effect-message (Ok (Denied denied)) is = still (not-hello _ is (λ job ticket same. absurd (cc))) refl
+    effect-message (Err fault) is = still (not-hello _ is (λ job ticket same. absurd (cc))) refl
+
+  effect-frame : (answer_to : Front) → front longest_body heard ≡ answer_to
+      → Effect (Heard number piece) state (first_frame answer_to number heard more)
+  effect-frame (Whole body_len) is = effect-message body_len is (from_child_of (front_body body_len heard)) refl
+  effect-frame (Bad announced) is =
+      still
+      (never (λ hello. let no : Bad announced ≡ Whole hello.is.body_len = sym is ∙ hello.is.whole in absurd (cc)))
+      refl
+  effect-frame More is =
+      still (never (λ hello. let no : More ≡ Whole hello.is.body_len = sym is ∙ hello.is.whole in absurd (cc)))
+      refl
+
+effect-role : (role : Role) (port : Port) (piece : List ℕ) (state : State)
+    → find_port port.number state.ports ≡ Some port → role_of port.door port.number state.under_way ≡ role
+    → Effect (Heard port.number piece) state (heard_by_role role port piece state)
+effect-role Client port piece state found is =
+    still
+    (λ bytes says.
+    let at = spoken (Heard port.number piece) state bytes says port.number piece refl in
+    let same : at.port ≡ port = cc in
+    let client : port.door ≡ Clients = role-client port.door port.number state.under_way is in
+    let no : Clients ≡ Children = sym client ∙ ap (λ (p : Port). p.door) (sym same) ∙ at.door in
+    absurd (cc))
+    (let longer : State = changed port.number (heard_more piece) state in still-look (find_port port.number longer.ports) longer)
+effect-role Unnamed port piece state found is =
+    effect-frame port.number piece port state found
+    (role-door port.door port.number state.under_way Unnamed is (λ no. absurd (cc)))
+    (role-free port.door port.number state.under_way is)
+    (role-other port.door port.number state.under_way is)
+    (front longest_body (port.heard ++ piece)) refl
+effect-role Helper port piece state found is =
+    said piece (goes_on port.number piece port found (role-door port.door port.number state.under_way Helper is (λ no. absurd (cc)))
+    (role-helper port.door port.number state.under_way is))
+effect-role (Confirmer confirmation) port piece state found is =
+    still
+    (λ bytes says.
+    by_how (spoken (Heard port.number piece) state bytes says port.number piece refl).how)
+    (still-consent (consent confirmation.job (confirmation.heard ++ piece)) confirmation piece state)
+  where
+    child : port.door ≡ Children
+    child = role-door port.door port.number state.under_way (Confirmer confirmation) is (λ no. absurd (cc))
+
+    by_how : {heard : List ℕ}
+        → (state.under_way.link.state ≡ states.Linked port.number) ⊎ HelloOf port.number heard state → ⊥
+    by_how (inl linked) =
+        let no : Helper ≡ Confirmer confirmation = sym (role-linked port.door port.number state.under_way child linked) ∙ is in
+        absurd (cc)
+    by_how (inr hello) =
+        let no : None ≡ Some confirmation = sym hello.is.free ∙ role-confirmer port.door port.number state.under_way confirmation is in
+        absurd (cc)
+
+effect-heard : (number : ℕ) (found : Option Port) (piece : List ℕ) (state : State)
+    → find_port number state.ports ≡ found → Effect (Heard number piece) state (heard_at found piece state)
+effect-heard number None piece state is =
+    still
+    (λ bytes says.
+    let at = spoken (Heard number piece) state bytes says number piece refl in
+    let no : None ≡ Some at.port = sym is ∙ at.found in
+    absurd (cc))
+    refl
+effect-heard number (Some port) piece state is =
+    let numbered : port.number ≡ number = found_number number state.ports port is in
+    subst (λ n. Effect (Heard n piece) state (heard_at (Some port) piece state)) numbered
+    (effect-role _ port piece state (ap (λ n. find_port n state.ports) numbered ∙ is) refl)
+
+-- no other event brings bytes of the stream
+elsewhere : (event : Happening) (state : State) (outcome : Outcome)
+    → ((number : ℕ) (piece : List ℕ) → event ≡ Heard number piece → ⊥)
+    → IsStill state.under_way.link.heard outcome → Effect event state outcome
+elsewhere event state outcome other stays =
+    still (λ bytes says. let at = says-piece event state bytes says in other at.number at.piece at.is) stays
+
+pub effect : (event : Happening) (state : State) → Effect event state (handle event state)
+effect (Joined door) state = elsewhere (Joined door) state _ (λ number piece is. absurd (cc)) refl
+effect (Heard number piece) state = effect-heard number (find_port number state.ports) piece state refl
+effect (Took number count) state =
+    elsewhere (Took number count) state _ (λ n piece is. absurd (cc)) (still-took (find_port number state.ports) count state)
+effect (Ended number) state =
+    elsewhere (Ended number) state _ (λ n piece is. absurd (cc)) (still-ended (find_port number state.ports) state)
+effect (Started job ticket) state = elsewhere (Started job ticket) state _ (λ number piece is. absurd (cc)) refl
+effect (StartFailed job) state =
+    elsewhere (StartFailed job) state _ (λ number piece is. absurd (cc)) (still-failed (find_to_start job state.under_way.to_start) state)
+effect Tick state = elsewhere Tick state _ (λ number piece is. absurd (cc)) refl
