@@ -128,8 +128,13 @@ install: $(patsubst %,bin/%,$(filter-out $(QUICK),$(INSTALLED)))
 	sed 's,/usr/local/bin,$(PREFIX)/bin,' $(UNIT) > $(UNITS)/mortarleek-agent.service
 	chmod 644 $(UNITS)/mortarleek-agent.service
 	@front/proof_of $(LAID:%=bin/%) | sed -n '/: proved: /!p' >&2
+	@$(if $(DESTDIR),:,echo 'installed below $(PREFIX). An agent that runs goes on, and starts none of the programs that were replaced:' && \
+	    echo 'end it (mortarleek agent -k) and start it anew.')
 
 uninstall:
+	@if [ -z '$(DESTDIR)' ] && [ -e $(LIBEXEC)/agent_prog ]; then \
+	    echo 'An agent that runs goes on with its keys: kill "$$SSH_AGENT_PID" ends it. The line that starts one is yours to take out of ~/.profile.'; \
+	fi
 	rm -f $(SCRIPTS:%=$(BIN)/%) $(INSTALLED:%=$(LIBEXEC)/%) $(HELPERS:%=$(LIBEXEC)/%) $(PARTS:%=$(LIBEXEC)/%)
 	rm -f $(patsubst man/%,$(SHARE)/man/man1/%,$(wildcard man/*.1))
 	rm -f $(patsubst man/%,$(SHARE)/man/man8/%,$(wildcard man/*.8))
