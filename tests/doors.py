@@ -258,7 +258,7 @@ def a_record_is_no_file_that_another_put_there(folder):
         try:
             words = [*looks, f"inject=%%stat:error=ENOENT:when=1..{blind}", installed.agent, "--record", path, "true"]
             said = run(words, 1, env=installed.environment, timeout=20)
-            assert said.startswith(f"mortarleek-agent: {path}: ") and said.count("\n") == 1, said
+            assert said.startswith(f"mortarleek-agent: --record: {path}: ") and said.count("\n") == 1, said
             # Where fs.protected_symlinks is set no shell follows the links.
             assert "isn't a new file of yours" in said and blind == 3 or "can't be made" in said, said
             assert os.read(heard, 100) == b""

@@ -596,7 +596,7 @@ def random_clients_and_agents_beside_the_model(folder):
     model = rig.TOP / "model/differential_filter.py"
     # Some 20 s each, and more beside other work.
     print(run([model, rig.there(PROGRAM), 4], timeout=400), end="")
-    print(run([model, "--wrong", 40, 1], timeout=400), end="")
+    print(run([model, "--wrong", 200, 1], timeout=400), end="")
 
 
 # mortarleek-filter.
