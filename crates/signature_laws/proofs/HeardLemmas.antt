@@ -137,22 +137,28 @@ still-failed (Some job) state = still-failed_by job.kind job.number (job_left jo
 -- ---- what is said
 
 -- a HELLO stands in front of these bytes
-pub record HelloOf (number : ℕ) (heard : List ℕ) (state : State) : Type 0 where
-  pub rest : List ℕ
-  pub is : IsHello number heard rest state
+record HelloOf (number : ℕ) (heard : List ℕ) (state : State) : Type 0 where
+  rest : List ℕ
+  is : IsHello number heard rest state
+
+-- the bytes are a piece of the helper, or stand behind its HELLO
+abbrev pub HowSaid : ℕ → List ℕ → List ℕ → List ℕ → State → Type 0
+HowSaid number piece heard bytes state =
+    ((state.under_way.link.state ≡ states.Linked number) × (bytes ≡ piece)) ⊎ IsHello number heard bytes state
 
 -- who brings bytes of the stream is the helper, or becomes it
-pub record Spoken (number : ℕ) (piece : List ℕ) (state : State) : Type 0 where
+pub record Spoken (number : ℕ) (piece bytes : List ℕ) (state : State) : Type 0 where
   pub port : Port
   pub found : find_port number state.ports ≡ Some port
   pub door : port.door ≡ Children
-  pub how : (state.under_way.link.state ≡ states.Linked number) ⊎ HelloOf number (port.heard ++ piece) state
+  pub how : HowSaid number piece (port.heard ++ piece) bytes state
 
 pub spoken : (event : Happening) (state : State) (bytes : List ℕ) → Says state event bytes → (number : ℕ) (piece : List ℕ)
-    → event ≡ Heard number piece → Spoken number piece state
+    → event ≡ Heard number piece → Spoken number piece bytes state
 spoken event state bytes (goes_on n p port found door linked) number piece is =
     let one : n ≡ number = cc in
-    record { port = port; found = ap (λ m. find_port m state.ports) (sym one) ∙ found; door = door; how = inl (linked ∙ ap states.Linked one) }
+    let two : p ≡ piece = cc in
+    record { port = port; found = ap (λ m. find_port m state.ports) (sym one) ∙ found; door = door; how = inl (linked ∙ ap states.Linked one, two) }
 spoken event state bytes (begins n p rest port found door hello) number piece is =
     let one : n ≡ number = cc in
     let two : p ≡ piece = cc in
@@ -160,7 +166,7 @@ spoken event state bytes (begins n p rest port found door hello) number piece is
       port = port;
       found = ap (λ m. find_port m state.ports) (sym one) ∙ found;
       door = door;
-      how = inr (subst (λ m. HelloOf m (port.heard ++ piece) state) one (subst (λ q. HelloOf n (port.heard ++ q) state) two record { rest = rest; is = hello }));
+      how = inr (subst (λ m. IsHello m (port.heard ++ piece) bytes state) one (subst (λ q. IsHello n (port.heard ++ q) bytes state) two hello));
     }
 
 -- it is a piece at a port
@@ -172,6 +178,27 @@ pub record IsPiece (event : Happening) : Type 0 where
 pub says-piece : (event : Happening) (state : State) (bytes : List ℕ) → Says state event bytes → IsPiece event
 says-piece event state bytes (goes_on number piece port found door linked) = record { number = number; piece = piece; is = refl }
 says-piece event state bytes (begins number piece rest port found door hello) = record { number = number; piece = piece; is = refl }
+
+-- an event brings no two runs of bytes
+pub says-one : (event : Happening) (state : State) (some other : List ℕ) → Says state event some → Says state event other
+    → some ≡ other
+says-one event state some other says again =
+    let at = says-piece event state some says in
+    let first = spoken event state some says at.number at.piece at.is in
+    let second = spoken event state other again at.number at.piece at.is in
+    let same : second.port ≡ first.port = cc in
+    by_how at.number at.piece (first.port.heard ++ at.piece) first.how
+    (subst (λ (p : Port). HowSaid at.number at.piece (p.heard ++ at.piece) other state) same second.how)
+  where
+    by_how : (number : ℕ) (piece heard : List ℕ) → HowSaid number piece heard some state
+        → HowSaid number piece heard other state → some ≡ other
+    by_how number piece heard (inl one) (inl two) = one.1 ∙ sym two.1
+    by_how number piece heard (inl one) (inr two) = absurd (two.unlinked one.0)
+    by_how number piece heard (inr one) (inl two) = absurd (one.unlinked two.0)
+    by_how number piece heard (inr one) (inr two) =
+        let both : Whole one.body_len ≡ Whole two.body_len = sym one.whole ∙ two.whole in
+        let same : one.body_len ≡ two.body_len = cc in
+        one.behind ∙ ap (λ n. after_front n heard) same ∙ sym two.behind
 
 -- ---- each event
 
@@ -203,10 +230,10 @@ module _ (number : ℕ) (piece : List ℕ) (port : Port) (state : State) (found 
       let same : at.port ≡ port = cc in
       by_how at.port same at.how
     where
-      by_how : (one : Port) → one ≡ port
-          → (state.under_way.link.state ≡ states.Linked number) ⊎ HelloOf number (one.heard ++ piece) state → ⊥
-      by_how one same (inl linked) = other linked
-      by_how one same (inr hello) = unnamed (subst (λ (p : Port). HelloOf number (p.heard ++ piece) state) same hello)
+      by_how : (one : Port) → one ≡ port → HowSaid number piece (one.heard ++ piece) bytes state → ⊥
+      by_how one same (inl linked) = other linked.0
+      by_how one same (inr hello) =
+          unnamed (subst (λ (p : Port). HelloOf number (p.heard ++ piece) state) same (record { rest = bytes; is = hello }))
 
   module _ (body_len : ℕ) (whole : front longest_body heard ≡ Whole body_len) where
     abbrev rest : List ℕ
@@ -344,13 +371,12 @@ effect-role (Confirmer confirmation) port piece state found is =
     child : port.door ≡ Children
     child = role-door port.door port.number state.under_way (Confirmer confirmation) is (λ no. absurd (cc))
 
-    by_how : {heard : List ℕ}
-        → (state.under_way.link.state ≡ states.Linked port.number) ⊎ HelloOf port.number heard state → ⊥
+    by_how : {heard bytes : List ℕ} → HowSaid port.number piece heard bytes state → ⊥
     by_how (inl linked) =
-        let no : Helper ≡ Confirmer confirmation = sym (role-linked port.door port.number state.under_way child linked) ∙ is in
+        let no : Helper ≡ Confirmer confirmation = sym (role-linked port.door port.number state.under_way child linked.0) ∙ is in
         absurd (cc)
     by_how (inr hello) =
-        let no : None ≡ Some confirmation = sym hello.is.free ∙ role-confirmer port.door port.number state.under_way confirmation is in
+        let no : None ≡ Some confirmation = sym hello.free ∙ role-confirmer port.door port.number state.under_way confirmation is in
         absurd (cc)
 
 effect-heard : (number : ℕ) (found : Option Port) (piece : List ℕ) (state : State)

@@ -34,7 +34,7 @@ use Rattle.agent_laws.specs.Puts.{messages_of}
 use Rattle.signature_laws.specs.Lives.{Brings, Lead, Life, behind_losses, life_after, life_at, new_life}
 use Rattle.signature_laws.specs.Lives as lives
 use Rattle.signature_laws.specs.Signatures.{IsIn}
-use Rattle.signature_laws.proofs.HeardLemmas.{Effect, IsStill, effect, left_of, said, still}
+use Rattle.signature_laws.proofs.HeardLemmas.{Effect, IsStill, effect, left_of, said, says-one, still}
 use Rattle.signature_laws.proofs.SignatureLemmas.{in-behind}
 use Rattle.signature_laws.proofs.StreamLemmas.{in-ahead}
 
@@ -253,6 +253,24 @@ has-life state life (one ∷ later) =
     let brought = has-bytes one.event opened (effect one.event opened) in
     let found = has-life (step state one.moment one.event).state (life_after (handle one.event opened) brought.bytes (life_at state one.moment life)) later in
     record { last = found.last; lead = lives.goes_on state life one later brought.bytes found.last brought.brings found.lead }
+
+brings-one : (event : Happening) (state : State) (some other : List ℕ) → Brings state event some → Brings state event other
+    → some ≡ other
+brings-one event state some other (lives.some bytes says) (lives.some again said_again) =
+    says-one event state some other says said_again
+brings-one event state some other (lives.some bytes says) (lives.none silent) = absurd (silent some says)
+brings-one event state some other (lives.none silent) (lives.some bytes says) = absurd (silent other says)
+brings-one event state some other (lives.none silent) (lives.none again) = refl
+
+-- they lead to one life
+pub lead-one : {state : State} {life some other : Life} {events : List Timed} → Lead state life events some
+    → Lead state life events other → some ≡ other
+lead-one (lives.stays state life) (lives.stays state_too life_too) = refl
+lead-one (lives.goes_on state life one later bytes last brings lead) (lives.goes_on state_too life_too one_too later_too again last_too brings_too lead_too) =
+    let opened : State = at_moment one.moment state in
+    let same : again ≡ bytes = brings-one one.event opened again bytes brings_too brings in
+    lead-one lead
+    (subst (λ (said_bytes : List ℕ). Lead (step state one.moment one.event).state (life_after (handle one.event opened) said_bytes (life_at state one.moment life)) later last_too) same lead_too)
 
 -- ---- what was put
 
