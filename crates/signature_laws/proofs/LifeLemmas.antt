@@ -254,7 +254,8 @@ has-life state life (one ∷ later) =
     let found = has-life (step state one.moment one.event).state (life_after (handle one.event opened) brought.bytes (life_at state one.moment life)) later in
     record { last = found.last; lead = lives.goes_on state life one later brought.bytes found.last brought.brings found.lead }
 
-brings-one : (event : Happening) (state : State) (some other : List ℕ) → Brings state event some → Brings state event other
+-- nor an event that brings none any
+pub brings-one : (event : Happening) (state : State) (some other : List ℕ) → Brings state event some → Brings state event other
     → some ≡ other
 brings-one event state some other (lives.some bytes says) (lives.some again said_again) =
     says-one event state some other says said_again
