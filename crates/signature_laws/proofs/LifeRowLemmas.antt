@@ -1,7 +1,6 @@
 -- The rows of a helper's life, computed.
-use Rattle.std.proofs.Common.{◌≡◌, ℕ, List, [], ◌∷◌, ◌++◌, length, map, Option, Some, None, Ok, refl, sym, ap, subst, ◌∙◌, arith}
+use Rattle.std.proofs.Common.{◌≡◌, ℕ, List, [], ◌∷◌, ◌++◌, length, map, Some, None, Ok, refl, sym, ap, subst, ◌∙◌, arith}
 use Rattle.std.specs.Option.{option_map}
-use Rattle.world_ports.specs.declared.Door.{Door}
 use Rattle.world_ports.specs.declared.Door.TheVariants.{Children, Clients}
 use Rattle.child_msg.specs.ChildFrames.{ToChildFits, from_child_body}
 use Rattle.child_msg.specs.Messages.{Refused}
@@ -12,8 +11,8 @@ use Rattle.helper_core.specs.Routes.{Route, counted}
 use Rattle.helper_link.specs.declared.state.LinkState.TheVariants as states
 use Rattle.signer_keys.specs.Answers.{route_to}
 use Rattle.signer_keys.specs.Types.{type_of}
-use Rattle.agent_model.specs.ChildRows.{hello, helper_job, ticket}
-use Rattle.agent_model.specs.Events.{Happening, Heard, Joined, Started, Timed}
+use Rattle.agent_model.specs.ChildRows.{helper_job, ticket}
+use Rattle.agent_model.specs.Events.{Happening, Heard, Timed}
 use Rattle.agent_model.specs.Runs.{run}
 use Rattle.agent_model.specs.State.{Port, State, find_port, first_state, new_port, no_settings}
 use Rattle.agent_model.specs.Step.{handle, step}
