@@ -1,5 +1,5 @@
 -- What the link has heard is the rest of what the helper said in its life, and what was put in this life was put in the run.
-use Rattle.std.proofs.Common.{◌≡◌, ◌⊎◌, inl, inr, ◌==◌, ◌+◌, ℕ, zero, suc, List, [], ◌∷◌, ◌++◌, arith, refl, ap, sym, subst, ◌∙◌}
+use Rattle.std.proofs.Common.{◌≡◌, ◌⊎◌, inl, inr, ℕ, zero, suc, List, [], ◌∷◌, ◌++◌, refl, ap, sym, subst, ◌∙◌}
 use Rattle.std.proofs.lemmas.List.{append-nil}
 use Rattle.world_ports.specs.declared.Moment.{Moment}
 use Rattle.child_msg.specs.Messages.{ToChildMessage}
@@ -9,7 +9,7 @@ use Rattle.agent_model.specs.Runs.{run}
 use Rattle.agent_model.specs.State.{State}
 use Rattle.agent_model.specs.Step.{handle, step}
 use Rattle.agent_model.specs.Time.{at_moment, time_passes}
-use Rattle.agent_laws.specs.Answered.{Says, goes_on, times_lost}
+use Rattle.agent_laws.specs.Answered.{Says, times_lost}
 use Rattle.agent_laws.specs.Puts.{messages_of}
 use Rattle.signature_laws.specs.Lives.{Brings, Lead, Life, behind_losses, life_after, life_at, new_life}
 use Rattle.signature_laws.specs.Lives as lives

@@ -1,5 +1,5 @@
 -- What an event brings that is none of the helper's stream leaves what the link has heard, but for a loss.
-use Rattle.std.proofs.Common.{◌≡◌, ◌≢◌, ◌⊎◌, ◌==◌, ℕ, zero, suc, List, [], ◌∷◌, ◌++◌, arith, refl, ap, sym, subst, ◌∙◌, Option, Some, None, Bool, true, false}
+use Rattle.std.proofs.Common.{◌≡◌, ℕ, zero, suc, List, [], ◌∷◌, ◌++◌, refl, Option, Some, None, Bool, true, false}
 use Rattle.world_ports.specs.declared.Job.{Job}
 use Rattle.world_ports.specs.declared.JobKind.{JobKind}
 use Rattle.world_ports.specs.declared.JobKind.TheVariants as kinds
