@@ -1,11 +1,10 @@
 -- What an event makes of what the link has heard: it brings bytes of the helper's stream, or they stay, but for a loss.
-use Rattle.std.proofs.Common.{◌≡◌, ◌≢◌, ◌⊎◌, inl, inr, ◌==◌, ℕ, zero, suc, List, [], ◌∷◌, ◌++◌, arith, refl, ap, sym, subst, ◌∙◌, Option, Some, None, Bool, true, false, Result, Ok, Err, if◌then◌else◌}
+use Rattle.std.proofs.Common.{◌≡◌, ◌≢◌, ◌⊎◌, inl, inr, ◌==◌, ℕ, List, ◌++◌, arith, refl, ap, sym, subst, ◌∙◌, Option, Some, None, Bool, true, false, if◌then◌else◌, Result, Ok, Err}
 use Rattle.std.specs.Str.{bytes_eq}
 use Rattle.std.proofs.lemmas.Bool.Decides.{nat_tests}
 use Rattle.std.proofs.lemmas.Slice.Eq.{bytes_eq-Decides}
 use Rattle.world_ports.specs.declared.Door.{Door}
 use Rattle.world_ports.specs.declared.Door.TheVariants.{Children, Clients}
-use Rattle.world_ports.specs.declared.Job.{Job}
 use Rattle.world_ports.specs.declared.JobKind.{JobKind}
 use Rattle.world_ports.specs.declared.JobKind.TheVariants as kinds
 use Rattle.wire_text.specs.Bounds.{longest_body}
@@ -13,146 +12,44 @@ use Rattle.wire_text.specs.Frames.{Bad, Front, More, Whole, after_front, front, 
 use Rattle.child_msg.specs.Messages.{Denied, False, FromChildMessage, Granted as GrantedMessage, Hello, Refused, Signed, True}
 use Rattle.child_msg.specs.Reading.{from_child_of}
 use Rattle.child_msg.specs.declared.fault.ChildFault.{ChildFault}
-use Rattle.confirm_desk.specs.Confirmations.{Confirmation, Consent, No, NotYet, Yes, consent, find_asker, find_job, find_linked}
+use Rattle.confirm_desk.specs.Confirmations.{consent, find_job, find_linked}
 use Rattle.helper_link.specs.declared.state.LinkState.TheVariants as states
-use Rattle.agent_model.specs.Actions.{Granted, Outcome, Requested, Requesting, Work}
-use Rattle.agent_model.specs.Children.{changed, closed, confirmer_goes_on, confirmer_named, failed_by, first_frame, first_message, heard_more, hello_heard, is_started_by, job_left, named_by, shut, start_failed}
-use Rattle.agent_model.specs.Answers.{lose_where}
-use Rattle.agent_model.specs.Consents.{consent_by, find_started, grant_to, over_if}
-use Rattle.agent_model.specs.Binds.{agent_request_of}
-use Rattle.agent_model.specs.Dispatch.{Asker, Served, serve}
+use Rattle.agent_model.specs.Actions.{Outcome}
+use Rattle.agent_model.specs.Children.{changed, confirmer_named, first_frame, first_message, heard_more, hello_heard, named_by, shut}
+use Rattle.agent_model.specs.Consents.{find_started}
 use Rattle.agent_model.specs.Events.{Ended, Happening, Heard, Joined, StartFailed, Started, Tick, Took}
-use Rattle.agent_model.specs.State.{Client, Confirmer, Helper, Nothing, Port, Role, StartedJob, State, UnderWay, Unnamed, Waits, find_port, find_to_start, is_linked_to, role_by_helper, role_of}
-use Rattle.agent_model.specs.Step.{asker_at, ended_at, ended_by_role, handle, heard_at, heard_by_role, look_front, look_port, look_waits, took_at, took_by_role, took_some}
-use Rattle.agent_model.proofs.GrantLemmas.{IsGranted, allowed, disallowed, grant-ends, unasked}
+use Rattle.agent_model.specs.State.{Client, Confirmer, Helper, Port, Role, StartedJob, State, UnderWay, Unnamed, find_port, find_to_start, is_linked_to, role_by_helper, role_of}
+use Rattle.agent_model.specs.Step.{handle, heard_at, heard_by_role}
 use Rattle.agent_model.proofs.MakeLemmas.{role-client, role-confirmer, role-door, role-free, role-helper, role-other}
 use Rattle.agent_model.proofs.PortsLemmas.{found_number}
-use Rattle.agent_model.proofs.ServeLemmas.{IsServed, answered, asked, raised, refused, serve-ends}
-use Rattle.agent_laws.specs.Answered.{IsHello, Says, begins, goes_on, times_lost}
-
--- ---- what was heard stays
-
--- what is left of it behind so many losses
-abbrev pub left_of : ℕ → List ℕ → List ℕ
-left_of zero heard = heard
-left_of (suc more) heard = []
-
-abbrev pub IsStill : List ℕ → Outcome → Type 0
-IsStill heard outcome = outcome.state.under_way.link.heard ≡ left_of (times_lost outcome.actions) heard
-
-still-served : {asker : Asker} {held : _} {under_way : UnderWay} {served : Served} (request : Requesting)
-    → IsServed asker held under_way served
-    → served.work.under_way.link.heard ≡ left_of (times_lost (Requested request ∷ served.work.actions)) under_way.link.heard
-still-served request (answered reply kept keeps) = refl
-still-served request (refused cause) = refl
-still-served request (asked errand free right) = refl
-still-served request (raised key signing free) = refl
-
-still-front : (answer : Front) (port : Port) (state : State)
-    → IsStill state.under_way.link.heard (look_front answer port state)
-still-front (Whole body_len) port state =
-    let body : List ℕ = front_body body_len port.heard in
-    let asker : Asker = asker_at state.moment port in
-    let served : Served = serve (agent_request_of body) asker state.held state.under_way in
-    still-served (record { port = port.number; body = body; verdict = served.work.verdict }) (serve-ends asker state.held state.under_way body)
-still-front (Bad announced) port state = refl
-still-front More port state = refl
-
-still-waits : (waits : Waits) (owed : List ℕ) (port : Port) (state : State)
-    → IsStill state.under_way.link.heard (look_waits waits owed port state)
-still-waits Nothing [] port state = still-front (front longest_body port.heard) port state
-still-waits waits owed port state = refl
-
-still-look : (found : Option Port) (state : State) → IsStill state.under_way.link.heard (look_port found state)
-still-look None state = refl
-still-look (Some port) state = still-waits port.waits port.owed port state
-
-still-over : (found : Option Confirmation) (state : State) → IsStill state.under_way.link.heard (over_if found state)
-still-over None state = refl
-still-over (Some confirmation) state = refl
-
-still-granted : {chain : List _} {confirmation : Confirmation} {wall : ℕ} {held : _} {under_way : UnderWay} {work : Work}
-    → IsGranted chain confirmation wall held under_way work
-    → work.under_way.link.heard ≡ left_of (times_lost (Granted confirmation.job ∷ work.actions)) under_way.link.heard
-still-granted (disallowed never) = refl
-still-granted (unasked cause key may fault) = refl
-still-granted (allowed key may free) = refl
-
-still-grant : (found : Option Port) (confirmation : Confirmation) (state : State)
-    → IsStill state.under_way.link.heard (grant_to found confirmation state)
-still-grant None confirmation state = refl
-still-grant (Some port) confirmation state = still-granted (grant-ends port.chain confirmation state)
-
-still-consent : (said : Consent) (confirmation : Confirmation) (piece : List ℕ) (state : State)
-    → IsStill state.under_way.link.heard (consent_by said confirmation piece state)
-still-consent NotYet confirmation piece state = refl
-still-consent Yes confirmation piece state = still-grant (find_port confirmation.asker state.ports) confirmation state
-still-consent No confirmation piece state = refl
-
-still-goes_on : (found : Option Confirmation) (rest : List ℕ) (state : State)
-    → IsStill state.under_way.link.heard (confirmer_goes_on found rest state)
-still-goes_on None rest state = refl
-still-goes_on (Some confirmation) rest state =
-    still-consent (consent confirmation.job (confirmation.heard ++ rest)) confirmation rest state
-
-still-took_role : (role : Role) (number count : ℕ) (state : State)
-    → IsStill state.under_way.link.heard (took_by_role role number count state)
-still-took_role Client number count state =
-    let took : State = changed number (took_some count) state in still-look (find_port number took.ports) took
-still-took_role Unnamed number count state = refl
-still-took_role Helper number count state = refl
-still-took_role (Confirmer confirmation) number count state = refl
-
-still-took : (found : Option Port) (count : ℕ) (state : State)
-    → IsStill state.under_way.link.heard (took_at found count state)
-still-took None count state = refl
-still-took (Some port) count state =
-    still-took_role (role_of port.door port.number state.under_way) port.number count state
-
-still-ended_role : (role : Role) (number : ℕ) (state : State)
-    → IsStill state.under_way.link.heard (ended_by_role role number state)
-still-ended_role Client number state = still-over (find_asker number state.under_way.confirmations) (closed number state)
-still-ended_role Unnamed number state = refl
-still-ended_role Helper number state = refl
-still-ended_role (Confirmer confirmation) number state = refl
-
-still-ended : (found : Option Port) (state : State) → IsStill state.under_way.link.heard (ended_at found state)
-still-ended None state = refl
-still-ended (Some port) state =
-    still-ended_role (role_of port.door port.number state.under_way) port.number state
-
-still-failed_by : (kind : JobKind) (number : ℕ) (state : State)
-    → IsStill state.under_way.link.heard (failed_by kind number state)
-still-failed_by kinds.Helper number state = by_test (is_started_by number state.under_way.link.state)
-  where
-    by_test : (is : Bool) → IsStill state.under_way.link.heard (lose_where is state)
-    by_test true = refl
-    by_test false = refl
-still-failed_by kinds.Confirm number state = still-over (find_job number state.under_way.confirmations) state
-
-still-failed : (found : Option Job) (state : State) → IsStill state.under_way.link.heard (start_failed found state)
-still-failed None state = refl
-still-failed (Some job) state = still-failed_by job.kind job.number (job_left job.number state)
+use Rattle.agent_laws.specs.Answered.{IsHello, Says, begins, goes_on}
+use Rattle.signature_laws.proofs.StillLemmas.{IsStill, still-consent, still-ended, still-failed, still-goes_on, still-look, still-took}
 
 -- ---- what is said
 
 -- a HELLO stands in front of these bytes
-pub record HelloOf (number : ℕ) (heard : List ℕ) (state : State) : Type 0 where
-  pub rest : List ℕ
-  pub is : IsHello number heard rest state
+record HelloOf (number : ℕ) (heard : List ℕ) (state : State) : Type 0 where
+  rest : List ℕ
+  is : IsHello number heard rest state
+
+-- the bytes are a piece of the helper, or stand behind its HELLO
+abbrev pub HowSaid : ℕ → List ℕ → List ℕ → List ℕ → State → Type 0
+HowSaid number piece heard bytes state =
+    ((state.under_way.link.state ≡ states.Linked number) × (bytes ≡ piece)) ⊎ IsHello number heard bytes state
 
 -- who brings bytes of the stream is the helper, or becomes it
-pub record Spoken (number : ℕ) (piece : List ℕ) (state : State) : Type 0 where
+pub record Spoken (number : ℕ) (piece bytes : List ℕ) (state : State) : Type 0 where
   pub port : Port
   pub found : find_port number state.ports ≡ Some port
   pub door : port.door ≡ Children
-  pub how : (state.under_way.link.state ≡ states.Linked number) ⊎ HelloOf number (port.heard ++ piece) state
+  pub how : HowSaid number piece (port.heard ++ piece) bytes state
 
 pub spoken : (event : Happening) (state : State) (bytes : List ℕ) → Says state event bytes → (number : ℕ) (piece : List ℕ)
-    → event ≡ Heard number piece → Spoken number piece state
+    → event ≡ Heard number piece → Spoken number piece bytes state
 spoken event state bytes (goes_on n p port found door linked) number piece is =
     let one : n ≡ number = cc in
-    record { port = port; found = ap (λ m. find_port m state.ports) (sym one) ∙ found; door = door; how = inl (linked ∙ ap states.Linked one) }
+    let two : p ≡ piece = cc in
+    record { port = port; found = ap (λ m. find_port m state.ports) (sym one) ∙ found; door = door; how = inl (linked ∙ ap states.Linked one, two) }
 spoken event state bytes (begins n p rest port found door hello) number piece is =
     let one : n ≡ number = cc in
     let two : p ≡ piece = cc in
@@ -160,7 +57,7 @@ spoken event state bytes (begins n p rest port found door hello) number piece is
       port = port;
       found = ap (λ m. find_port m state.ports) (sym one) ∙ found;
       door = door;
-      how = inr (subst (λ m. HelloOf m (port.heard ++ piece) state) one (subst (λ q. HelloOf n (port.heard ++ q) state) two record { rest = rest; is = hello }));
+      how = inr (subst (λ m. IsHello m (port.heard ++ piece) bytes state) one (subst (λ q. IsHello n (port.heard ++ q) bytes state) two hello));
     }
 
 -- it is a piece at a port
@@ -172,6 +69,27 @@ pub record IsPiece (event : Happening) : Type 0 where
 pub says-piece : (event : Happening) (state : State) (bytes : List ℕ) → Says state event bytes → IsPiece event
 says-piece event state bytes (goes_on number piece port found door linked) = record { number = number; piece = piece; is = refl }
 says-piece event state bytes (begins number piece rest port found door hello) = record { number = number; piece = piece; is = refl }
+
+-- an event brings no two runs of bytes
+pub says-one : (event : Happening) (state : State) (some other : List ℕ) → Says state event some → Says state event other
+    → some ≡ other
+says-one event state some other says again =
+    let at = says-piece event state some says in
+    let first = spoken event state some says at.number at.piece at.is in
+    let second = spoken event state other again at.number at.piece at.is in
+    let same : second.port ≡ first.port = cc in
+    by_how at.number at.piece (first.port.heard ++ at.piece) first.how
+    (subst (λ (p : Port). HowSaid at.number at.piece (p.heard ++ at.piece) other state) same second.how)
+  where
+    by_how : (number : ℕ) (piece heard : List ℕ) → HowSaid number piece heard some state
+        → HowSaid number piece heard other state → some ≡ other
+    by_how number piece heard (inl one) (inl two) = one.1 ∙ sym two.1
+    by_how number piece heard (inl one) (inr two) = absurd (two.unlinked one.0)
+    by_how number piece heard (inr one) (inl two) = absurd (one.unlinked two.0)
+    by_how number piece heard (inr one) (inr two) =
+        let both : Whole one.body_len ≡ Whole two.body_len = sym one.whole ∙ two.whole in
+        let same : one.body_len ≡ two.body_len = cc in
+        one.behind ∙ ap (λ n. after_front n heard) same ∙ sym two.behind
 
 -- ---- each event
 
@@ -203,10 +121,10 @@ module _ (number : ℕ) (piece : List ℕ) (port : Port) (state : State) (found 
       let same : at.port ≡ port = cc in
       by_how at.port same at.how
     where
-      by_how : (one : Port) → one ≡ port
-          → (state.under_way.link.state ≡ states.Linked number) ⊎ HelloOf number (one.heard ++ piece) state → ⊥
-      by_how one same (inl linked) = other linked
-      by_how one same (inr hello) = unnamed (subst (λ (p : Port). HelloOf number (p.heard ++ piece) state) same hello)
+      by_how : (one : Port) → one ≡ port → HowSaid number piece (one.heard ++ piece) bytes state → ⊥
+      by_how one same (inl linked) = other linked.0
+      by_how one same (inr hello) =
+          unnamed (subst (λ (p : Port). HelloOf number (p.heard ++ piece) state) same (record { rest = bytes; is = hello }))
 
   module _ (body_len : ℕ) (whole : front longest_body heard ≡ Whole body_len) where
     abbrev rest : List ℕ
@@ -344,13 +262,12 @@ effect-role (Confirmer confirmation) port piece state found is =
     child : port.door ≡ Children
     child = role-door port.door port.number state.under_way (Confirmer confirmation) is (λ no. absurd (cc))
 
-    by_how : {heard : List ℕ}
-        → (state.under_way.link.state ≡ states.Linked port.number) ⊎ HelloOf port.number heard state → ⊥
+    by_how : {heard bytes : List ℕ} → HowSaid port.number piece heard bytes state → ⊥
     by_how (inl linked) =
-        let no : Helper ≡ Confirmer confirmation = sym (role-linked port.door port.number state.under_way child linked) ∙ is in
+        let no : Helper ≡ Confirmer confirmation = sym (role-linked port.door port.number state.under_way child linked.0) ∙ is in
         absurd (cc)
     by_how (inr hello) =
-        let no : None ≡ Some confirmation = sym hello.is.free ∙ role-confirmer port.door port.number state.under_way confirmation is in
+        let no : None ≡ Some confirmation = sym hello.free ∙ role-confirmer port.door port.number state.under_way confirmation is in
         absurd (cc)
 
 effect-heard : (number : ℕ) (found : Option Port) (piece : List ℕ) (state : State)

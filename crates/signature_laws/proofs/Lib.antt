@@ -1,7 +1,9 @@
 mod SignatureLemmas
 mod StreamLemmas
 mod ToldLemmas
+mod StillLemmas
 mod HeardLemmas
+mod RestLemmas
 mod LifeLemmas
 mod RunLemmas
 mod RowLemmas

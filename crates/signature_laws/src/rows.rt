@@ -4,7 +4,7 @@ ghost use Rattle.std.specs.Prelude.{[], ◌∷◌, map};
 ghost use Rattle.child_msg.specs.Messages.{Refused};
 ghost use Rattle.agent_model.specs.State.{first_state, no_settings};
 ghost use Rattle.agent_laws.specs.Deciding.{at};
-ghost use Rattle.signature_laws.specs.Lives.{IsBySigner, Lead, new_life};
+ghost use Rattle.signature_laws.specs.Lives.{AreSigners, IsBySigner, Lead, new_life};
 ghost use Rattle.signature_laws.specs.Rows.{begins_to_refuse, one_life, refused_later, to_sign};
 ghost use Rattle.signature_laws.specs.Signatures.{AreBySigner};
 ghost use Rattle.signature_laws.specs.Streams.{AreHeard, AreRead};
@@ -18,8 +18,10 @@ pub fn a_request_is_read_and_its_refusal_heard()
 {}
 
 /// Where a client asks, and the helper names itself and begins to refuse, what was put to this helper is the request, though
-/// it was put before, and what it said is the five bytes behind its HELLO; and with the rest of its refusal it is the signer.
+/// it was put before, and what it said is the five bytes behind its HELLO. It is the signer in this run, and with the rest of
+/// its refusal too.
 pub fn a_helper_begins_to_refuse()
     ensures led { Lead (first_state no_settings) new_life (map (at 0) begins_to_refuse) one_life }
     ensures by { IsBySigner one_life refused_later }
+    ensures signers { AreSigners (first_state no_settings) (map (at 0) begins_to_refuse) }
 {}
