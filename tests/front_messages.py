@@ -194,7 +194,7 @@ def a_file_that_is_no_private_key_is_told_as_what_it_is(folder):
             (bare, "a public key"),
             (profile, "no private key"),
             (empty, "no private key"),
-            (cut, "a private key that is cut or damaged"),
+            (cut, "a private key that is cut or damaged, or has too few bits"),
             (putty, f"a key of PuTTY: puttygen {putty} -O private-openssh -o NEWFILE"),
         ):
             assert told(installed.add, path, status=1, env=daemon.environment) == f"mortarleek-add: {path}: {said}"
