@@ -86,6 +86,12 @@ class Repository:
         self.calls.write_text("")
         return run([self.folder / "scripts/prove", *words], status, env=self.environment, **more)
 
+    def gate(self, status=0):
+        """What the toolchain's gate prints, with what .ci/run takes down around it."""
+        self.calls.write_text("")
+        lines = 'scripts/prove --before-gate && "$RT" ci > bin/gate.log && cat bin/gate.log && scripts/prove --passed bin/gate.log'
+        return run(["sh", "-c", lines], status, cwd=self.folder, env=self.environment)
+
     def make(self, *words, status=0, **more):
         make = ["make", "--no-print-directory", "-C", self.folder, *words]
         return run(make, status, env=self.environment, **more)
@@ -190,7 +196,7 @@ def a_failed_proof_is_shown_and_nothing_more_is_begun(folder):
 def behind_the_gate_nothing_is_proved_that_no_program_needs(folder):
     """Where the gate keeps nothing: what programs are linked of is proved again, and said so."""
     repository = Repository(folder, CRATES)
-    assert repository.prove("--gate") == "9 passed, 0 failed\n"
+    assert repository.gate() == "9 passed, 0 failed\n"
     assert repository.proved() == []
     assert repository.prove().startswith("2 crates are proved already, 4 are to be proved\n")
     assert sorted(repository.proved()) == ["long_a", "long_b", "low", "prog"], repository.proved()
@@ -293,11 +299,19 @@ def no_program_is_recorded_that_the_toolchain_did_not_call_proved(folder):
     for wrong in ("sys.exit(1)", 'open("crates/low/src/lib.rt", "a").write("// more\\n")'):
         rt.write_text(RT.replace('    print("9 passed, 0 failed")\n', f'    print("9 passed, 0 failed")\n    {wrong}\n'))
         (folder / "crates/prog/out/prog").write_text("a gate's")
-        repository.prove("--gate", status=1)
+        repository.gate(status=1)
         assert "a gate" not in (folder / "bin/PROVED").read_text()
         assert repository.record("crates/prog/out/PROVED")["checker"] == "logic=proved by a stand-in"
     rt.write_text(RT)
-    repository.prove("--gate")
+    # And nothing is taken down by a log of a gate that failed, nor where none began.
+    (folder / "bin/gate.log").write_text("9 passed, 1 failed\n")
+    repository.prove("--before-gate")
+    repository.prove("--passed", "bin/gate.log", status=1)
+    (folder / "bin/gate.log").write_text("9 passed, 0 failed\n")
+    (folder / "bin/gate.sources").unlink()
+    repository.prove("--passed", "bin/gate.log", status=1)
+    assert repository.record("crates/prog/out/PROVED")["checker"] == "logic=proved by a stand-in"
+    repository.gate()
     assert repository.record("crates/prog/out/PROVED")["checker"] == "rt ci: 9 passed, 0 failed"
     repository.make()
     assert (folder / "bin/prog").read_text() == "a gate's" and repository.proof().startswith("prog: proved: ")
