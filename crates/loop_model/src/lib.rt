@@ -20,9 +20,8 @@ pub use order::{
 pub use rows::{
     a_call_out_of_turn_is_refused, a_client_that_joined_is_served_first, a_wait_follows_a_look,
     an_event_ends_what_was_served, only_what_is_ready_is_tried,
-    what_is_to_be_started_is_started_first,
     what_can_be_served_again_comes_back, what_cant_be_served_is_set_aside,
     what_is_due_is_told_before_a_wait, what_is_owed_is_written, what_is_ready_stands_once,
-    what_was_served_stands_last,
+    what_is_to_be_started_is_started_first, what_was_served_stands_last,
 };
 pub use thing::Thing;
