@@ -48,7 +48,7 @@ happen-requires-clause-ordered g c =
     let line = c.args.queue.now in
     ordered_is state (joined_line state c.args.door c.in-Ok-Port.number (in_hand (Accept c.args.door) line))
     c.accept-in-Ok-Port.new.self (c.in-Ok.ensures ∙ ap (joined_line state c.args.door c.in-Ok-Port.number) c.take.ensures)
-    (ordered-joined state c.args.door c.in-Ok-Port.number line c.requires.ready.fit.ordered c.requires.next)
+    (ordered-joined state c.args.door c.in-Ok-Port.number line c.requires.ready.fit.ordered c.requires.jobs c.requires.next)
 
 pub happen-requires-clause-cold : goal.happen-requires-clause-cold
 happen-requires-clause-cold g c =
