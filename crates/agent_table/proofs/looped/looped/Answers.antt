@@ -2,7 +2,7 @@ use Rattle.std.proofs.Common.{arith, subst, sym, ◌≤◌}
 use Rattle.agent_model.specs.Actions.{Stepped}
 use Rattle.loop_model.specs.Orderly.{IsOrderly}
 use Rattle.loop_model.proofs.OwedLemmas.{orderly_first}
-use Rattle.hub_tests.proofs.scripts.play_timed.Goals as goal
+use Rattle.agent_table.proofs.looped.looped.Goals as goal
 
 pub serve-end-requires-clause-orderly : goal.serve-end-requires-clause-orderly
 serve-end-requires-clause-orderly g c =
