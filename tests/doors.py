@@ -515,6 +515,18 @@ def programs_are_started_with_a_known_few_variables(folder):
 
 
 @check
+def serve_says_what_the_loader_was_told_to_load(folder):
+    rest = {name: value for name, value in os.environ.items() if not name.startswith("LD_")}
+    for name, value in (("LD_PRELOAD", ""), ("LD_PRELOAD", f"{folder}/none.so"), ("LD_LIBRARY_PATH", str(folder)), ("LD_AUDIT", f"{folder}/none.so")):
+        with open(folder / "errors", "w+") as errors:
+            with rig.our_agent(rig.agent_program(), folder, helper="/bin/false", stderr=errors, env=rest | {name: value}):
+                errors.seek(0)
+                lines = [line for line in errors if line.startswith("mortarleek: ") and "core file" not in line]
+        says = f"mortarleek: {name} was set: what it names runs in the agent, beside its keys\n"
+        assert lines == ([says] if value else []), (name, value, lines)
+
+
+@check
 def what_is_installed_below_an_equals_sign_works(folder):
     place = folder / "a=b"
     place.mkdir()

@@ -3,9 +3,32 @@
 # tests/wrong_definitions changes one definition of agent_model, on a copy that has the definitions and none of the proofs,
 # and names the run of agent_laws or of the crate that it names (src/runs.rt) on which the law fails then. So what refuses
 # it is the run that is computed, and not the form of a proof. Those that are named, or all. Ends with 1 where a run stays
-# as the law wants it, or where the definitions as they are don't pass.
+# as the law wants it, or where the definitions as they are don't pass. `--fit` asks alone whether each changes what stands
+# in its file once.
 set -u
 cd "$(dirname "$0")/.." || exit 2
+
+# EDIT FOLDER: changes the definition in its file there, whose text stands in it once.
+change() {
+    python3 - "$1" "$2/$(sed -n 's/^file: //p' "$1")" <<'PYTHON'
+import sys
+lines = dict(line.split(": ", 1) for line in open(sys.argv[1]).read().splitlines())
+text = open(sys.argv[2]).read()
+if text.count(lines["old"]) != 1:
+    sys.exit(sys.argv[1] + ": the old text doesn't stand once in the file")
+open(sys.argv[2], "w").write(text.replace(lines["old"], lines["new"]))
+PYTHON
+}
+
+if [ "${1-}" = --fit ]; then
+    work=$(mktemp -d) || exit 2
+    trap 'rm -rf "$work"' EXIT
+    bad=0
+    for edit in tests/wrong_definitions/*; do
+        cp -r crates/agent_model/specs "$work" && change "$edit" "$work" || bad=1
+    done
+    exit "$bad"
+fi
 names=("$@")
 [ $# != 0 ] || mapfile -t names < <(ls tests/wrong_definitions)
 work=$(mktemp -d) || exit 2
@@ -52,14 +75,7 @@ for name in "${names[@]}"; do
     crate=${crate:-agent_laws}
     file=$(sed -n 's/^file: //p' "$edit")
     cp "$model/$file" "$work/kept" || exit 2
-    python3 - "$edit" "$model/$file" <<'PYTHON' || exit 2
-import sys
-lines = dict(line.split(": ", 1) for line in open(sys.argv[1]).read().splitlines())
-text = open(sys.argv[2]).read()
-if text.count(lines["old"]) != 1:
-    sys.exit(sys.argv[1] + ": the old text doesn't stand once in the file")
-open(sys.argv[2], "w").write(text.replace(lines["old"], lines["new"]))
-PYTHON
+    change "$edit" "$model" || exit 2
     said=$(says "$crate")
     if grep 'did not prove' <<<"$said" | grep -q "\`returns-clause-$run\`"; then
         echo "$name: refused by the run $run"

@@ -13,20 +13,20 @@ use Rattle.agent_model.specs.Sound.{IsRight}
 use Rattle.agent_model.specs.State.{Port, StartedJob, UnderWay, Verification, change_port, find_port}
 use Rattle.under_way.specs.Parts.{IsFor}
 use Rattle.world_ports.specs.declared.Job.{Job}
-use Rattle.agent_model.specs.Verdicts.{HelperRefused, Refuses, Replies, Signature, SignatureWrong, Success, Verdict, tell}
+use Rattle.agent_model.specs.Verdicts.{HelperRefused, Refuses, Replies, Signature, SignatureWrong, Verdict, tell}
 
--- what an asker is told
+-- what an asker is told whose binding isn't noted
 abbrev pub verdict_of : Answer → Verdict
 verdict_of (answer.Signed signature) = Replies (Signature signature)
 verdict_of answer.Refused = Refuses HelperRefused
-verdict_of answer.True = Replies Success
+verdict_of answer.True = Refuses SignatureWrong
 verdict_of answer.False = Refuses SignatureWrong
 
 -- what an asker's port becomes of an answer, by the verification that it asked for
 abbrev pub told_with : Answer → Option Verification → Port → Port
 told_with (answer.Signed signature) found port = tell (Replies (Signature signature)) port
 told_with answer.Refused found port = tell (Refuses HelperRefused) port
-told_with answer.True None port = tell (Replies Success) port
+told_with answer.True None port = tell (Refuses SignatureWrong) port
 told_with answer.True (Some verification) port = prove verification port
 told_with answer.False found port = tell (Refuses SignatureWrong) port
 

@@ -204,7 +204,7 @@ fn bind(chain: &mut Chain, verification: &Verification) -> Result<(), AllocError
     Ok(())
 }
 
-/// Owes what the helper answered behind what is owed, and waits no more.
+/// Owes what the helper answered, which binds nothing, behind what is owed, and waits no more.
 pub fn tell(slot: &mut Slot, answer: &Answer) -> Result<(), AllocError>
     requires { IsShortAnswer answer.now }
     ensures port { OnOk result (port_of slot.new ≡ tell (verdict_of answer.now) (port_of slot.old)) }
@@ -213,8 +213,8 @@ pub fn tell(slot: &mut Slot, answer: &Answer) -> Result<(), AllocError>
 {
     match answer {
         Answer::Signed(signature) => slot.owed.append_signature(signature.as_slice())?,
-        Answer::True => slot.owed.append_status(true)?,
-        Answer::Refused | Answer::False => slot.owed.append_status(false)?,
+        // What is right binds nothing here: `prove` tells of that.
+        Answer::Refused | Answer::True | Answer::False => slot.owed.append_status(false)?,
     }
     slot.waits = Waits::Nothing;
     Ok(())

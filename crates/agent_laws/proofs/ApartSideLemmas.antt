@@ -13,7 +13,7 @@ use Rattle.agent_model.specs.Children.{changed, shut}
 use Rattle.agent_model.specs.KeyStates.{KeyState}
 use Rattle.agent_model.specs.State.{Port, State, UnderWay, Verification, change_port}
 use Rattle.agent_model.specs.Time.{all_over, end_late, is_helper_late, taken_in, time_passes}
-use Rattle.agent_model.specs.Verdicts.{HelperLost, HelperRefused, Refuses, Replies, Signature, SignatureWrong, Success, Verdict, tell}
+use Rattle.agent_model.specs.Verdicts.{HelperLost, HelperRefused, Refuses, Replies, Signature, SignatureWrong, Verdict, tell}
 use Rattle.agent_laws.specs.Apart.{AreAlike, AreAlikeOutcomes, AreAlikePorts, Insiders, IsAlikeHeld}
 use Rattle.agent_laws.proofs.ApartKeyLemmas.{alive-alike}
 use Rattle.agent_laws.proofs.KeyLemmas.{kept-taken}
@@ -86,7 +86,7 @@ module _ (who : Insiders) (settled : Settled) where
 
   true-alike : (noted : Option Verification) (one two : Answering) → AnswersAlike who one two
       → AnswersAlike who (answer_true noted settled one) (answer_true noted settled two)
-  true-alike None one two alike = asker-alike (Replies Success) one two alike
+  true-alike None one two alike = asker-alike (Refuses SignatureWrong) one two alike
   true-alike (Some verification) one two alike =
       let keeps : KeepsPlace (prove verification) = record { number = λ p. refl; door = λ p. refl } in
       record {

@@ -65,7 +65,7 @@ settled-makes s outcome makes at =
 taken-settled : (moment : Moment) (state : State) → IsTied state → IsJudged state
     → AreSettled (taken_in moment state)
 taken-settled moment state tied judged =
-    (tied-taken moment state tied, record { verified = judged.verified; noted = judged.noted; given = judged.given; chains = judged.chains })
+    (tied-taken moment state tied, record { verified = judged.verified; given = judged.given; chains = judged.chains })
 
 pub judged-brings : (R : State → Outcome → Type 0) (moment : Moment) (state : State) → IsTied state
     → IsJudged state → ((s : State) → R s (stay s))

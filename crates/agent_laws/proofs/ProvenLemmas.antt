@@ -34,7 +34,7 @@ use Rattle.agent_model.specs.Sound.{IsJudged, IsTied}
 use Rattle.agent_model.specs.State.{Port, Settings, State, Verification, find_port, first_state}
 use Rattle.agent_model.specs.Step.{asker_at, attempts, concluded, handle, join, step, take_frame}
 use Rattle.agent_model.specs.Time.{at_moment, time_passes}
-use Rattle.agent_model.specs.Verdicts.{HelperRefused, Refuses, Replies, Signature, SignatureWrong, Success, Verdict}
+use Rattle.agent_model.specs.Verdicts.{HelperRefused, Refuses, Replies, Signature, SignatureWrong, Verdict}
 use Rattle.agent_model.proofs.ActionLemmas.{among-back, among-front}
 use Rattle.agent_model.proofs.BindLemmas.{AreGiven}
 use Rattle.agent_model.proofs.FatedLemmas.{first-tied, step-fated, tied-opened}
@@ -211,7 +211,7 @@ module _ (past : List Action) (last : ℕ) (one : Settled) (before : Answering) 
   holds-true : one.answer ≡ answer.True → (noted : Option Verification)
       → find_verification one.ask before.verifications ≡ noted
       → HoldsSo past last (answer_true noted one before) (remove_ask one.ask asks)
-  holds-true right None is = holds-told (Replies Success)
+  holds-true right None is = holds-told (Refuses SignatureWrong)
   holds-true right (Some verification) is = holds-proved right verification is
 
   holds-answer : (what : Answer) → one.answer ≡ what

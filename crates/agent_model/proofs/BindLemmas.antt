@@ -17,11 +17,11 @@ use Rattle.helper_link.proofs.OrderLemmas.{remove_rises}
 use Rattle.agent_model.specs.Actions.{Action, Answered}
 use Rattle.agent_model.specs.Answers.{Answering, answer_all, answer_asker, answer_by, answer_true, find_verification, prove, proved_where_open, remove_verification}
 use Rattle.agent_model.specs.Bindings.{bound_after, bound_by, bound_once}
-use Rattle.agent_model.specs.Sound.{AreApart, AreChains, AreJudged, AreNoted, AreTied, IsRight}
+use Rattle.agent_model.specs.Sound.{AreApart, AreChains, AreJudged, AreTied, IsRight}
 use Rattle.agent_model.specs.State.{Port, Verification, change_port, find_port}
-use Rattle.agent_model.specs.Verdicts.{HelperRefused, Refuses, Replies, Signature, SignatureWrong, Success, Verdict, tell}
+use Rattle.agent_model.specs.Verdicts.{HelperRefused, Refuses, Replies, Signature, SignatureWrong, Verdict, tell}
 use Rattle.agent_model.proofs.FateLemmas.{answers_as, one_answer}
-use Rattle.agent_model.proofs.JudgeLemmas.{chain_with-once, chain_with-sound, chains-keep, found_before, judged-told, keeps-changed, noted-told}
+use Rattle.agent_model.proofs.JudgeLemmas.{chain_with-once, chain_with-sound, chains-keep, found_before, judged-told, keeps-changed}
 use Rattle.agent_model.proofs.PortsLemmas.{find_port-apart, find_port-change_port, found_number}
 use Rattle.agent_model.proofs.TieLemmas.{IsOf, apart, found_after, here}
 
@@ -67,7 +67,7 @@ pub data AnswerIs (one : Settled) (before : Answering) : Answering → Type 0 wh
 answer_is_true : (found : Option Verification) (one : Settled) (before : Answering)
     → find_verification one.ask before.verifications ≡ found
     → AnswerIs one before (answer_true found one before)
-answer_is_true None one before is = tells (Replies Success)
+answer_is_true None one before is = tells (Refuses SignatureWrong)
 answer_is_true (Some verification) one before is = proves verification is
 
 pub answer_is : (what : Answer) (one : Settled) (before : Answering)
@@ -163,13 +163,6 @@ module _ (low last : ℕ) (one : Settled) (before : Answering) (asks : List Ask)
   bound_answer chain number so_far =
       bound_by_is chain number (answer_is one.answer one before) so_far
 
-  -- the others are noted, and were given
-  pub noted_answer : AreNoted before.verifications asks
-      → AreNoted (answer_by one.answer one before).verifications (remove_ask one.ask asks)
-  noted_answer noted =
-      subst (λ all. AreNoted all (remove_ask one.ask asks)) (sym (answers_as one.answer one before).verifications)
-      (noted-told low last asks rise one.ask before.verifications noted)
-
 -- ---- answers, one after another
 
 -- a verification is of an ask that was put
@@ -191,7 +184,6 @@ pub record HoldsAt (low last : ℕ) (answering : Answering) (asks : List Ask) : 
   pub rise : RiseTo low asks last
   pub tied : AreTied answering.ports asks
   pub judged : AreJudged answering.ports answering.verifications asks
-  pub noted : AreNoted answering.verifications asks
   pub given : AreGiven answering.verifications last
   pub chains : AreChains answering.ports
 
@@ -202,8 +194,6 @@ holds_answer low last one before asks found holds = record {
   rise = remove_rises one.ask low asks last holds.rise;
   tied = one_answer low last one before asks found holds.rise holds.tied;
   judged = judged_answer low last one before asks found holds.rise holds.tied holds.judged;
-  noted =
-      noted_answer low last one before asks found holds.rise holds.tied holds.judged holds.noted;
   given = subst (λ all. AreGiven all last) (sym (answers_as one.answer one before).verifications) (given_after one.ask before.verifications last holds.given);
   chains =
       chains_answer low last one before asks found holds.rise holds.tied holds.judged holds.chains;

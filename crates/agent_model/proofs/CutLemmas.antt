@@ -17,12 +17,12 @@ use Rattle.agent_model.specs.Actions.{Action, Outcome, acted, and_then}
 use Rattle.agent_model.specs.Answers.{Answering, answer_all, answer_by, answer_true, answers_in, find_verification, helper_tells, lose_if, with_answers}
 use Rattle.agent_model.specs.Events.{Heard}
 use Rattle.helper_link.specs.HelperLink.{HelperLink}
-use Rattle.agent_model.specs.Fates.{Unanswered, answer_verdict, fate_of, fault_fate, or_later, settled_fate}
+use Rattle.agent_model.specs.Fates.{Unanswered, fate_of, fault_fate, or_later, settled_fate}
 use Rattle.agent_model.specs.Sound.{IsRising, IsSound}
 use Rattle.agent_model.specs.State.{Port, State, Verification, change_port, find_port, is_linked_to, role_by_helper, role_of}
 use Rattle.agent_model.specs.Step.{handle, heard_at, heard_by_role, step}
 use Rattle.agent_model.specs.Time.{GiveTime, at_moment, taken_in, time_passes}
-use Rattle.agent_model.proofs.FateLemmas.{AnswersAs, answers_as, fate-append, settled-fates}
+use Rattle.agent_model.proofs.FateLemmas.{AnswersAs, answers_as, fate-append, settled-fates, told_verdict}
 use Rattle.agent_model.proofs.LeadLemmas.{leads-answers, same}
 use Rattle.agent_model.specs.Pieces.{Agree}
 use Rattle.agent_model.proofs.PiecesLemmas.{agree-over, agree-stepped, heard_next}
@@ -99,7 +99,7 @@ stays_open number (one ∷ later) before port found = elim (cases_eq number one.
       (ap (find_port number) told.ports ∙ find_port-apart number one.asker told.change before.ports told.number other ∙ found)
 ]
   where
-    told : AnswersAs (answer_verdict one.answer) one before (answer_by one.answer one before)
+    told : AnswersAs (told_verdict one.answer one before) one before (answer_by one.answer one before)
     told = answers_as one.answer one before
 
 -- ---- the helper's port

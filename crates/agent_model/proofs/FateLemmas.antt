@@ -1,5 +1,5 @@
 -- What becomes of what a client waits for, where the helper answers and where it is lost.
-use Rattle.std.proofs.Common.{◌≡◌, ◌≢◌, ℕ, List, [], ◌∷◌, ◌++◌, refl, ap, arith, sym, subst, ◌∙◌, ◌==◌, Option, Some, None, Bool, true, false, inl, inr, if◌then◌else◌}
+use Rattle.std.proofs.Common.{◌≡◌, ◌≢◌, ℕ, List, [], ◌∷◌, ◌++◌, refl, ap, arith, sym, subst, ◌∙◌, ◌==◌, Option, Some, None, IsSome, Bool, true, false, inl, inr, if◌then◌else◌}
 use Rattle.std.specs.Option.{option_map}
 use Rattle.std.proofs.lemmas.Bool.{cases_eq}
 use Rattle.std.proofs.lemmas.Bool.Decides.{nat_tests}
@@ -15,9 +15,10 @@ use Rattle.helper_link.proofs.OrderLemmas.{remove_rises}
 use Rattle.agent_model.specs.Actions.{Action, Answered}
 use Rattle.agent_model.specs.Answers.{Answering, answer_all, answer_asker, answer_by, answer_true, find_verification, prove, proved_where_open, remove_verification, tell_each}
 use Rattle.agent_model.specs.Fates.{Fate, Fails, Gets, IsTold, Unanswered, answer_verdict, fate_in, fate_of, fate_verdict, or_later, settled_fate, times_answered, times_asked}
-use Rattle.agent_model.specs.Sound.{AreTied}
+use Rattle.agent_model.specs.Sound.{AreNoted, AreTied}
 use Rattle.agent_model.specs.State.{Nothing, OnAsk, Port, Verification, change_port, find_port}
 use Rattle.agent_model.specs.Verdicts.{Awaits, HelperLost, HelperRefused, Refuses, Replies, Signature, SignatureWrong, Success, Verdict, tell, verdict_text, verdict_waits}
+use Rattle.agent_model.proofs.JudgeLemmas.{noted-told}
 use Rattle.agent_model.proofs.PortsLemmas.{find_port-apart, find_port-change_port}
 use Rattle.agent_model.proofs.TieLemmas.{not_asker, tied-told}
 
@@ -96,9 +97,21 @@ as_told verdict one before nothing = record {
   verifications = refl;
 }
 
+-- what an asker is told where the signature of a binding is right: that it is bound, where one is noted
+abbrev pub true_verdict : Option Verification → Verdict
+true_verdict None = Refuses SignatureWrong
+true_verdict (Some verification) = Replies Success
+
+-- what an asker is told of an answer
+abbrev pub told_verdict : Answer → Settled → Answering → Verdict
+told_verdict (answer.Signed signature) one before = Replies (Signature signature)
+told_verdict answer.Refused one before = Refuses HelperRefused
+told_verdict answer.True one before = true_verdict (find_verification one.ask before.verifications)
+told_verdict answer.False one before = Refuses SignatureWrong
+
 as_true : (found : Option Verification) (one : Settled) (before : Answering)
-    → AnswersAs (Replies Success) one before (answer_true found one before)
-as_true None one before = as_told (Replies Success) one before refl
+    → AnswersAs (true_verdict found) one before (answer_true found one before)
+as_true None one before = as_told (Refuses SignatureWrong) one before refl
 as_true (Some verification) one before = record {
   change = prove verification;
   rest = proved_where_open (find_port one.asker before.ports) verification;
@@ -118,13 +131,35 @@ as_true (Some verification) one before = record {
     proved (Some port) ask = (refl, refl, refl)
 
 pub answers_as : (what : Answer) (one : Settled) (before : Answering)
-    → AnswersAs (answer_verdict what) one before (answer_by what one before)
+    → AnswersAs (told_verdict what one before) one before (answer_by what one before)
 answers_as (answer.Signed signature) one before =
     as_told (Replies (Signature signature)) one before refl
 answers_as answer.Refused one before = as_told (Refuses HelperRefused) one before refl
 answers_as answer.True one before =
     as_true (find_verification one.ask before.verifications) one before
 answers_as answer.False one before = as_told (Refuses SignatureWrong) one before refl
+
+-- each ask to verify has its binding, so that what is told is what the helper answered
+verdict-noted : (what : Answer) (one : Settled) (before : Answering) (asks : List Ask)
+    → IsUnanswered one.ask one.asker (kind_answered what) asks → AreNoted before.verifications asks
+    → told_verdict what one before ≡ answer_verdict what
+verdict-noted (answer.Signed signature) one before asks found noted = refl
+verdict-noted answer.Refused one before asks found noted = refl
+verdict-noted answer.True one before asks found noted =
+    by_noted (find_verification one.ask before.verifications)
+    (noted one.ask one.asker found.blob found.put_at found.size found.found)
+  where
+    by_noted : (there : Option Verification) → IsSome there → true_verdict there ≡ Replies Success
+    by_noted None some = absurd (cc)
+    by_noted (Some verification) some = refl
+verdict-noted answer.False one before asks found noted = refl
+
+pub answers_noted : (one : Settled) (before : Answering) (asks : List Ask)
+    → IsUnanswered one.ask one.asker (kind_answered one.answer) asks → AreNoted before.verifications asks
+    → AnswersAs (answer_verdict one.answer) one before (answer_by one.answer one before)
+answers_noted one before asks found noted =
+    subst (λ verdict. AnswersAs verdict one before (answer_by one.answer one before))
+    (verdict-noted one.answer one before asks found noted) (answers_as one.answer one before)
 
 -- what is done at it for an ask
 pub answer-fate : (ask : ℕ) (one : Settled) (before : Answering)
@@ -181,6 +216,21 @@ module _ (low last : ℕ) where
   tied-answers (one ∷ later) before asks left leads rise tied =
       tied-answers later (answer_by one.answer one before) (remove_ask one.ask asks) left leads.1 (remove_rises one.ask low asks last rise) (one_answer one before asks leads.0 rise tied)
 
+  -- the others have their bindings yet
+  noted-left : (one : Settled) (before : Answering) (asks : List Ask) → RiseTo low asks last
+      → AreNoted before.verifications asks
+      → AreNoted (answer_by one.answer one before).verifications (remove_ask one.ask asks)
+  noted-left one before asks rise noted =
+      subst (λ all. AreNoted all (remove_ask one.ask asks)) (sym (answers_as one.answer one before).verifications)
+      (noted-told low last asks rise one.ask before.verifications noted)
+
+  pub noted-answers : (settled : List Settled) (before : Answering) (asks left : List Ask)
+      → LeadTo settled asks left → RiseTo low asks last → AreNoted before.verifications asks
+      → AreNoted (answer_all settled before).verifications left
+  noted-answers [] before asks left leads rise noted = subst (AreNoted before.verifications) (sym leads) noted
+  noted-answers (one ∷ later) before asks left leads rise noted =
+      noted-answers later (answer_by one.answer one before) (remove_ask one.ask asks) left leads.1 (remove_rises one.ask low asks last rise) (noted-left one before asks rise noted)
+
   -- who doesn't wait is told nothing, and what came of its ask stays
   pub told-answers : (number ask : ℕ) (verdict : Verdict) (fate : Fate)
       → verdict_waits verdict ≡ Nothing → ((later : Fate) → or_later fate later ≡ fate)
@@ -200,11 +250,12 @@ module _ (low last : ℕ) where
   -- who waits for an ask is told the first answer to it
   pub fate-answers : (number ask : ℕ) (settled : List Settled) (before : Answering) (asks left : List Ask)
       → LeadTo settled asks left → RiseTo low asks last → AreTied before.ports asks
+      → AreNoted before.verifications asks
       → fate_of ask before.actions ≡ Unanswered → IsTold number (Awaits (OnAsk ask)) before.ports
       → IsTold number (fate_verdict (fate_of ask (answer_all settled before).actions) ask) (answer_all settled before).ports
-  fate-answers number ask [] before asks left leads rise tied is told =
+  fate-answers number ask [] before asks left leads rise tied noted is told =
       subst (λ f. IsTold number (fate_verdict f ask) before.ports) (sym is) told
-  fate-answers number ask (one ∷ later) before asks left leads rise tied is told = elim (cases_eq one.ask ask) [
+  fate-answers number ask (one ∷ later) before asks left leads rise tied noted is told = elim (cases_eq one.ask ask) [
     | inl same ↦
         (let waiting = tied.waits number ask told.port told.found told.waits in
         let asker : Some (ask_of one.ask one.asker (kind_answered one.answer) leads.0.blob leads.0.put_at leads.0.size) ≡ Some (ask_of ask number waiting.kind waiting.blob waiting.put_at waiting.size) = sym leads.0.found ∙ ap (λ n. find_ask n asks) same ∙ waiting.unanswered in
@@ -219,13 +270,16 @@ module _ (low last : ℕ) where
     | inr differs ↦
         (let other : number ≢ one.asker = not_asker before.ports asks tied number one.ask _ (Awaits (OnAsk ask)) leads.0.found told (λ waits. let same : ask ≡ one.ask = cc in differs (sym same)) in
         let test : (one.ask == ask) ≡ false = grind (arith, nat_tests) in
-        fate-answers number ask later (answer_by one.answer one before) (remove_ask one.ask asks) left leads.1 rises tied_on
+        fate-answers number ask later (answer_by one.answer one before) (remove_ask one.ask asks) left leads.1 rises tied_on noted_on
         (answer-fate ask one before ∙ ap (λ f. or_later f (if one.ask == ask then Gets one.answer else Unanswered)) is ∙ ap (λ b. if b then Gets one.answer else Unanswered) test)
         (subst (IsTold number (Awaits (OnAsk ask))) (sym told_as.ports) (told-apart number one.asker (Awaits (OnAsk ask)) told_as.change before.ports told_as.number other told)))
   ]
     where
       told_as : AnswersAs (answer_verdict one.answer) one before (answer_by one.answer one before)
-      told_as = answers_as one.answer one before
+      told_as = answers_noted one before asks leads.0 noted
+
+      noted_on : AreNoted (answer_by one.answer one before).verifications (remove_ask one.ask asks)
+      noted_on = noted-left one before asks rise noted
 
       rises : RiseTo low (remove_ask one.ask asks) last
       rises = remove_rises one.ask low asks last rise

@@ -117,6 +117,7 @@ first-tied settings = record {
   rising = omega arith;
   order = omega arith;
   tied = record { waits = λ number ask port found is. absurd (cc); asks = λ ask one port there found. absurd (cc) };
+  noted = λ ask asker blob put_at size there. absurd (cc);
   askers = λ ask one found. absurd (cc);
   helper = λ number port is found. absurd (cc);
   known = λ number is. absurd (cc);

@@ -22,6 +22,7 @@ use Rattle.agent_model.specs.Consents.{close_confirmer, grant_concluded, over, s
 use Rattle.confirm_desk.specs.Confirmations.{Confirmation, find_job}
 use Rattle.agent_model.specs.Actions.{Lost, Outcome, Work, acted, and_then, stay}
 use Rattle.agent_model.specs.Answers.{Answering, answer_all, close_helper, helper_tells, lose, lose_if, with_answers}
+use Rattle.agent_model.specs.Dispatch.{Asker}
 use Rattle.agent_model.specs.Errands.{Errand, Signs, addition_of, blob_of, kind_of, with_ask}
 use Rattle.agent_model.specs.Events.{Happening, Tick}
 use Rattle.agent_model.specs.Fates.{Fate, Fails, Gets, IsTold, Unanswered, fate_of, fate_verdict, or_later}
@@ -31,8 +32,9 @@ use Rattle.agent_model.specs.State.{Nothing, OnAsk, OnConfirmation, Port, State,
 use Rattle.agent_model.specs.Step.{admitted, asker_at, attempts, take_frame}
 use Rattle.agent_model.specs.Time.{taken_in}
 use Rattle.agent_model.specs.Verdicts.{Awaits, NoLongerAllowed, NotConfirmed, Refuses, Verdict, tell, verdict_waits}
-use Rattle.agent_model.proofs.FateLemmas.{answer-waits, fate-answers, fate-append, tied-answers, tied-lost, told-apart, told-lost, waits-lost}
+use Rattle.agent_model.proofs.FateLemmas.{answer-waits, fate-answers, fate-append, noted-answers, tied-answers, tied-lost, told-apart, told-lost, waits-lost}
 use Rattle.agent_model.proofs.GrantLemmas.{IsGranted, allowed, disallowed, grant-ends, unasked}
+use Rattle.agent_model.proofs.AskedLemmas.{noted-asked}
 use Rattle.agent_model.proofs.GrowLemmas.{jobs-for}
 use Rattle.agent_model.proofs.JobLemmas.{IsIn, in-found}
 use Rattle.agent_model.proofs.LeadLemmas.{Follows, changes, follows-makes, leads-answers, leads-close_confirmer, same}
@@ -71,6 +73,7 @@ module _ (state : State) (tied : IsTied state) where
   lose-tied =
       assemble state (lose state).state (follows-makes Tick state (loses state) record { last = refl; ports = same }) tied (omega arith)
       (tied-lost 0 state.under_way.link.last state.under_way.link.asks _ tied.order (tied-close state.under_way.link.state))
+      (λ ask asker blob put_at size is. absurd (cc))
       (λ ask one is. absurd (cc)) (λ n is. absurd (cc))
       (raised-lost 0 state.under_way.link.last state.under_way.link.asks _ tied.order (tied-close state.under_way.link.state) (raised-close state.under_way.link.state))
 
@@ -112,13 +115,14 @@ module _ (piece : List ℕ) (state : State) (tied : IsTied state) where
       assemble state mid record { last = refl; ports = leads-answers state.ports told.settled before same } tied
       (lead_rise told.settled state.under_way.link.asks told.link.asks 0 state.under_way.link.last leads tied.order)
       (tied-answers 0 state.under_way.link.last told.settled before state.under_way.link.asks told.link.asks leads tied.order tied.tied)
+      (noted-answers 0 state.under_way.link.last told.settled before state.under_way.link.asks told.link.asks leads tied.order tied.noted)
       (λ ask one is. there (is_answered ask told.settled) ask one (sym (lead_others ask told.settled state.under_way.link.asks told.link.asks 0 state.under_way.link.last leads tied.order) ∙ is))
       (λ n is. is)
       (raised-answers 0 state.under_way.link.last told.settled before state.under_way.link.asks told.link.asks leads tied.order tied.tied tied.raised)
 
   told_mid : (number ask : ℕ) → IsTold number (Awaits (OnAsk ask)) state.ports
       → IsTold number (fate_verdict (fate_of ask after.actions) ask) mid.ports
-  told_mid number ask waits = fate-answers 0 state.under_way.link.last number ask told.settled before state.under_way.link.asks told.link.asks leads tied.order tied.tied refl waits
+  told_mid number ask waits = fate-answers 0 state.under_way.link.last number ask told.settled before state.under_way.link.asks told.link.asks leads tied.order tied.tied tied.noted refl waits
 
   fated-fault : (event : Happening) (fault : Option LinkFault)
       → Fated event state (and_then (acted after.actions mid) (lose_if fault))
@@ -210,7 +214,7 @@ module _ (event : Happening) (confirmation : Confirmation) (state : State) (ther
   over_tied verdict nothing =
       assemble state _ (follows-over state.held (without_confirmation confirmation.job uw) verdict) tied tied.order
       (tied-silent rest uw.link.asks rest_tied confirmation.asker (tell verdict) waits_on (λ p. refl) (λ p a is. let no : Nothing ≡ OnAsk a = sym nothing ∙ is in absurd (cc)))
-      tied.askers (λ n is. is)
+      tied.noted tied.askers (λ n is. is)
       (raised-over rest rest_raised confirmation (tell verdict) found_there (λ p. refl) (λ p. refl) (λ p job is. let no : Nothing ≡ OnConfirmation job = sym nothing ∙ is in absurd (cc)))
 
   fated-over : Fated event state (over confirmation state)
@@ -240,9 +244,11 @@ module _ (event : Happening) (confirmation : Confirmation) (state : State) (ther
         let verdict : Verdict = Awaits (OnAsk (link.last + 1)) in
         let errand : Errand = Signs key (signing_of key confirmation) in
         let new : UnderWay = with_ask errand confirmation.asker (without_confirmation confirmation.job uw) in
+        let asker : Asker = record { port = confirmation.asker; chain = port.chain; attempted = port.attempted; mono = state.moment.mono; wall = state.moment.wall } in
         record {
           tied = assemble state _ (follows-over (after_use (addition_of errand) state.held) new verdict) tied (push_rises 0 link.asks link.last confirmation.asker (kind_of errand) (blob_of errand) uw.second (size_of errand (link.last + 1)) tied.order)
               (tied-asked rest link.asks rest_tied confirmation.asker 0 link.last (kind_of errand) (blob_of errand) uw.second (size_of errand (link.last + 1)) port (tell verdict) tied.order (stays_open confirmation.asker port asking.door opened) (waits_on port (stays_open confirmation.asker port asking.door opened)) asking.owed asking.door (λ p. refl) (λ p. refl) (λ p. refl) (λ p none. ap (λ bytes. bytes ++ []) none))
+              (noted-asked asker errand link.last uw.second link.asks uw.verifications tied.order tied.noted)
               (λ ask one is. new_asker (link.last + 1 == ask) (find_ask ask link.asks) (ask_of (link.last + 1) confirmation.asker (kind_of errand) (blob_of errand) uw.second (size_of errand (link.last + 1))) one state.last_port (tied.raised.askers confirmation.job confirmation found_there) (tied.askers ask)
               (sym (find-push ask 0 (ask_of (link.last + 1) confirmation.asker (kind_of errand) (blob_of errand) uw.second (size_of errand (link.last + 1))) link.asks link.last tied.order (omega arith)) ∙ is))
               (λ n is. linked-begun link.state (uw.last_job + 1) n is)
@@ -284,6 +290,7 @@ fated-admitted event door state false tied = record {
         rising_higher 0 state.last_port (suc state.last_port) state.ports (omega arith) tied.rising;
     order = tied.order;
     tied = tied.tied;
+    noted = tied.noted;
     askers = λ ask one found. omega (arith, tied.askers ask one found);
     helper = tied.helper;
     known = λ number is. omega (arith, tied.known number is);
@@ -299,6 +306,7 @@ fated-admitted event door state true tied = record {
       waits = λ number ask port found is. by_port number ask port (found_joined number (suc state.last_port) door state.ports port found) is;
       asks = λ ask one port there found. tied.tied.asks ask one port there (found_known one.asker state.last_port door state.ports port (tied.askers ask one there) found);
     };
+    noted = tied.noted;
     askers = λ ask one found. omega (arith, tied.askers ask one found);
     helper = λ number port is found. tied.helper number port is (found_known number state.last_port door state.ports port (tied.known number is) found);
     known = λ number is. omega (arith, tied.known number is);
@@ -317,4 +325,4 @@ fated-admitted event door state true tied = record {
 -- what a moment takes in leaves it tied
 pub tied-taken : (moment : Moment) (state : State) → IsTied state → IsTied (taken_in moment state)
 tied-taken moment state tied =
-    record { rising = tied.rising; order = tied.order; tied = tied.tied; askers = tied.askers; helper = tied.helper; known = tied.known; raised = tied.raised }
+    record { rising = tied.rising; order = tied.order; tied = tied.tied; noted = tied.noted; askers = tied.askers; helper = tied.helper; known = tied.known; raised = tied.raised }

@@ -22,6 +22,7 @@ use Rattle.agent_model.specs.Sound.{AreTied, IsTied}
 use Rattle.agent_model.specs.State.{Nothing, OnAsk, OnConfirmation, Port, State, UnderWay, change_port, find_port, Waits}
 use Rattle.agent_model.specs.Step.{asker_at, concluded}
 use Rattle.agent_model.specs.Verdicts.{Awaits, Refuses, Replies, Verdict, tell, verdict_waits}
+use Rattle.agent_model.proofs.AskedLemmas.{noted-asked}
 use Rattle.agent_model.proofs.GrowLemmas.{jobs-for}
 use Rattle.agent_model.proofs.LeadLemmas.{Follows, changes, same}
 use Rattle.agent_model.proofs.MakeLemmas.{IsMild}
@@ -93,14 +94,15 @@ module _ (event : Happening) (body : List ℕ) (take : Port → Port) (mild : Is
 
   -- it waits for no ask
   silent : (held : KeyState) (under_way : UnderWay) (verdict : Verdict) (actions : List Action) (put : List ToChildMessage)
-      → under_way.link ≡ state.under_way.link
+      → under_way.link ≡ state.under_way.link → under_way.verifications ≡ state.under_way.verifications
       → AreRaised under_way.confirmations under_way.last_job (change_port port.number (change verdict) state.ports) state.last_port
       → ((ask : ℕ) → verdict_waits verdict ≢ OnAsk ask)
       → ((ask : ℕ) → fate_of ask actions ≡ Unanswered)
       → Fated event state (record { state = left held under_way verdict; actions = actions; put = put; closes = [] })
-  silent held under_way verdict actions put link consents waits fates = record {
+  silent held under_way verdict actions put link verifications consents waits fates = record {
     tied = assemble state (left held under_way verdict) (follows-left held under_way verdict) tied (rw link tied.order)
         (rw link (subst (λ ports. AreTied ports state.under_way.link.asks) (twice verdict) (tied-silent state.ports state.under_way.link.asks tied.tied port.number (change verdict) (waits_not OnAsk (λ n is. absurd (cc))) mild.number (λ p. waits))))
+        (rw (link, verifications) tied.noted)
         (λ ask one is. tied.askers ask one (ap (λ (l : HelperLink). find_ask ask l.asks) (sym link) ∙ is)) (λ n is. ap (λ (l : HelperLink). l.state) (sym link) ∙ is)
         (subst (λ ports. AreRaised under_way.confirmations under_way.last_job ports state.last_port) (twice verdict) consents);
     told = λ number ask open_yet told. subst (λ f. IsTold number (fate_verdict f ask) (left held under_way verdict).ports) (sym (fates ask)) (others held under_way verdict number ask told);
@@ -123,6 +125,7 @@ module _ (event : Happening) (body : List ℕ) (take : Port → Port) (mild : Is
         tied = assemble state (left held new verdict) (follows-left held new verdict) tied (push_rises 0 link.asks link.last port.number (kind_of errand) (blob_of errand) state.under_way.second (size_of errand (link.last + 1)) tied.order)
             (subst (λ ports. AreTied ports new.link.asks) (twice verdict)
             (tied-asked state.ports link.asks tied.tied port.number 0 link.last (kind_of errand) (blob_of errand) state.under_way.second (size_of errand (link.last + 1)) port (change verdict) tied.order found (waits_not OnAsk (λ n is. absurd (cc)) port found) owed door mild.number mild.door (λ p. refl) (λ p none. ap (λ bytes. bytes ++ []) (mild.owed p none))))
+            (noted-asked (asker_at state.moment port) errand link.last state.under_way.second link.asks state.under_way.verifications tied.order tied.noted)
             (λ ask one is. new_asker (link.last + 1 == ask) (find_ask ask link.asks) (ask_of (link.last + 1) port.number (kind_of errand) (blob_of errand) state.under_way.second (size_of errand (link.last + 1))) one state.last_port (found_within port.number 0 state.last_port state.ports port tied.rising found) (tied.askers ask)
             (sym (find-push ask 0 (ask_of (link.last + 1) port.number (kind_of errand) (blob_of errand) state.under_way.second (size_of errand (link.last + 1))) link.asks link.last tied.order (omega arith)) ∙ is))
             (λ n is. linked-begun link.state (state.under_way.last_job + 1) n is)
@@ -135,11 +138,11 @@ module _ (event : Happening) (body : List ℕ) (take : Port → Port) (mild : Is
   pub fated-served : {served : Served}
       → IsServed (asker_at state.moment port) state.held state.under_way served
       → Fated event state (concluded port.number body served (changed port.number take state))
-  fated-served (answered reply kept keeps) = silent kept state.under_way (Replies reply) _ _ refl (quiet (Replies reply) (λ job is. absurd (cc))) (λ ask is. absurd (cc)) (λ ask. refl)
-  fated-served (refused cause) = silent state.held state.under_way (Refuses cause) _ _ refl (quiet (Refuses cause) (λ job is. absurd (cc))) (λ ask is. absurd (cc)) (λ ask. refl)
+  fated-served (answered reply kept keeps) = silent kept state.under_way (Replies reply) _ _ refl refl (quiet (Replies reply) (λ job is. absurd (cc))) (λ ask is. absurd (cc)) (λ ask. refl)
+  fated-served (refused cause) = silent state.held state.under_way (Refuses cause) _ _ refl refl (quiet (Refuses cause) (λ job is. absurd (cc))) (λ ask is. absurd (cc)) (λ ask. refl)
   fated-served (asked errand free right) = puts (after_use (addition_of errand) state.held) errand
   fated-served (raised key signing free) =
       let job : ℕ = state.under_way.last_job + 1 in
-      silent state.held (with_confirmation key (host_for (asker_at state.moment port) key signing) signing port.number state.under_way) (Awaits (OnConfirmation job)) _ _ refl
+      silent state.held (with_confirmation key (host_for (asker_at state.moment port) key signing) signing port.number state.under_way) (Awaits (OnConfirmation job)) _ _ refl refl
       (raised-raised state.ports tied.raised port.number (confirmation_of job (held_for port.number key signing) (prompt_for key.comment key.blob key.purposes (host_for (asker_at state.moment port) key signing) signing.message) state.under_way.second) port (change (Awaits (OnConfirmation job))) refl refl refl (found_within port.number 0 state.last_port state.ports port tied.rising found) found nothing owed door mild.number mild.door (λ p. refl) (λ p none. ap (λ bytes. bytes ++ []) (mild.owed p none)))
       (λ ask is. absurd (cc)) (λ ask. refl)

@@ -24,7 +24,7 @@ use Rattle.agent_model.specs.Sound.{AreChains, IsJudged, IsRising, IsTied}
 use Rattle.agent_model.specs.State.{OnAsk, OnConfirmation, Port, State, UnderWay, change_port, find_port}
 use Rattle.agent_model.specs.Step.{asker_at, attempts, concluded, take_frame}
 use Rattle.agent_model.specs.Verdicts.{Awaits, Cause, HelperLost, NoLongerAllowed, NotConfirmed, Refuses, Replies, Verdict, tell}
-use Rattle.agent_model.proofs.AskedLemmas.{given-asked, judged-asked, noted-asked}
+use Rattle.agent_model.proofs.AskedLemmas.{given-asked, judged-asked}
 use Rattle.agent_model.proofs.BindLemmas.{HoldsAt, bound_after-append, bound_answers, chain_in, holds_answers}
 use Rattle.agent_model.proofs.FatedMakeLemmas.{tied_mid}
 use Rattle.agent_model.proofs.TiedLemmas.{tied-quiet}
@@ -45,7 +45,6 @@ pub record Keeps (old new : State) : Type 0 where
 judged-by : (old new : State) → Keeps old new → IsJudged old → IsJudged new
 judged-by old new keeps judged = record {
   verified = rw (keeps.asks, keeps.verifications) (judged-keeps old.ports new.ports old.under_way.verifications old.under_way.link.asks keeps.ports judged.verified);
-  noted = rw (keeps.asks, keeps.verifications) judged.noted;
   given = rw (keeps.last, keeps.verifications) judged.given;
   chains = chains-keep old.ports new.ports keeps.ports judged.chains;
 }
@@ -107,7 +106,6 @@ module _ (body : List ℕ) (take : Port → Port) (number_kept : (p : Port) → 
       let verdict : Verdict = Awaits (OnAsk (link.last + 1)) in
       record {
         verified = judged-asked asker errand link.last state.under_way.second link.asks state.under_way.verifications tied.order state.ports (ports_after verdict) port (kept verdict) judged.verified judged.given right found refl;
-        noted = noted-asked asker errand link.last state.under_way.second link.asks state.under_way.verifications tied.order judged.noted;
         given = given-asked asker errand link.last state.under_way.second link.asks state.under_way.verifications tied.order right judged.given;
         chains = chains-keep state.ports (ports_after verdict) (kept verdict) judged.chains;
       }
@@ -148,7 +146,6 @@ judged-lost : (state : State) → IsRising 0 state.last_port state.ports → Are
     → IsJudged (lose state).state
 judged-lost state rising chains = record {
   verified = λ ask what one port noted there found. absurd (cc);
-  noted = λ ask asker blob put_at size there. absurd (cc);
   given = λ ask one noted. absurd (cc);
   chains = chains-keep state.ports (lose state).state.ports (keeps-lose state rising) chains;
 }
@@ -171,13 +168,13 @@ module _ (piece : List ℕ) (state : State) (tied : IsTied state) (judged : IsJu
   leads = settling_leads (state.under_way.link.heard ++ piece) state.under_way.link.asks
 
   at_first : HoldsAt 0 state.under_way.link.last before state.under_way.link.asks
-  at_first = record { rise = tied.order; tied = tied.tied; judged = judged.verified; noted = judged.noted; given = judged.given; chains = judged.chains }
+  at_first = record { rise = tied.order; tied = tied.tied; judged = judged.verified; given = judged.given; chains = judged.chains }
 
   at_last : HoldsAt 0 state.under_way.link.last after told.link.asks
   at_last = holds_answers 0 state.under_way.link.last told.settled before state.under_way.link.asks told.link.asks leads at_first
 
   judged_mid : IsJudged mid
-  judged_mid = record { verified = at_last.judged; noted = at_last.noted; given = at_last.given; chains = at_last.chains }
+  judged_mid = record { verified = at_last.judged; given = at_last.given; chains = at_last.chains }
 
   -- a port that is open after the answers was before
   was_open : (number : ℕ) (found : Option Port) → find_port number state.ports ≡ found
@@ -260,7 +257,6 @@ module _ (confirmation : Confirmation) (state : State) (tied : IsTied state) whe
         let kept_over = keeps-over (tell verdict) (λ p. refl) (λ p. refl) in
         by_keeping state _ kept_over (λ number chain. refl) record {
           verified = judged-asked asking errand link.last state.under_way.second link.asks state.under_way.verifications tied.order state.ports _ port kept_over judged.verified judged.given tt found refl;
-          noted = noted-asked asking errand link.last state.under_way.second link.asks state.under_way.verifications tied.order judged.noted;
           given = given-asked asking errand link.last state.under_way.second link.asks state.under_way.verifications tied.order tt judged.given;
           chains = chains-keep state.ports _ kept_over judged.chains;
         }

@@ -64,13 +64,12 @@ module _ (door : Door) (state : State) (tied : IsTied state) (judged : IsJudged 
   goes-admitted : (room : Bool)
       → Goes state (record (stay (with_port room)) { closes = if room then [] else suc state.last_port ∷ [] })
   goes-admitted false = record {
-    judged = record { verified = judged.verified; noted = judged.noted; given = judged.given; chains = judged.chains };
+    judged = record { verified = judged.verified; given = judged.given; chains = judged.chains };
     adds = λ number. record { bound = λ port found. ap chain_of (sym found); silent = λ chain none. refl };
   }
   goes-admitted true = record {
     judged = record {
       verified = λ ask what one port noted there found. judged.verified ask what one port noted there (found_known what.asker state.last_port door state.ports port (tied.askers ask what there) found);
-      noted = judged.noted;
       given = judged.given;
       chains = λ number port found. elim (found_joined number (suc state.last_port) door state.ports port found) [
         | inl was ↦ judged.chains number port was
@@ -105,7 +104,7 @@ keeps-time moment state tied judged =
     (λ s kept. keep (loses s) (λ number chain. refl) kept) (λ one s there kept. keep (overs one s there) (λ number chain. refl) kept)
     record {
       tied = tied-taken moment state tied;
-      judged = record { verified = judged.verified; noted = judged.noted; given = judged.given; chains = judged.chains };
+      judged = record { verified = judged.verified; given = judged.given; chains = judged.chains };
       chains = keeps-same state.ports;
     }
   where
@@ -190,7 +189,6 @@ step-judged state moment event tied judged = record {
 pub first-judged : (settings : Settings) → IsJudged (first_state settings)
 first-judged settings = record {
   verified = λ ask what one port noted there found. absurd (cc);
-  noted = λ ask asker blob put_at size there. absurd (cc);
   given = λ ask one noted. absurd (cc);
   chains = λ number port found. absurd (cc);
 }

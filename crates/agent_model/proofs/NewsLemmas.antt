@@ -17,7 +17,7 @@ use Rattle.agent_model.specs.Consents.{close_confirmer, grant_concluded, over}
 use Rattle.agent_model.specs.KeyStates.{KeyState}
 use Rattle.agent_model.specs.State.{OnAsk, Port, State, UnderWay, Verification, change_port, remove_port}
 use Rattle.agent_model.specs.Time.{at_moment}
-use Rattle.agent_model.specs.Verdicts.{Awaits, Cause, HelperLost, HelperRefused, NoLongerAllowed, NotConfirmed, Refuses, Replies, Reply, Signature, SignatureWrong, Success, Verdict, tell}
+use Rattle.agent_model.specs.Verdicts.{Awaits, Cause, HelperLost, HelperRefused, NoLongerAllowed, NotConfirmed, Refuses, Replies, Reply, Signature, SignatureWrong, Verdict, tell}
 use Rattle.agent_model.proofs.GrantLemmas.{IsGranted, allowed, disallowed, unasked}
 use Rattle.agent_model.proofs.LeadLemmas.{Leads, changes, removes, same}
 use Rattle.agent_model.proofs.TimeLemmas.{at_moment-keeps}
@@ -74,7 +74,7 @@ module _ (old : List Port) where
 
   told-true : (found : Option Verification) (one : Settled) (before : Answering)
       → Told old before.ports → Told old (answer_true found one before).ports
-  told-true None one before told = news one.asker _ before.ports (says _ (replying Success)) told
+  told-true None one before told = news one.asker _ before.ports (says _ (refusing SignatureWrong)) told
   told-true (Some verification) one before told =
       news one.asker _ before.ports (proves verification) told
 

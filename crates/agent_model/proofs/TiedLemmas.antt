@@ -9,7 +9,7 @@ use Rattle.helper_link.specs.declared.state.LinkState.TheVariants as states
 use Rattle.agent_model.specs.Asking.{AreRaised}
 use Rattle.agent_model.specs.Children.{unheard}
 use Rattle.agent_model.specs.Events.{Happening}
-use Rattle.agent_model.specs.Sound.{AreTied, IsTied}
+use Rattle.agent_model.specs.Sound.{AreNoted, AreTied, IsTied}
 use Rattle.agent_model.specs.State.{Port, State, change_port, find_port}
 use Rattle.agent_model.proofs.LeadLemmas.{Follows, follows-quiet, same}
 use Rattle.agent_model.proofs.MakeLemmas.{Quiet, alters, closes, goes_on, links, mild-unheard, mild_of, names, same_asks}
@@ -21,14 +21,16 @@ use Rattle.agent_model.proofs.RunLemmas.{leads-found, leads-rising, rising_behin
 pub assemble : (old new : State) → Follows old new → IsTied old
     → RiseTo 0 new.under_way.link.asks new.under_way.link.last
     → AreTied new.ports new.under_way.link.asks
+    → AreNoted new.under_way.verifications new.under_way.link.asks
     → ((ask : ℕ) (one : Ask) → find_ask ask new.under_way.link.asks ≡ Some one → one.asker ≤ old.last_port)
     → ((number : ℕ) → new.under_way.link.state ≡ states.Linked number → old.under_way.link.state ≡ states.Linked number)
     → AreRaised new.under_way.confirmations new.under_way.last_job new.ports old.last_port
     → IsTied new
-assemble old new follows tied order ties askers linked consents = record {
+assemble old new follows tied order ties noted askers linked consents = record {
   rising = rising_behind old new follows tied.rising;
   order = order;
   tied = ties;
+  noted = noted;
   askers = λ ask one found. rw follows.last (askers ask one found);
   helper = λ number port is found.
       let before = leads-found number 0 old.last_port old.ports port follows.ports tied.rising found in
@@ -57,17 +59,18 @@ linked_number a b is = cc
 pub tied-quiet : {event : Happening} {old new : State} → Quiet event old new → IsTied old
     → IsTied new
 tied-quiet {event = event} {old = old} (alters number f change) tied =
-    assemble old _ (follows-quiet event old (alters number f change) record { last = refl; ports = same }) tied tied.order (tied-fewer old.ports _ _ (fewer-changed number f old.ports (mild_of change)) tied.tied) tied.askers (λ n is. is) (raised-fewer old.ports _ (fewer-changed number f old.ports (mild_of change)) tied.raised)
+    assemble old _ (follows-quiet event old (alters number f change) record { last = refl; ports = same }) tied tied.order (tied-fewer old.ports _ _ (fewer-changed number f old.ports (mild_of change)) tied.tied) tied.noted tied.askers (λ n is. is) (raised-fewer old.ports _ (fewer-changed number f old.ports (mild_of change)) tied.raised)
 tied-quiet {event = event} {old = old} (closes number may) tied =
-    assemble old _ (follows-quiet event old (closes number may) record { last = refl; ports = same }) tied tied.order (tied-fewer old.ports _ _ (fewer-removed number 0 old.last_port old.ports tied.rising) tied.tied) tied.askers (λ n is. is) (raised-fewer old.ports _ (fewer-removed number 0 old.last_port old.ports tied.rising) tied.raised)
+    assemble old _ (follows-quiet event old (closes number may) record { last = refl; ports = same }) tied tied.order (tied-fewer old.ports _ _ (fewer-removed number 0 old.last_port old.ports tied.rising) tied.tied) tied.noted tied.askers (λ n is. is) (raised-fewer old.ports _ (fewer-removed number 0 old.last_port old.ports tied.rising) tied.raised)
 tied-quiet {event = event} {old = old} (goes_on new goes) tied =
-    assemble old _ (follows-quiet event old (goes_on new goes) record { last = refl; ports = same }) tied (rw ((same_asks goes).asks, (same_asks goes).last) tied.order) (rw (same_asks goes).asks tied.tied) (λ ask one found. tied.askers ask one (ap (find_ask ask) (sym (same_asks goes).asks) ∙ found)) (λ n is. sym (same_asks goes).state ∙ is) (rw (same_asks goes).jobs (raised-kept old.ports (same_asks goes).kept tied.raised))
+    assemble old _ (follows-quiet event old (goes_on new goes) record { last = refl; ports = same }) tied (rw ((same_asks goes).asks, (same_asks goes).last) tied.order) (rw (same_asks goes).asks tied.tied) (rw ((same_asks goes).asks, (same_asks goes).verifications) tied.noted) (λ ask one found. tied.askers ask one (ap (find_ask ask) (sym (same_asks goes).asks) ∙ found)) (λ n is. sym (same_asks goes).state ∙ is) (rw (same_asks goes).jobs (raised-kept old.ports (same_asks goes).kept tied.raised))
 tied-quiet {event = event} {old = old} (names job number new) tied =
     let follows = follows-quiet event old {old = old} (names job number new) record { last = refl; ports = same } in
     record {
       rising = leads-rising 0 old.last_port old.ports follows.ports tied.rising;
       order = tied.order;
       tied = tied-fewer old.ports _ _ (fewer-changed number unheard old.ports record { number = λ p. refl; door = λ p. refl; waits = λ p. refl; owed = λ p none. none; chain = λ p. refl }) tied.tied;
+      noted = tied.noted;
       askers = tied.askers;
       helper = λ n q linked there.
           let before = leads-found n 0 old.last_port old.ports q follows.ports tied.rising there in
@@ -85,5 +88,5 @@ tied-quiet {event = event} {old = old} (links job number new) tied =
     let is : Some was.0 ≡ Some new.port = sym was.1 ∙ new.found in
     let equal : was.0 ≡ new.port = cc in
     was.4 ∙ ap (λ (p : Port). p.door) equal ∙ new.door in
-    assemble old _ (follows-quiet event old {old = old} (links job number new) record { last = refl; ports = same }) tied tied.order (tied-fewer old.ports _ _ fewer tied.tied) tied.askers (λ n is. is)
+    assemble old _ (follows-quiet event old {old = old} (links job number new) record { last = refl; ports = same }) tied tied.order (tied-fewer old.ports _ _ fewer tied.tied) tied.noted tied.askers (λ n is. is)
     (raised-linked _ job number child (found_within number 0 old.last_port old.ports new.port tied.rising new.found) (raised-fewer old.ports _ fewer tied.raised))

@@ -58,9 +58,9 @@ answer_asker verdict one before = record {
   actions = before.actions ++ Answered one ∷ [];
 }
 
--- the signature of a binding is right
+-- the signature of a binding is right; nothing is where no binding is noted for the ask
 abbrev pub answer_true : Option Verification → Settled → Answering → Answering
-answer_true None one before = answer_asker (Replies Success) one before
+answer_true None one before = answer_asker (Refuses SignatureWrong) one before
 answer_true (Some verification) one before = record {
   ports = change_port one.asker (prove verification) before.ports;
   verifications = remove_verification one.ask before.verifications;

@@ -73,7 +73,6 @@ AreChains ports = (number : ℕ) (port : Port) → find_port number ports ≡ So
 -- what was judged of bindings that are verified stands yet, and their asks were put
 pub record IsJudged (state : State) : Type 0 where
   pub verified : AreJudged state.ports state.under_way.verifications state.under_way.link.asks
-  pub noted : AreNoted state.under_way.verifications state.under_way.link.asks
   pub given : (ask : ℕ) (one : Verification) → find_verification ask state.under_way.verifications
       ≡ Some one → ask ≤ state.under_way.link.last
   pub chains : AreChains state.ports
@@ -99,12 +98,14 @@ pub record AreTied (ports : List Port) (pending : List Ask) : Type 0 where
       → find_port one.asker ports ≡ Some port → port.waits ≡ OnAsk ask
 
 -- the numbers of the open ports and of the unanswered asks rise up to the last ones, and who waits
--- is tied to the asks; no ask is for a port that hasn't joined, the helper joined through the door
--- of child processes, and what is to be confirmed was raised for who waits for it
+-- is tied to the asks; each ask to verify has its binding; no ask is for a port that hasn't joined, the
+-- helper joined through the door of child processes, and what is to be confirmed was raised for who waits
+-- for it
 pub record IsTied (state : State) : Type 0 where
   pub rising : IsRising 0 state.last_port state.ports
   pub order : RiseTo 0 state.under_way.link.asks state.under_way.link.last
   pub tied : AreTied state.ports state.under_way.link.asks
+  pub noted : AreNoted state.under_way.verifications state.under_way.link.asks
   pub askers : (ask : ℕ) (one : Ask) → find_ask ask state.under_way.link.asks ≡ Some one
       → one.asker ≤ state.last_port
   pub helper : (number : ℕ) (port : Port) → state.under_way.link.state ≡ states.Linked number

@@ -6,6 +6,7 @@
 
 mod cores;
 mod descriptors;
+mod loader;
 mod outside;
 
 use crate::cores::may_dump;
@@ -96,6 +97,11 @@ fn run<W: Wait, I: Source, O: Sink, E: Sink>(
             if may_dump() {
                 let _ = eprintln!(rt;
                     "mortarleek: a core file could hold private keys: set its limit to 0 (ulimit -c 0)"
+                );
+            }
+            if let Some(name) = loader::named_by(rt) {
+                let _ = eprintln!(rt;
+                    "mortarleek: {name} was set: what it names runs in the agent, beside its keys"
                 );
             }
             serve(rt, wait, &words, served, input, output, errors)

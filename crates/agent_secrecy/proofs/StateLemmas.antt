@@ -19,7 +19,7 @@ use Rattle.agent_model.specs.Errands.{Signs}
 use Rattle.agent_model.specs.KeyStates.{after_use}
 use Rattle.agent_model.specs.Objections.{objection}
 use Rattle.agent_model.specs.State.{Port, State, UnderWay, Verification, change_port, find_port}
-use Rattle.agent_model.specs.Verdicts.{Cause, HelperLost, HelperRefused, NoLongerAllowed, NotConfirmed, Refuses, Replies, Signature, SignatureWrong, Success, Verdict, tell}
+use Rattle.agent_model.specs.Verdicts.{Cause, HelperLost, HelperRefused, NoLongerAllowed, NotConfirmed, Refuses, Replies, Signature, SignatureWrong, Verdict, tell}
 use Rattle.agent_secrecy.specs.Hiding.{Seen, SeenWork, bare, hide_held, hide_key, hide_link, hide_message, hide_port, hide_ports, hide_state, hide_under_way, seen, work_bare, work_seen}
 use Rattle.agent_secrecy.proofs.BlankLemmas.{blank-twice}
 use Rattle.agent_secrecy.proofs.TableLemmas.{after_use-hidden, find_number-hidden}
@@ -128,7 +128,7 @@ module _ (key : List ℕ → List ℕ) (keeps : (bytes : List ℕ) → length (k
 
   answer_true-hidden : (found : Option Verification) (one : Settled) (before : Answering)
       → answer_true found one (hide_answering before) ≡ hide_answering (answer_true found one before)
-  answer_true-hidden None one before = answer_asker-hidden (Replies Success) one before
+  answer_true-hidden None one before = answer_asker-hidden (Refuses SignatureWrong) one before
   answer_true-hidden (Some verification) one before =
       ap (λ ports. let new : Answering = record { ports = ports; verifications = remove_verification one.ask before.verifications; actions = before.actions ++ Answered one ∷ proved_where_open (find_port one.asker (hide_ports heard before.ports)) verification } in new)
       (change_port-hidden heard one.asker (prove verification) (prove verification) before.ports (λ port found. refl))

@@ -6,6 +6,7 @@ use Rattle.agent_laws.specs.History.{HasNumbers}
 use Rattle.agent_model.specs.Events.{Timed}
 use Rattle.agent_model.specs.Runs.{AllFit, run}
 use Rattle.agent_model.specs.State.{Settings, State, first_state}
+use Rattle.question_laws.proofs.AddedLemmas.{asked-so}
 use Rattle.agent_top.specs.LawfulRun.{IsLawfulRun}
 
 pub lawful_run : (settings : Settings) (events : List Timed) (end : State)
@@ -17,4 +18,5 @@ lawful_run settings events end fit is = record {
   lawful = λ numbers. first-lawful settings events (subst HasNumbers is numbers);
   answered = first-answered settings events;
   put = first-puts settings events;
+  questions = asked-so settings events;
 }

@@ -14,10 +14,11 @@ use Rattle.loop_model.specs.Lines.{IsQuiet}
 use Rattle.loop_model.specs.Things.{same_door, same_thing}
 use Rattle.loop_model.specs.declared.thing.Thing.{Thing}
 use Rattle.loop_model.proofs.FairnessLemmas.{served_between}
+use Rattle.loop_model.proofs.JobLemmas.{started-first}
 use Rattle.loop_model.proofs.QuietLemmas.{quiet_taken}
 use Rattle.ready_loop.specs.Serving.{Setting, Stage, Unbound, Running, Refused, after_bind, begun, bound, gone_on, may_come, ran}
 use Rattle.ready_loop.proofs.ServingLemmas.{ran-append}
-use Rattle.agent_top.specs.ServeFair.{IsFair, ServesFairly}
+use Rattle.agent_top.specs.ServeFair.{IsFair, ServesEach, ServesFairly, StartsFirst}
 
 -- ---- one part after another
 
@@ -156,9 +157,9 @@ fair_by setting from reading to thing other between after first last quiet legal
     served_between from front.0 thing other first last between quiet front.1 service again apart
     (ap (λ (found : Option LoopState). option_map_or (λ (t : LoopState). waits_on other t between) found true) (leads_there setting from reading first reached) ∙ waits)
 
-fair : (setting : Setting) (calls : List Entry) (to : Stage) → ran setting Unbound calls ≡ Some to
-    → IsFair setting calls
-fair setting calls to legal = λ thing other before between after first last reading split once again apart reached waits.
+serves-each : (setting : Setting) (calls : List Entry) (to : Stage) → ran setting Unbound calls ≡ Some to
+    → ServesEach setting calls
+serves-each setting calls to legal = λ thing other before between after first last reading split once again apart reached waits.
     let whole = ap (ran setting Unbound) (sym split) ∙ legal in
     let start = ran-split setting Unbound to before (first ∷ (between ++ last ∷ after)) whole in
     let next = then_some (λ (stage : Stage). ran setting stage (between ++ last ∷ after)) (gone_on setting start.0 first) to start.2 in
@@ -171,6 +172,22 @@ fair setting calls to legal = λ thing other before between after first last rea
     (ap (λ (stage : Stage). ran setting stage (first ∷ [])) (sym (same ∙ runs.1)) ∙ there.2)
     once again apart waits
 
+-- ---- a job that waits
+
+starts-first : (setting : Setting) (calls : List Entry) (to : Stage) → ran setting Unbound calls ≡ Some to
+    → StartsFirst setting calls
+starts-first setting calls to legal = λ before after next reading split reached free some.
+    let whole = ap (ran setting Unbound) (sym split) ∙ legal in
+    let start = ran-split setting Unbound to before (next ∷ after) whole in
+    let same : start.0 ≡ Running reading = (let both : Some start.0 ≡ Some (Running reading) = sym start.1 ∙ reached in cc) in
+    let there = subst (λ (stage : Stage). ran setting stage (next ∷ after) ≡ Some to) same start.2 in
+    let step = then_some (λ (stage : Stage). ran setting stage after) (gone_on setting (Running reading) next) to there in
+    let one = turns setting reading next step.0 step.1 in
+    started-first reading one.0 next free some one.1
+
 pub serves_fairly : (setting : Setting) (old new : Option (List Entry))
     → ServesFairly setting old new
-serves_fairly setting old new = λ calls to told legal. fair setting calls to legal
+serves_fairly setting old new = λ calls to told legal. record {
+  each = serves-each setting calls to legal;
+  jobs = starts-first setting calls to legal;
+}

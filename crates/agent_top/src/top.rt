@@ -39,7 +39,8 @@ use world_ports::{Sink, Source, World};
 ///
 /// With each of these commands a signature is put to the helper exactly where what was done before says so, while
 /// neither the numbers of asks nor those of jobs are spent: `lawful`, `serves_lawfully` and `drills_lawfully`. With `serve`
-/// each thing that is ready and can be served is served between two services of any other: `serves_fairly`.
+/// each thing that is ready and can be served is served between two services of any other, and a child process that is to be
+/// started before any of them: `serves_fairly`.
 ///
 /// What the clauses say stands in specs/Program.antt, DrillProgram.antt, ServeProgram.antt, ServeLaw.antt, LawfulRun.antt,
 /// ServeFair.antt and RecordProgram.antt, whose heads name where to read on, down to the table of requests.

@@ -1,8 +1,7 @@
 //! Many clients at once, most of them quiet.
 
 use crate::counted::Counted;
-use crate::scripts::{EMPTY, LIST, connect, ends, play, play_with, send, takes};
-use ready_loop::ServeEnd;
+use crate::scripts::{LIST, connect, play_with, send};
 use std::alloc::{AllocError, Global};
 use std::sync::Wait;
 use std::test::*;
@@ -47,8 +46,7 @@ fn asking(
 // How often the agent is asked in these turns.
 fn looks<R: Wait>(rt: &R, alloc: Global, turns: Vec<Vec<Cue>>) -> usize {
     let mut counted = Counted::new(alloc);
-    let script = (turns, Vec::new(alloc));
-    let (_end, _world) = play_with(rt, alloc, &mut counted, script, false);
+    let (_end, _world) = play_with(rt, alloc, &mut counted, turns);
     counted.looks()
 }
 
@@ -98,27 +96,5 @@ fn clients_that_send_more_than_is_wanted_cost_a_request_no_look(
     assert!(rt; beside_one > 0);
     assert_eq!(rt; cost(&rt, alloc, 128, false)?, beside_one);
     assert!(rt; beside_one <= cost(&rt, alloc, 2, true)?);
-    Ok(())
-}
-
-// So many clients connect, and send one request each.
-fn requests_of(alloc: Global, clients: u64) -> Result<Vec<Vec<Cue>>, AllocError> {
-    let mut sends = Vec::new(alloc);
-    for port in 0..clients {
-        sends.push(send(alloc, port.saturating_add(1), LIST)?)?;
-    }
-    Ok(vec![in alloc; connects(alloc, clients as usize)?, sends]?)
-}
-
-#[test]
-fn a_crowd_is_served_but_for_one_too_many(rt: HostRuntime) -> Result<(), Fail> {
-    let alloc = rt.alloc();
-    let turns = requests_of(alloc, 129)?;
-    let (end, world) = play(&rt, alloc, turns, Vec::new(alloc), false);
-    ends(&rt, end, ServeEnd::Over);
-    for port in 1..129 {
-        takes(&rt, alloc, &world, port, EMPTY);
-    }
-    takes(&rt, alloc, &world, 129, b"");
     Ok(())
 }

@@ -1,4 +1,4 @@
-//! Tests of the readiness loop over scripted worlds.
+//! Tests of the readiness loop over scripted worlds: what many clients cost, and refused memory.
 //! Stands on ready_loop, agent_core and world_ports.
 #![tactic(auto)]
 
@@ -9,8 +9,4 @@ mod crowd_tests;
 #[cfg(test)]
 mod failing_tests;
 #[cfg(test)]
-mod helper_tests;
-#[cfg(test)]
 mod scripts;
-#[cfg(test)]
-mod tests;

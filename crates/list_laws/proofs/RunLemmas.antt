@@ -99,7 +99,7 @@ opens-moment moment state tied judged =
     })
     record {
       tied = tied-taken moment state tied;
-      judged = record { verified = judged.verified; noted = judged.noted; given = judged.given; chains = judged.chains };
+      judged = record { verified = judged.verified; given = judged.given; chains = judged.chains };
       held = refl;
       time = refl;
       chains = keeps-same state.ports;

@@ -22,7 +22,7 @@ use Rattle.agent_model.specs.Runs.{Stamped}
 use Rattle.agent_model.specs.Sound.{IsRising, IsTied}
 use Rattle.agent_model.specs.State.{Port, State, Verification, change_port, find_port, remove_port}
 use Rattle.agent_model.specs.Step.{attempts}
-use Rattle.agent_model.specs.Verdicts.{HelperLost, HelperRefused, Refuses, Replies, Signature, SignatureWrong, Success, Verdict, tell}
+use Rattle.agent_model.specs.Verdicts.{HelperLost, HelperRefused, Refuses, Replies, Signature, SignatureWrong, Verdict, tell}
 use Rattle.agent_model.proofs.ActionLemmas.{Each}
 use Rattle.agent_model.proofs.FatedMakeLemmas.{tied_mid}
 use Rattle.agent_model.proofs.MakeLemmas.{Change, Quiet, alters, closes, goes_on, hears, links, names, takes}
@@ -169,7 +169,7 @@ tries-told at verdict ports = tries-changed at (tell verdict) ports (λ p. refl)
 
 tries-true : (found : Option Verification) (one : Settled) (before : Answering)
     → KeepTries before.ports (answer_true found one before).ports
-tries-true None one before = tries-told one.asker (Replies Success) before.ports
+tries-true None one before = tries-told one.asker (Refuses SignatureWrong) before.ports
 tries-true (Some verification) one before =
     tries-changed one.asker (prove verification) before.ports (λ p. refl) (λ p. refl)
 

@@ -36,21 +36,20 @@ use Rattle.helper_link.proofs.OrderLemmas.{remove_rises}
 use Rattle.agent_core.specs.Settlings.{AreShortAnswers, IsShortAnswer}
 use Rattle.agent_core.proofs.ShortLemmas.{told_short}
 use Rattle.agent_model.specs.Actions.{Outcome, Work}
-use Rattle.agent_model.specs.Answers.{Answering, answer_all, answer_by, answers_in, close_helper, lose, lose_if, tell_each, with_answers}
+use Rattle.agent_model.specs.Answers.{Answering, answer_all, answer_by, answers_in, close_helper, find_verification, lose, lose_if, tell_each, with_answers}
 use Rattle.agent_model.specs.Binds.{agent_request_of}
 use Rattle.agent_model.specs.Children.{unheard}
 use Rattle.agent_model.specs.Consents.{close_confirmer, grant_work}
 use Rattle.agent_model.specs.Limits.{last_number}
 use Rattle.agent_model.specs.Dispatch.{Asker, Served, add_by, add_fault, add_seen, add_unless, answers, refuses, sees, serve, serve_by}
 use Rattle.agent_model.specs.Events.{Happening, Tick, Timed}
-use Rattle.agent_model.specs.Fates.{answer_verdict}
 use Rattle.agent_model.specs.KeyStates.{KeyState, after_use, shown}
 use Rattle.agent_model.specs.Sound.{AreTied, IsRising, IsTied}
-use Rattle.agent_model.specs.State.{Port, Settings, State, UnderWay, change_port, find_port, first_state, remove_port}
+use Rattle.agent_model.specs.State.{Port, Settings, State, UnderWay, Verification, change_port, find_port, first_state, remove_port}
 use Rattle.agent_model.specs.Step.{admitted, asker_at, attempts, handle, has_room, step, take_frame}
 use Rattle.agent_model.specs.Time.{at_moment}
 use Rattle.agent_model.specs.Verdicts.{AdditionsSpent, Cause, HelperLost, Identities, ListFull, Locked, NotConfirmed, NotVisible, Refuses, Success, Verdict, tell, verdict_text}
-use Rattle.agent_model.proofs.FateLemmas.{answers_as, one_answer, one_lost}
+use Rattle.agent_model.proofs.FateLemmas.{answers_as, one_answer, one_lost, told_verdict, true_verdict}
 use Rattle.agent_model.proofs.FatedLemmas.{first-tied, step-fated, tied-opened}
 use Rattle.agent_model.proofs.FatedMakeLemmas.{fated-makes, lose-tied, tied-close, tied-taken, tied_mid}
 use Rattle.agent_model.proofs.GrantLemmas.{IsGranted, allowed, disallowed, grant-ends, unasked}
@@ -264,12 +263,17 @@ asker-unowed : (ask : ℕ) (one : Ask) (ports : List Port) (asks : List Ask) →
 asker-unowed ask one ports asks tied there p found =
     (tied.waits one.asker ask p found (tied.asks ask one p there found)).owed
 
-answer-short : (what : Answer) → IsShortAnswer what → length (verdict_text (answer_verdict what)) ≤ 4 + longest_body
-answer-short (answer.Signed signature) short =
+true-short : (found : Option Verification) → length (verdict_text (true_verdict found)) ≤ 4 + longest_body
+true-short None = short-status 5
+true-short (Some verification) = short-status 6
+
+answer-short : (what : Answer) (one : Settled) (before : Answering) → IsShortAnswer what
+    → length (verdict_text (told_verdict what one before)) ≤ 4 + longest_body
+answer-short (answer.Signed signature) one before short =
     omega (arith, length-string (14 ∷ string signature), length-string signature, short)
-answer-short answer.Refused short = short-status 5
-answer-short answer.True short = short-status 6
-answer-short answer.False short = short-status 5
+answer-short answer.Refused one before short = short-status 5
+answer-short answer.True one before short = true-short (find_verification one.ask before.verifications)
+answer-short answer.False one before short = short-status 5
 
 short-answers : (low last : ℕ) (settled : List Settled) (before : Answering) (asks left : List Ask) → LeadTo settled asks left
     → RiseTo low asks last → AreTied before.ports asks → AreShortAnswers settled → AreShort before.ports
@@ -280,7 +284,7 @@ short-answers low last (one ∷ later) before asks left leads rise tied fits sho
     let next : Answering = answer_by one.answer one before in
     short-answers low last later next (remove_ask one.ask asks) left leads.1 (remove_rises one.ask low asks last rise) (one_answer low last one before asks leads.0 rise tied) fits.1
     (subst AreShort (sym told_as.ports)
-    (short-told one.asker told_as.change (answer_verdict one.answer) before.ports told_as.number told_as.door told_as.owed (answer-short one.answer fits.0)
+    (short-told one.asker told_as.change (told_verdict one.answer one before) before.ports told_as.number told_as.door told_as.owed (answer-short one.answer one before fits.0)
     (λ p found door. asker-unowed one.ask _ before.ports asks tied leads.0.found p found) short))
 
 short-tell_each : (low last : ℕ) (asks : List Ask) (ports : List Port) → RiseTo low asks last → AreTied ports asks

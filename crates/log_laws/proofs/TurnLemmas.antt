@@ -144,7 +144,7 @@ module _ (number : ℕ) (may : Type 0) where
       → (number ≡ one.asker → (port.waits ≢ Nothing) × (port.owed ≡ []))
       → Turned port (answer_true found one before).ports
   turn-true None one before port here waiting =
-      turn-tell one.asker (Replies Success) before.ports port (λ none. absurd (cc)) here waiting
+      turn-tell one.asker (Refuses SignatureWrong) before.ports port (λ none. absurd (cc)) here waiting
   turn-true (Some verification) one before port here waiting =
       turn-told one.asker (prove verification) (Replies Success) before.ports port (λ p. refl) (λ p. refl) (λ p. refl) (λ p. refl) (λ p. refl) (λ none. absurd (cc)) here waiting
 

@@ -21,7 +21,7 @@ use Rattle.agent_model.specs.State.{Fits, Port, State, find_port, find_to_start,
 use Rattle.agent_model.specs.Step.{step}
 use Rattle.loop_model.specs.Dues.{Closing, Due, Free, Nothing, NowFor, Polling, due_after, due_look, due_of, is_free}
 use Rattle.loop_model.specs.Fitting.{AreOfOneRead, AreTyped, IsMoment, IsOfOneRead, IsTyped, OfDue, journal_events}
-use Rattle.loop_model.specs.LegalJournal.{LoopState, after_entries, after_entry, after_if_legal, closed_by, comes_next, events_brought, in_state, is_first_job, is_read, is_taken, same_kind}
+use Rattle.loop_model.specs.LegalJournal.{LoopState, after_entries, after_entry, after_if_legal, closed_by, comes_next, events_brought, in_state, is_first_job, is_read, is_taken, may_serve, same_kind}
 use Rattle.loop_model.specs.Lines.{Line, is_idle}
 use Rattle.loop_model.specs.Queues.{first_servable, is_next}
 use Rattle.loop_model.specs.Servable.{is_servable}
@@ -86,7 +86,7 @@ bytes_read : (reading : LoopState) (port room n : ℕ) (bytes : List ℕ)
 bytes_read reading port room n bytes may =
     let next = is_next reading.state reading.line.queue (Read port) in
     let read = is_read room bytes (Ok (got.Bytes n)) in
-    let whole = (and_both next ((room == read_room) && read) (and_both (is_free reading.due) (next && ((room == read_room) && read)) may).1).1 in
+    let whole = (and_both next ((room == read_room) && read) (and_both (may_serve reading) (next && ((room == read_room) && read)) may).1).1 in
     let both = and_both (room == read_room) read whole in
     let some = read_some room n bytes both.1 in
     let same : room ≡ read_room = (Decides-eqb room read_room).0 both.0 in
@@ -100,7 +100,7 @@ bytes_taken reading port n offered may =
     let next = is_next reading.state reading.line.queue (Write port) in
     let same = bytes_eq offered (owed_of port reading.state) in
     let taken = is_taken (length offered) (Ok (wrote.Took n)) in
-    let whole = (and_both next (same && taken) (and_both (is_free reading.due) (next && (same && taken)) may).1).1 in
+    let whole = (and_both next (same && taken) (and_both (may_serve reading) (next && (same && taken)) may).1).1 in
     let both = and_both same taken whole in
     let some = taken_some (length offered) n both.1 in
     (some.0, some.1, (bytes_decides offered (owed_of port reading.state)).0 both.0)

@@ -6,7 +6,7 @@ use Rattle.world_ports.specs.declared.entry.Entry.{Entry}
 use Rattle.world_ports.specs.declared.entry.Entry.TheVariants as entry
 use Rattle.agent_model.specs.State.{State, owed_of}
 use Rattle.loop_model.specs.Dues.{is_free}
-use Rattle.loop_model.specs.LegalJournal.{LoopState, after_entries, after_entry, after_if, after_if_legal, comes_next, is_read, is_taken}
+use Rattle.loop_model.specs.LegalJournal.{LoopState, after_entries, after_entry, after_if, after_if_legal, comes_next, is_read, is_taken, may_serve}
 use Rattle.world_ports.specs.Worlds.{read_room}
 use Rattle.loop_model.specs.Queues.{is_next}
 use Rattle.loop_model.specs.declared.thing.Thing.{Thing}
@@ -55,15 +55,15 @@ pub in_turn : (reading : LoopState) (next : Entry) â†’ comes_next reading next â
 in_turn reading (entry.Bind door path answer) may = refl
 in_turn reading (entry.Poll wait items answer) may = refl
 in_turn reading (entry.Accept door answer) may =
-    (and_both (is_free reading.due) (is_next reading.state reading.line.queue (Accept door)) may).1
+    (and_both (may_serve reading) (is_next reading.state reading.line.queue (Accept door)) may).1
 in_turn reading (entry.Read port room bytes answer) may =
     let next = is_next reading.state reading.line.queue (Read port) in
     let whole = (room == read_room) && is_read room bytes answer in
-    (and_both next whole (and_both (is_free reading.due) (next && whole) may).1).0
+    (and_both next whole (and_both (may_serve reading) (next && whole) may).1).0
 in_turn reading (entry.Write port offered answer) may =
     let next = is_next reading.state reading.line.queue (Write port) in
     let owed = bytes_eq offered (owed_of port reading.state) && is_taken (length offered) answer in
-    (and_both next owed (and_both (is_free reading.due) (next && owed) may).1).0
+    (and_both next owed (and_both (may_serve reading) (next && owed) may).1).0
 in_turn reading (entry.Close port answer) may = refl
 in_turn reading (entry.Start job answer) may = refl
 in_turn reading (entry.Now answer) may = refl

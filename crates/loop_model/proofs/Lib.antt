@@ -3,6 +3,7 @@ pub mod TestLemmas
 pub mod FilterLemmas
 pub mod AsideLemmas
 pub mod JournalLemmas
+pub mod JobLemmas
 pub mod FrontLemmas
 pub mod FittingLemmas
 pub mod ClosedLemmas

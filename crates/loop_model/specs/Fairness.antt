@@ -2,13 +2,14 @@
 use Rattle.std.specs.List.{filter}
 use Rattle.std.specs.Option.{option_map_or}
 use Rattle.std.specs.Prelude.{◌≡◌, Bool, true, false, List, [], ◌∷◌, ◌++◌, ◌&&◌}
+use Rattle.world_ports.specs.declared.events.Job.{Job}
 use Rattle.world_ports.specs.declared.entry.Entry.{Entry}
 use Rattle.world_ports.specs.declared.entry.Entry.TheVariants as entry
 use Rattle.loop_model.specs.Servable.{is_servable}
 use Rattle.loop_model.specs.Things.{same_thing, set_of}
 use Rattle.loop_model.specs.declared.thing.Thing.{Thing}
 use Rattle.loop_model.specs.declared.thing.Thing.TheVariants.{Accept, Read, Write}
-use Rattle.loop_model.specs.LegalJournal.{LoopState, after_if_legal}
+use Rattle.loop_model.specs.LegalJournal.{LoopState, after_if_legal, is_first_job}
 use Rattle.loop_model.specs.Lines.{hot_of}
 
 -- ---- a service
@@ -19,6 +20,11 @@ is_service thing (entry.Accept door answer) = same_thing (Accept door) thing
 is_service thing (entry.Read port room bytes answer) = same_thing (Read port) thing
 is_service thing (entry.Write port offered answer) = same_thing (Write port) thing
 is_service thing other = false
+
+-- the call starts the first of these jobs
+abbrev pub starts_first : List Job → Entry → Bool
+starts_first jobs (entry.Start job answer) = is_first_job job jobs
+starts_first jobs other = false
 
 -- this thing, where the list has it
 abbrev pub only_if : Bool → Thing → List Thing

@@ -1,6 +1,6 @@
 -- Which journals of a world are legal for the abstract agent, each thing being served in its turn (ours): a fold over
 -- their entries. Read from the end.
-use Rattle.std.specs.Prelude.{ℕ, Bool, true, false, List, [], ◌∷◌, length, Option, Some, None, Result, Ok, Err, ◌==◌, ◌&&◌, nat_eq, nat_le, nat_lt, option_and_then}
+use Rattle.std.specs.Prelude.{ℕ, Bool, true, false, List, [], ◌∷◌, length, Option, Some, None, Result, Ok, Err, ◌==◌, ◌&&◌, nat_eq, nat_le, nat_lt, not, option_and_then}
 use Rattle.std.specs.Option.{option_eq}
 use Rattle.std.specs.Str.{bytes_eq}
 use Rattle.world_ports.specs.declared.answers.Got.{Got}
@@ -21,6 +21,7 @@ use Rattle.loop_model.specs.Calls.{Move, moved}
 use Rattle.loop_model.specs.Dues.{Due, Free, NowFor, due_after, is_closing, is_free, is_polling, reads_clock, wait_of}
 use Rattle.loop_model.specs.Lines.{Line, is_idle}
 use Rattle.loop_model.specs.Queues.{is_next}
+use Rattle.loop_model.specs.Servable.{has_job}
 use Rattle.loop_model.specs.declared.thing.Thing.TheVariants.{Accept, Read, Write}
 use Rattle.world_ports.specs.Worlds.{read_room}
 
@@ -57,18 +58,22 @@ abbrev pub is_taken : ℕ → Result Wrote WorldFault → Bool
 is_taken offered (Ok (wrote.Took n)) = nat_lt 0 n && nat_le n offered
 is_taken offered other = true
 
--- the first thing of the queue that can be served, the first job that waits, or what has to come
+-- a thing may be served: any call may come, and no job waits to be started
+abbrev pub may_serve : LoopState → Bool
+may_serve reading = is_free reading.due && not (has_job (starts reading.state))
+
+-- the first job that waits, or else the first thing of the queue that can be served, or what has to come
 abbrev pub comes_next : LoopState → Entry → Bool
 comes_next reading (entry.Bind door path answer) = false
 comes_next reading (entry.Poll wait items answer) =
     is_polling reading.due && option_eq nat_eq wait (wait_of reading.state)
 comes_next reading (entry.Accept door answer) =
-    is_free reading.due && is_next reading.state reading.line.queue (Accept door)
+    may_serve reading && is_next reading.state reading.line.queue (Accept door)
 comes_next reading (entry.Read port room bytes answer) =
-    is_free reading.due
+    may_serve reading
     && (is_next reading.state reading.line.queue (Read port) && ((room == read_room) && is_read room bytes answer))
 comes_next reading (entry.Write port offered answer) =
-    is_free reading.due
+    may_serve reading
     && (is_next reading.state reading.line.queue (Write port)
     && (bytes_eq offered (owed_of port reading.state) && is_taken (length offered) answer))
 comes_next reading (entry.Close port answer) = is_closing port reading.due

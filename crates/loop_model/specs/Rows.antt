@@ -7,6 +7,8 @@ use Rattle.world_ports.specs.declared.answers.Got.TheVariants as got
 use Rattle.world_ports.specs.declared.answers.Polled.TheVariants as polled
 use Rattle.world_ports.specs.declared.answers.Spot.TheVariants as spot
 use Rattle.world_ports.specs.declared.answers.Wrote.TheVariants as wrote
+use Rattle.world_ports.specs.declared.events.JobKind.{JobKind}
+use Rattle.world_ports.specs.declared.events.JobKind.TheVariants as jobs
 use Rattle.world_ports.specs.declared.entry.Entry.{Entry}
 use Rattle.world_ports.specs.declared.entry.Entry.TheVariants as entry
 use Rattle.helper_link.specs.HelperLink.{ask_of, no_link}
@@ -40,6 +42,15 @@ waiting_client = record (first_state (record { life = None; limits = record { as
   under_way = record (nothing_under_way (record { ask = Some 60; confirmation = None })) {
     link = record no_link { state = states.Starting 1; asks = ask_of 1 1 kinds.Signing [] 0 25 ∷ []; last = 1 };
     last_job = 1;
+  };
+}
+
+-- so, and two jobs wait to be started: the helper's, and then a confirmation's
+abbrev pub with_jobs : State → State
+with_jobs state = record state {
+  under_way = record state.under_way {
+    to_start = record { number = 1; kind = jobs.Helper } ∷ record { number = 2; kind = jobs.Confirm } ∷ [];
+    last_job = 2;
   };
 }
 
@@ -110,6 +121,10 @@ write_of number bytes count = entry.Write number bytes (Ok (wrote.Took count))
 -- the port is closed
 abbrev pub close_of : ℕ → Entry
 close_of number = entry.Close number (Ok tt)
+
+-- the job is started
+abbrev pub start_of : ℕ → JobKind → Entry
+start_of number kind = entry.Start (record { number = number; kind = kind }) (Ok [])
 
 -- a client that joins, with the moment of its joining, behind a look and a wait
 abbrev pub joins : List Entry → List Entry

@@ -14,14 +14,14 @@ pub use laws::{
     no_wait_ends_before_it_is_due, nothing_waits_at_a_poll, the_events_of_a_journal_fit,
 };
 pub use order::{
-    all_wait_their_turn, nothing_that_is_ready_is_lost, the_list_goes_round,
-    the_list_holds_what_can_be_served,
+    a_job_is_started_first, all_wait_their_turn, nothing_that_is_ready_is_lost,
+    the_list_goes_round, the_list_holds_what_can_be_served,
 };
 pub use rows::{
     a_call_out_of_turn_is_refused, a_client_that_joined_is_served_first, a_wait_follows_a_look,
     an_event_ends_what_was_served, only_what_is_ready_is_tried,
     what_can_be_served_again_comes_back, what_cant_be_served_is_set_aside,
     what_is_due_is_told_before_a_wait, what_is_owed_is_written, what_is_ready_stands_once,
-    what_was_served_stands_last,
+    what_is_to_be_started_is_started_first, what_was_served_stands_last,
 };
 pub use thing::Thing;

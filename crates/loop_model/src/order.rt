@@ -8,15 +8,16 @@ ghost use Rattle.world_ports.specs.declared.events.Moment.{Moment};
 ghost use Rattle.loop_model.specs.Aside.{things_aside};
 ghost use Rattle.loop_model.specs.Things.{same_thing, set_of};
 ghost use Rattle.loop_model.specs.declared.thing.Thing.{Thing};
-ghost use Rattle.loop_model.specs.Fairness.{GoesRound, KeepsOrder, is_service, waits_on};
+ghost use Rattle.loop_model.specs.Dues.{is_free};
+ghost use Rattle.loop_model.specs.Fairness.{GoesRound, KeepsOrder, is_service, starts_first, waits_on};
 ghost use Rattle.loop_model.specs.LegalJournal.{LoopState, after_entries, after_if_legal};
 ghost use Rattle.agent_model.specs.Events.{Happening};
 ghost use Rattle.agent_model.specs.Sound.{IsRising};
-ghost use Rattle.agent_model.specs.State.{State};
+ghost use Rattle.agent_model.specs.State.{State, starts};
 ghost use Rattle.agent_model.specs.Step.{step};
 ghost use Rattle.loop_model.specs.Lines.{IsListed, IsOrdered, IsQuiet, Line, after_event};
 ghost use Rattle.loop_model.specs.Queues.{AreApart, dropped, is_next};
-ghost use Rattle.loop_model.specs.Servable.{is_servable};
+ghost use Rattle.loop_model.specs.Servable.{has_job, is_servable};
 
 /// What the list holds can be served, and what is set aside can't be, where that was so before, as when a run begins.
 pub fn the_list_holds_what_can_be_served()
@@ -50,6 +51,13 @@ pub fn all_wait_their_turn()
         → is_service thing first ≡ true → is_service thing last ≡ true → same_thing thing other ≡ false
         → option_map_or (λ after. waits_on other after between) (after_if_legal from first) true ≡ true
         → list_any (is_service other) between ≡ true }
+{}
+
+/// Where a job waits to be started and any call may come, the next call starts the first of the jobs that wait.
+pub fn a_job_is_started_first()
+    ensures { (reading after : LoopState) (next : Entry) → is_free reading.due ≡ true
+        → has_job (starts reading.state) ≡ true → after_if_legal reading next ≡ Some after
+        → starts_first (starts reading.state) next ≡ true }
 {}
 
 /// After an event that came of a thing's service: those of the others that can be served yet keep their order, before

@@ -3,10 +3,11 @@
 
 ghost use Rattle.std.specs.Prelude.{◌≡◌, [], ◌∷◌, ℕ, List, None, Some, false, true};
 ghost use Rattle.world_ports.specs.declared.events.Door.TheVariants.{Clients};
+ghost use Rattle.world_ports.specs.declared.events.JobKind.TheVariants.{Confirm, Helper};
 ghost use Rattle.agent_model.specs.Events.{Ended, Heard, Joined, Tick, Took};
 ghost use Rattle.loop_model.specs.Elsewhere.{may_end};
 ghost use Rattle.loop_model.specs.Lines.{after_event, queued, recalled, returned, settled};
-ghost use Rattle.loop_model.specs.Rows.{accept_as, accept_none, close_of, comes_as_it_waits, comes_in_turn, is_legal, joins, line_of, no_ports, now_at, one_client, poll_client, poll_for, poll_nothing, queue_of, read_none, read_of, two_clients, write_of};
+ghost use Rattle.loop_model.specs.Rows.{accept_as, accept_none, close_of, comes_as_it_waits, comes_in_turn, is_legal, joins, line_of, no_ports, now_at, one_client, poll_client, poll_for, poll_nothing, queue_of, read_none, read_of, start_of, two_clients, with_jobs, write_of};
 ghost use Rattle.loop_model.specs.declared.thing.Thing.TheVariants.{Accept, Read, Write};
 
 /// A wait comes behind a look alone, and a look where nothing can be served.
@@ -108,6 +109,18 @@ pub fn a_call_out_of_turn_is_refused()
         (read_of 1 1 (0 ∷ []) ∷ now_at 1 ∷ read_of 1 1 (0 ∷ []) ∷ []) ≡ false }
     ensures by_turns { comes_in_turn two_clients (Read 1 ∷ Read 2 ∷ [])
         (read_of 1 1 (0 ∷ []) ∷ now_at 1 ∷ read_of 2 1 (0 ∷ []) ∷ now_at 1 ∷ read_none 1 ∷ []) ≡ true }
+{}
+
+/// Nothing is served and the clock isn't looked at while a job waits to be started, and the first of the jobs is started
+/// first.
+pub fn what_is_to_be_started_is_started_first()
+    ensures served { comes_in_turn (with_jobs one_client) (Read 1 ∷ []) (read_none 1 ∷ []) ≡ false }
+    ensures looked { comes_in_turn (with_jobs one_client) [] (now_at 1 ∷ []) ≡ false }
+    ensures second { comes_in_turn (with_jobs one_client) (Read 1 ∷ []) (start_of 2 Confirm ∷ []) ≡ false }
+    ensures between { comes_in_turn (with_jobs one_client) (Read 1 ∷ [])
+        (start_of 1 Helper ∷ now_at 1 ∷ read_none 1 ∷ []) ≡ false }
+    ensures both { comes_in_turn (with_jobs one_client) (Read 1 ∷ [])
+        (start_of 1 Helper ∷ now_at 1 ∷ start_of 2 Confirm ∷ now_at 1 ∷ read_none 1 ∷ []) ≡ true }
 {}
 
 /// A client that joined is read before the listener is tried again.

@@ -17,10 +17,10 @@ use Rattle.agent_laws.proofs.HoldsLemmas.{Made, made_of}
 use Rattle.list_laws.specs.Lists.{after, past_of, standing}
 use Rattle.list_laws.proofs.ListLemmas.{Knows, held-stands}
 use Rattle.list_laws.proofs.RunLemmas.{each-knows}
-use Rattle.question_laws.specs.Questions.{IsAsked, IsAskedByThePast, IsFront, IsQuestion, question_by, question_for, taken_of}
+use Rattle.question_laws.specs.Questions.{AreAskedSo, IsAsked, IsAskedByThePast, IsFront, IsQuestion, question_by, question_for, taken_of}
 use Rattle.question_laws.proofs.AskedLemmas.{each-asked}
 
-pub each-by_the_past : (settings : Settings) (before later : List Timed) (one : Timed) (raising : Raising)
+each-by_the_past : (settings : Settings) (before later : List Timed) (one : Timed) (raising : Raising)
     → IsAmong (Raised raising) (step (run (first_state settings) before) one.moment one.event).actions
     → IsAskedByThePast settings before one later raising
 each-by_the_past settings before later one raising among = record {
@@ -60,3 +60,7 @@ each-by_the_past settings before later one raising among = record {
         ap (λ (k : HeldKey). question_for raising k about.port.chain opened.moment.wall) (sym made.is)
         ∙ ap (λ (c : List Binding). question_by raising made.past c opened.moment.wall) (sym (knows.chains raising.port about.port about.asker))
         ∙ ap (question_by raising made.past (proved_of raising.port past)) same_wall
+
+-- and so it is wherever in a run it is asked
+pub asked-so : (settings : Settings) (events : List Timed) → AreAskedSo settings events
+asked-so settings events = λ before later one raising split among. each-by_the_past settings before later one raising among

@@ -1,3 +1,3 @@
 mod OwedLemmas
 mod AskedLemmas
-mod AddedLemmas
+pub mod AddedLemmas

@@ -7,9 +7,11 @@ use Rattle.confirm_desk.specs.Prompt.{prompt_for}
 use Rattle.dest_rule.specs.Hosts.{login_host}
 use Rattle.dest_rule.specs.declared.binding.Binding.{Binding}
 use Rattle.identity_table.specs.Identities.{HeldKey, find_identity}
-use Rattle.agent_model.specs.Actions.{Raising}
+use Rattle.agent_model.specs.Actions.{Raised, Raising}
 use Rattle.agent_model.specs.Events.{Happening, Timed, Took}
-use Rattle.agent_model.specs.State.{Confirmer, Port, Role, Settings, State, UnderWay, find_port, role_of}
+use Rattle.agent_model.specs.Grants.{IsAmong}
+use Rattle.agent_model.specs.Runs.{run}
+use Rattle.agent_model.specs.State.{Confirmer, Port, Role, Settings, State, UnderWay, find_port, first_state, role_of}
 use Rattle.agent_model.specs.Step.{step}
 use Rattle.agent_model.specs.Time.{at_moment}
 use Rattle.agent_laws.specs.Dues.{proved_of}
@@ -91,3 +93,10 @@ pub record IsAskedByThePast (settings : Settings) (before : List Timed) (one : T
   pub addition : raising.addition ≡ added.number
   pub taken : IsFront (taken_of raising.job (after settings before one) later)
       (question_by raising added (proved_of raising.port (past_of settings before)) one.moment.wall)
+
+-- wherever in the run of these events a confirmation is raised, what its child process takes behind that is a front of the
+-- question about the addition that the past names
+abbrev pub AreAskedSo : Settings → List Timed → Type 0
+AreAskedSo settings events = (before later : List Timed) (one : Timed) (raising : Raising) → events ≡ before ++ one ∷ later
+    → IsAmong (Raised raising) (step (run (first_state settings) before) one.moment one.event).actions
+    → IsAskedByThePast settings before one later raising

@@ -7,7 +7,7 @@ ghost use Rattle.agent_model.specs.Grants.{IsAmong};
 ghost use Rattle.agent_model.specs.Runs.{run};
 ghost use Rattle.agent_model.specs.State.{Settings, first_state};
 ghost use Rattle.agent_model.specs.Step.{step};
-ghost use Rattle.question_laws.specs.Questions.{IsAsked, IsAskedByThePast};
+ghost use Rattle.question_laws.specs.Questions.{AreAskedSo, IsAsked};
 
 /// Wherever in a run a confirmation is raised, and whatever comes later: the bytes that the child
 /// process of its job takes, one take after another, are a front of exactly the question about the
@@ -21,7 +21,5 @@ pub fn a_question_is_about_what_is_signed()
     ensures asked { (settings : Settings) (before later : List Timed) (one : Timed) (raising : Raising)
         → IsAmong (Raised raising) (step (run (first_state settings) before) one.moment one.event).actions
         → IsAsked (run (first_state settings) before) one later raising }
-    ensures by_the_past { (settings : Settings) (before later : List Timed) (one : Timed) (raising : Raising)
-        → IsAmong (Raised raising) (step (run (first_state settings) before) one.moment one.event).actions
-        → IsAskedByThePast settings before one later raising }
+    ensures by_the_past { (settings : Settings) (events : List Timed) → AreAskedSo settings events }
 {}

@@ -1,5 +1,5 @@
 -- What each call leaves of how the journal reads, by its answer.
-use Rattle.std.proofs.Common.{◌≡◌, ◌∙◌, ℕ, suc, ◌+◌, ◌-◌, ◌^◌, ◌<◌, Bool, true, false, List, [], ◌∷◌, length, drop, get_or, Option, Some, None, Result, Ok, Err, refl, sym, ap, ◌==◌, ◌&&◌, nat_le, nat_lt, add-one, arith, nat_eq}
+use Rattle.std.proofs.Common.{◌≡◌, ◌∙◌, ℕ, suc, ◌+◌, ◌-◌, ◌^◌, ◌<◌, Bool, true, false, List, [], ◌∷◌, length, drop, get_or, Option, Some, None, Result, Ok, Err, refl, sym, ap, ◌==◌, ◌&&◌, nat_le, nat_lt, not, add-one, arith, nat_eq}
 use Rattle.std.specs.Option.{option_eq, option_map_or}
 use Rattle.std.proofs.Math.Seq.{drop-cons}
 use Rattle.std.specs.Prelude.{IsSome, is_some}
@@ -26,7 +26,8 @@ use Rattle.agent_model.specs.State.{State, find_port, owed_of, starts}
 use Rattle.agent_model.specs.Step.{step}
 use Rattle.loop_model.specs.Calls.{served_of}
 use Rattle.loop_model.specs.Dues.{Closing, Free, NowFor, Polling, due_look, due_of, port_of, wait_of}
-use Rattle.loop_model.specs.LegalJournal.{LoopState, after_entry, after_if_legal, in_state, is_first_job, is_read, is_taken}
+use Rattle.loop_model.specs.Servable.{has_job}
+use Rattle.loop_model.specs.LegalJournal.{LoopState, after_entry, after_if_legal, in_state, is_first_job, is_read, is_taken, may_serve}
 use Rattle.world_ports.specs.Worlds.{IsPiece, read_room}
 use Rattle.loop_model.specs.Lines.{Line, after_event, in_hand, is_idle}
 use Rattle.loop_model.specs.Queues.{first_servable, is_next}
@@ -134,22 +135,31 @@ next_is : (state : State) (queue : List Thing) (thing : Thing)
     → is_next state queue thing ≡ true
 next_is state queue thing found = ap (λ (t : Option Thing). option_map_or (same_thing thing) t false) found ∙ same_thing-refl thing
 
+-- a thing may be served where no job waits
+free_to_serve : (state : State) (line : Line) → starts state ≡ [] → may_serve (in_state state line Free) ≡ true
+free_to_serve state line none = ap (λ jobs. not (has_job jobs)) none
+
 pub accept-any : (state : State) (line : Line) (door : Door) (answer : Result Accepted WorldFault)
-    → first_servable state line.queue ≡ Some (Accept door)
+    → starts state ≡ [] → first_servable state line.queue ≡ Some (Accept door)
     → after_if_legal (in_state state line Free) (entry.Accept door answer)
     ≡ Some (after_entry (in_state state line Free) (entry.Accept door answer))
-accept-any state line door answer found =
-    after_if_legal-is (in_state state line Free) (entry.Accept door answer) (next_is state line.queue (Accept door) found)
+accept-any state line door answer none found =
+    after_if_legal-is (in_state state line Free) (entry.Accept door answer)
+    (both_and (may_serve (in_state state line Free)) (is_next state line.queue (Accept door))
+    (free_to_serve state line none) (next_is state line.queue (Accept door) found))
 
 pub read-any : (state : State) (line : Line) (port room : ℕ) (bytes : List ℕ) (answer : Result Got WorldFault)
-    → first_servable state line.queue ≡ Some (Read port) → room ≡ read_room → is_read room bytes answer ≡ true
+    → starts state ≡ [] → first_servable state line.queue ≡ Some (Read port)
+    → room ≡ read_room → is_read room bytes answer ≡ true
     → after_if_legal (in_state state line Free) (entry.Read port room bytes answer)
     ≡ Some (after_entry (in_state state line Free) (entry.Read port room bytes answer))
-read-any state line port room bytes answer found is read =
+read-any state line port room bytes answer none found is read =
+    let next = is_next state line.queue (Read port) in
+    let whole = (room == read_room) && is_read room bytes answer in
     after_if_legal-is (in_state state line Free) (entry.Read port room bytes answer)
-    (both_and (is_next state line.queue (Read port)) ((room == read_room) && is_read room bytes answer)
-    (next_is state line.queue (Read port) found)
-    (both_and (room == read_room) (is_read room bytes answer) ((Decides-eqb room read_room).1 is) read))
+    (both_and (may_serve (in_state state line Free)) (next && whole) (free_to_serve state line none)
+    (both_and next whole (next_is state line.queue (Read port) found)
+    (both_and (room == read_room) (is_read room bytes answer) ((Decides-eqb room read_room).1 is) read)))
 
 -- what the world says of a read's bytes
 pub read-within : (room n : ℕ) (bytes : List ℕ) → length bytes ≡ n → IsPiece n room
@@ -161,15 +171,18 @@ read-within room n bytes same within =
     (both_and (nat_lt 0 n) (nat_le n room) (grind (arith, nat_tests)) (grind (arith, nat_tests)))
 
 pub write-any : (state : State) (line : Line) (port : ℕ) (offered : List ℕ) (answer : Result Wrote WorldFault)
-    → first_servable state line.queue ≡ Some (Write port) → offered ≡ owed_of port state
+    → starts state ≡ [] → first_servable state line.queue ≡ Some (Write port) → offered ≡ owed_of port state
     → is_taken (length offered) answer ≡ true
     → after_if_legal (in_state state line Free) (entry.Write port offered answer)
     ≡ Some (after_entry (in_state state line Free) (entry.Write port offered answer))
-write-any state line port offered answer found is taken =
+write-any state line port offered answer none found is taken =
+    let next = is_next state line.queue (Write port) in
+    let owed = bytes_eq offered (owed_of port state) in
+    let few = is_taken (length offered) answer in
     after_if_legal-is (in_state state line Free) (entry.Write port offered answer)
-    (both_and (is_next state line.queue (Write port)) (bytes_eq offered (owed_of port state) && is_taken (length offered) answer)
-    (next_is state line.queue (Write port) found)
-    (both_and (bytes_eq offered (owed_of port state)) (is_taken (length offered) answer) ((bytes_decides offered (owed_of port state)).1 is) taken))
+    (both_and (may_serve (in_state state line Free)) (next && (owed && few)) (free_to_serve state line none)
+    (both_and next (owed && few) (next_is state line.queue (Write port) found)
+    (both_and owed few ((bytes_decides offered (owed_of port state)).1 is) taken)))
 
 -- what the world says of how much a write took
 pub taken-within : (offered n : ℕ) → IsPiece n offered → is_taken offered (Ok (wrote.Took n)) ≡ true

@@ -1,9 +1,9 @@
 -- What is served stands first, and is taken in hand.
-use Rattle.std.proofs.Common.{◌≡◌, ◌∙◌, ℕ, false, Option, Some, None, Ok, is_some, refl, sym, not, ◌||◌}
+use Rattle.std.proofs.Common.{◌≡◌, ◌∙◌, ℕ, false, [], Option, Some, None, Ok, is_some, refl, sym, not, ◌||◌}
 use Rattle.world_ports.specs.declared.answers.Accepted.TheVariants as accepted
 use Rattle.world_ports.specs.declared.entry.Entry.TheVariants as entry
 use Rattle.world_ports.specs.declared.events.Door.{Door}
-use Rattle.agent_model.specs.State.{Port, State, UnderWay, find_port, is_client, is_some_bytes, owed_by, wants_by}
+use Rattle.agent_model.specs.State.{Port, State, UnderWay, find_port, is_client, is_some_bytes, owed_by, starts, wants_by}
 use Rattle.loop_model.specs.Dues.{Free}
 use Rattle.loop_model.specs.LegalJournal.{after_entry, in_state}
 use Rattle.loop_model.specs.Lines.{IsOrdered, Line, hot_of, in_hand, queued_port}
@@ -69,11 +69,11 @@ pub cold-joined : (state : State) (door : Door) (number : ℕ) (line : Line)
 cold-joined state door number line cold = cold-queued_port state number door line cold
 
 pub ordered-joined : (state : State) (door : Door) (number : ℕ) (line : Line) → IsOrdered state line
-    → first_servable state line.queue ≡ Some (Accept door)
+    → starts state ≡ [] → first_servable state line.queue ≡ Some (Accept door)
     → IsOrdered state (joined_line state door number (in_hand (Accept door) line))
-ordered-joined state door number line ordered found =
+ordered-joined state door number line ordered none found =
     let next = entry.Accept door (Ok (accepted.Port number)) in
     let from = in_state state line Free in
     let both : IsOrdered (after_entry from next).state (after_entry from next).line =
-    ordered_taken from (after_entry from next) next (accept-any state line door (Ok (accepted.Port number)) found) ordered in
+    ordered_taken from (after_entry from next) next (accept-any state line door (Ok (accepted.Port number)) none found) ordered in
     both

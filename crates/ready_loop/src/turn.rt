@@ -1,6 +1,6 @@
 //! The parts of a turn.
 
-ghost use Rattle.std.specs.Prelude.{◌≡◌, OnOk, Some, length, true};
+ghost use Rattle.std.specs.Prelude.{◌≡◌, [], OnOk, Some, length, true};
 ghost use Rattle.agent_model.specs.Events.{Ended, Heard, Took};
 ghost use Rattle.agent_model.specs.State.{Fits, starts};
 ghost use Rattle.loop_model.specs.Dues.{Free, NowFor};
@@ -30,6 +30,7 @@ pub fn accept<A: Core, W: World>(
     world: &mut W,
     door: Door,
 ) -> Result<(), AllocError>
+    requires jobs { starts (A.state agent.old) ≡ [] }
     requires next { first_servable (A.state agent.old) queue.old.queue ≡ Some (Accept door) }
     requires ready { IsReady (A.state agent.old) queue.old
         (W.last_port world.old) (W.greatest world.old) }
@@ -117,6 +118,7 @@ pub fn read<A: Core, W: World>(
     port: u64,
     room: &mut [u8],
 ) -> Result<(), AllocError>
+    requires jobs { starts (A.state agent.old) ≡ [] }
     requires next { first_servable (A.state agent.old) queue.old.queue ≡ Some (Read port) }
     requires ready { IsReady (A.state agent.old) queue.old
         (W.last_port world.old) (W.greatest world.old) }
@@ -176,6 +178,7 @@ pub fn write<A: Core, W: World>(
     world: &mut W,
     port: u64,
 ) -> Result<(), AllocError>
+    requires jobs { starts (A.state agent.old) ≡ [] }
     requires next { first_servable (A.state agent.old) queue.old.queue ≡ Some (Write port) }
     requires ready { IsReady (A.state agent.old) queue.old
         (W.last_port world.old) (W.greatest world.old) }

@@ -115,7 +115,7 @@ impl Ports {
         }
     }
 
-    /// Tells an asker what the helper answered: nobody, where it has left.
+    /// Tells an asker what the helper answered, where that binds nothing: nobody, where it has left.
     pub fn tell(&mut self, number: u64, answer: &Answer) -> Result<(), AllocError>
         requires { IsShortAnswer answer.now }
 

@@ -1,6 +1,6 @@
-use Rattle.question_laws.proofs.AddedLemmas.{each-by_the_past}
+use Rattle.question_laws.proofs.AddedLemmas.{asked-so}
 use Rattle.question_laws.proofs.AskedLemmas.{each-asked}
 use Rattle.question_laws.proofs.laws.a_question_is_about_what_is_signed.Goals as goal
 
 pub returns : goal.returns
-returns c = record { asked = each-asked; by_the_past = each-by_the_past }
+returns c = record { asked = each-asked; by_the_past = asked-so }

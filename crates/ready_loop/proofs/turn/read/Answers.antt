@@ -36,7 +36,7 @@ returns-in-Ok-Bytes-clause-legal g c =
     let answer = Ok (got.Bytes c.in-Ok-Bytes.n) in
     let bytes = take c.in-Ok-Bytes.n c.read.new.room in
     serves_then (entry.Read c.args.port (length c.args.room.now) bytes answer) refl
-    (calls.read-any (g.A.Core.state c.args.agent.now) c.args.queue.now c.args.port (length c.args.room.now) bytes answer c.requires.next c.requires.room
+    (calls.read-any (g.A.Core.state c.args.agent.now) c.args.queue.now c.args.port (length c.args.room.now) bytes answer c.requires.jobs c.requires.next c.requires.room
     (calls.read-within (length c.args.room.now) c.in-Ok-Bytes.n bytes (omega (arith, length-take c.in-Ok-Bytes.n c.read.new.room, within.1)) within))
     (told_at (λ r. entry.Read c.args.port (length c.args.room.now) (got_of r c.read.new.room) r) _ _
     (c.in-Ok-Bytes.is ∙ ap Ok c.in-Ok-Bytes.field-0-is) c.read.ensures.told)
@@ -52,7 +52,7 @@ pub returns-in-Ok-End-clause-legal : goal.returns-in-Ok-End-clause-legal
 returns-in-Ok-End-clause-legal g c =
     let answer = Ok got.End in
     serves_then (entry.Read c.args.port (length c.args.room.now) [] answer) refl
-    (calls.read-any (g.A.Core.state c.args.agent.now) c.args.queue.now c.args.port (length c.args.room.now) [] answer c.requires.next c.requires.room refl)
+    (calls.read-any (g.A.Core.state c.args.agent.now) c.args.queue.now c.args.port (length c.args.room.now) [] answer c.requires.jobs c.requires.next c.requires.room refl)
     (told_at (λ r. entry.Read c.args.port (length c.args.room.now) (got_of r c.read.new.room) r) _ _
     (c.in-Ok-End.is ∙ ap Ok c.in-Ok-End.field-0-is) c.read.ensures.told)
     c.end.ensures.legal
@@ -60,7 +60,7 @@ returns-in-Ok-End-clause-legal g c =
 pub returns-in-Ok-NotNow-clause-legal : goal.returns-in-Ok-NotNow-clause-legal
 returns-in-Ok-NotNow-clause-legal g c =
     calls.serves_dropped (Read c.args.port) _ refl
-    (calls.read-any (g.A.Core.state c.args.agent.now) c.args.queue.now c.args.port (length c.args.room.now) [] (Ok got.NotNow) c.requires.next c.requires.room refl)
+    (calls.read-any (g.A.Core.state c.args.agent.now) c.args.queue.now c.args.port (length c.args.room.now) [] (Ok got.NotNow) c.requires.jobs c.requires.next c.requires.room refl)
     c.take.ensures
     (told_at (λ r. entry.Read c.args.port (length c.args.room.now) (got_of r c.read.new.room) r) _ _ (c.in-Ok-NotNow.is ∙ ap Ok c.in-Ok-NotNow.field-0-is) c.read.ensures.told)
 
@@ -83,7 +83,7 @@ pub returns-in-Err-Failed-clause-legal : goal.returns-in-Err-Failed-clause-legal
 returns-in-Err-Failed-clause-legal g c =
     let answer : Result Got WorldFault = Err Failed in
     serves_then (entry.Read c.args.port (length c.args.room.now) [] answer) refl
-    (calls.read-any (g.A.Core.state c.args.agent.now) c.args.queue.now c.args.port (length c.args.room.now) [] answer c.requires.next c.requires.room refl)
+    (calls.read-any (g.A.Core.state c.args.agent.now) c.args.queue.now c.args.port (length c.args.room.now) [] answer c.requires.jobs c.requires.next c.requires.room refl)
     (told_at (λ r. entry.Read c.args.port (length c.args.room.now) (got_of r c.read.new.room) r) _ _
     (c.in-Err-Failed.is ∙ ap Err c.in-Err-Failed.field-0-is) c.read.ensures.told)
     c.end-in-Err-Failed.ensures.legal
@@ -91,5 +91,5 @@ returns-in-Err-Failed-clause-legal g c =
 pub returns-in-Err-Memory-clause-legal : goal.returns-in-Err-Memory-clause-legal
 returns-in-Err-Memory-clause-legal g c =
     calls.serves_short _ refl
-    (calls.read-any (g.A.Core.state c.args.agent.now) c.args.queue.now c.args.port (length c.args.room.now) [] (Err Memory) c.requires.next c.requires.room refl)
+    (calls.read-any (g.A.Core.state c.args.agent.now) c.args.queue.now c.args.port (length c.args.room.now) [] (Err Memory) c.requires.jobs c.requires.next c.requires.room refl)
     (told_at (λ r. entry.Read c.args.port (length c.args.room.now) (got_of r c.read.new.room) r) _ _ (c.in-Err-Memory.is ∙ ap Err c.in-Err-Memory.field-0-is) c.read.ensures.told)
