@@ -65,14 +65,15 @@ JUMPS = {
 # The curves of ecdsa_tool, and the words of 64 bits and the bytes of a number.
 CURVES = {"p256": (4, 32), "p384": (6, 48), "p521": (9, 66)}
 
-# The same of ecdsa_tool. Over P-521 the product modulo n stands where it is used, over rows that don't.
+# The same of ecdsa_tool. Over P-521 the product modulo p has a form of its own, and that modulo n stands where it is used,
+# over rows that don't.
 ECDSA_JUMPS = {
     function: most
     for curve, (words, _) in CURVES.items()
     for function, most in (
         (f"{curve}_curve::doublings::Doublings::multiple_by_bits", 1),
         (f"{curve}_curve::point::Point::add", 0),
-        (f"{curve}_field::residue::Residue::product", 0),
+        (f"{curve}_field::{'element::Element::mul' if curve == 'p521' else 'residue::Residue::product'}", 0),
         (f"{curve}_order::residue::{'rows' if curve == 'p521' else 'Residue::product'}", 0),
         (f"wide_words::u{64 * words}::U{64 * words}::is_below", 0),
     )
