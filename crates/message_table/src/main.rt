@@ -12,7 +12,7 @@ mod replies;
 mod requests;
 mod signatures;
 
-use crate::input::Words;
+use crate::input::words_of;
 use std::alloc::Global;
 use std::io;
 
@@ -32,19 +32,30 @@ fn answer(alloc: Global, line: &str) -> Option<String> {
     if line.starts_with('#') || line.is_empty() {
         return String::from_str(alloc, line).ok();
     }
-    let mut words = Words::new(line);
-    match words.next() {
-        "request" => requests::read(alloc, &words.bytes(alloc)?),
-        "private" => requests::is_private(alloc, &words.bytes(alloc)?, &words.bytes(alloc)?),
-        "binds" => requests::binds(alloc, &words.bytes(alloc)?),
-        "write" => requests::written(alloc, &mut words),
-        "reply" => replies::read(alloc, &words.bytes(alloc)?),
-        "answer" => replies::written(alloc, &mut words),
-        "constraints" => constraints::read(alloc, &words.bytes(alloc)?),
-        "destinations" => constraints::destinations(alloc, &words.bytes(alloc)?),
-        "again" => constraints::again(alloc, &words.bytes(alloc)?),
-        "file" => signatures::read(alloc, &words.bytes(alloc)?),
-        "redact" => redaction::redacted(alloc, &mut words),
+    let (verb, rest) = line.split_once(' ')?;
+    let words = words_of(alloc, rest)?;
+    answer_of(alloc, verb, words.first()?, &words)
+}
+
+fn answer_of(alloc: Global, verb: &str, first: &[u8], words: &[Vec<u8>]) -> Option<String> {
+    match verb {
+        "request" => requests::read(alloc, first),
+        "private" => requests::is_private(alloc, words),
+        "binds" => requests::binds(alloc, first),
+        "write" => requests::written(alloc, words),
+        "reply" => replies::read(alloc, first),
+        "answer" => replies::written(alloc, words),
+        _ => answer_of_fields(alloc, verb, first, words),
+    }
+}
+
+fn answer_of_fields(alloc: Global, verb: &str, first: &[u8], words: &[Vec<u8>]) -> Option<String> {
+    match verb {
+        "constraints" => constraints::read(alloc, first),
+        "destinations" => constraints::destinations(alloc, first),
+        "again" => constraints::again(alloc, first),
+        "file" => signatures::read(alloc, first),
+        "redact" => redaction::redacted(alloc, words),
         _ => None,
     }
 }

@@ -1,6 +1,6 @@
 //! Replies of agents.
 
-use crate::input::Words;
+use crate::input::number;
 use agent_msg::{Reply, put_list_entry, put_list_head, put_signature, put_status, read_reply};
 use bstr::ByteSlice;
 use secret_buf::ScrubBuf;
@@ -42,22 +42,28 @@ fn said_identities(alloc: Global, all: &[(&[u8], &[u8])]) -> Option<String> {
 }
 
 /// `success`, `failure`, `signature BYTES`, or `list LENGTH COUNT` and blobs with their comments: the frame.
-pub(crate) fn written(alloc: Global, words: &mut Words<'_>) -> Option<String> {
+pub(crate) fn written(alloc: Global, words: &[Vec<u8>]) -> Option<String> {
+    let (verb, rest) = words.split_first()?;
     let mut out = ScrubBuf::new(alloc);
-    match words.next() {
-        "success" => put_answer(&mut out, true)?,
-        "failure" => put_answer(&mut out, false)?,
-        "signature" => {
-            let signature = words.bytes(alloc)?;
-            if signature.len() > LONGEST {
-                return None;
-            }
-            put_signature(&mut out, &signature).ok()?;
-        }
-        "list" => put_list(alloc, &mut out, words)?,
-        _ => return None,
-    }
+    put(&mut out, verb, rest)?;
     format!(in alloc; "{}", out.live().escape_bytes()).ok()
+}
+
+fn put(out: &mut ScrubBuf, verb: &[u8], words: &[Vec<u8>]) -> Option<()> {
+    match (verb, words) {
+        (b"success", []) => put_answer(out, true),
+        (b"failure", []) => put_answer(out, false),
+        (b"signature", [signature]) if signature.len() <= LONGEST => {
+            put_signature(out, signature).ok()
+        }
+        (b"list", [len, count, entries @ ..]) => put_list(
+            out,
+            number(len)?,
+            number(count)?,
+            entries,
+        ),
+        _ => None,
+    }
 }
 
 fn put_answer(out: &mut ScrubBuf, success: bool) -> Option<()> {
@@ -66,23 +72,23 @@ fn put_answer(out: &mut ScrubBuf, success: bool) -> Option<()> {
     Some(())
 }
 
-fn put_list(alloc: Global, out: &mut ScrubBuf, words: &mut Words<'_>) -> Option<()> {
-    let len = words.number()?;
-    let count = words.number()?;
+fn put_list(out: &mut ScrubBuf, len: u32, count: u32, entries: &[Vec<u8>]) -> Option<()> {
     if len > 262_144 {
         return None;
     }
     put_list_head(out, len, count).ok()?;
-    for _ in 0..LONGEST {
-        if words.is_over() {
-            break;
-        }
-        let blob = words.bytes(alloc)?;
-        let comment = words.bytes(alloc)?;
-        if blob.len() > LONGEST || comment.len() > LONGEST {
-            return None;
-        }
-        put_list_entry(out, &blob, &comment).ok()?;
+    for entry in entries.chunks(2) {
+        put_entry(out, entry)?;
     }
     Some(())
+}
+
+fn put_entry(out: &mut ScrubBuf, entry: &[Vec<u8>]) -> Option<()> {
+    let [blob, comment] = entry else {
+        return None;
+    };
+    if blob.len() > LONGEST || comment.len() > LONGEST {
+        return None;
+    }
+    put_list_entry(out, blob, comment).ok()
 }

@@ -1,6 +1,5 @@
 //! Requests of clients.
 
-use crate::input::Words;
 use agent_msg::{Request, names_bind, read_request, write_request};
 use bstr::ByteSlice;
 use secret_buf::ScrubBuf;
@@ -83,8 +82,11 @@ fn said_binding(
     .ok()
 }
 
-/// Whether the private fields of an addition are these.
-pub(crate) fn is_private(alloc: Global, body: &[u8], private: &[u8]) -> Option<String> {
+/// `BODY PRIVATE`: whether the private fields of an addition are these.
+pub(crate) fn is_private(alloc: Global, words: &[Vec<u8>]) -> Option<String> {
+    let [body, private] = words else {
+        return None;
+    };
     match read_request(alloc, body) {
         Ok(Request::Add { key, .. }) => { format!(in alloc; "{}", key.private.same(private)).ok() }
         _ => None,
@@ -97,19 +99,24 @@ pub(crate) fn binds(alloc: Global, body: &[u8]) -> Option<String> {
 }
 
 /// `list`, `lock PASSPHRASE` or `remove BLOB`: the frame.
-pub(crate) fn written(alloc: Global, words: &mut Words<'_>) -> Option<String> {
-    let verb = words.next();
-    frame(alloc, verb, &words.bytes(alloc)?)
+pub(crate) fn written(alloc: Global, words: &[Vec<u8>]) -> Option<String> {
+    let (verb, rest) = words.split_first()?;
+    let text = match rest {
+        [] => &[],
+        [text] => text.as_slice(),
+        _ => return None,
+    };
+    frame(alloc, verb, text)
 }
 
-fn frame(alloc: Global, verb: &str, text: &[u8]) -> Option<String> {
+fn frame(alloc: Global, verb: &[u8], text: &[u8]) -> Option<String> {
     if text.len() > LONGEST {
         return None;
     }
     let request = match verb {
-        "list" => Request::List,
-        "lock" => Request::Lock { passphrase: text },
-        "remove" => Request::Remove { blob: text },
+        b"list" => Request::List,
+        b"lock" => Request::Lock { passphrase: text },
+        b"remove" => Request::Remove { blob: text },
         _ => return None,
     };
     let mut out = ScrubBuf::new(alloc);
