@@ -21,36 +21,38 @@ pub(crate) fn of_table(
     verb: &str,
     words: &[Vec<u8>],
 ) -> Option<String> {
+    let first = words.first()?;
     match verb {
         "new" => {
-            *table = Table::new(alloc, short_or_none(words.first()?)?);
+            *table = Table::new(alloc, short_or_none(first)?);
             String::from_str(alloc, "new").ok()
         }
         "add" => said_added(alloc, add(alloc, table, words)?),
-        "request" => said_added(alloc, add_by_request(alloc, table, words.first()?)?),
-        "remove" => format!(in alloc; "{}", table.remove(words.first()?)).ok(),
+        "request" => said_added(alloc, add_by_request(alloc, table, first)?),
+        "remove" => format!(in alloc; "{}", table.remove(first)).ok(),
         "clear" => {
             table.remove_all();
             String::from_str(alloc, "clear").ok()
         }
-        "expire" => {
-            let now = number(words.first()?)?;
-            if table.greatest() > now {
-                return None;
-            }
-            table.expire(now);
-            format!(in alloc; "{} left", table.len()).ok()
-        }
-        _ => about_table(alloc, table, verb, words),
+        "expire" => expire(alloc, table, number(first)?),
+        "find" => said_found(alloc, table.find(first)),
+        "private" => is_private(alloc, table, words),
+        _ => about_table(alloc, table, verb, number(first)),
     }
 }
 
-fn about_table(alloc: Global, table: &Table, verb: &str, words: &[Vec<u8>]) -> Option<String> {
+fn expire(alloc: Global, table: &mut Table, now: u64) -> Option<String> {
+    if table.greatest() > now {
+        return None;
+    }
+    table.expire(now);
+    format!(in alloc; "{} left", table.len()).ok()
+}
+
+fn about_table(alloc: Global, table: &Table, verb: &str, word: Option<u64>) -> Option<String> {
     match verb {
-        "at" => said_found(alloc, table.at(number(words.first()?)? as usize)),
-        "number" => said_found(alloc, table.by_number(number(words.first()?)?)),
-        "find" => said_found(alloc, table.find(words.first()?)),
-        "private" => is_private(alloc, table, words),
+        "at" => said_found(alloc, table.at(word? as usize)),
+        "number" => said_found(alloc, table.by_number(word?)),
         "death" => format!(in alloc; "{:?}", table.next_death()).ok(),
         "count" => format!(in alloc; "{} {}", table.len(), table.iter().count()).ok(),
         _ => None,

@@ -24,20 +24,26 @@ pub(crate) fn of_link(
             *link = Link::new(alloc);
             String::from_str(alloc, "new").ok()
         }
-        "begin" => {
-            link.begin(number(words.first()?)?);
-            said_how_far(alloc, link)
-        }
-        "linked" => linked(alloc, link, number(words.first()?)?),
         "sign" => said_asked(alloc, sign(alloc, link, words)?),
         "verify" => said_asked(alloc, verify(link, words)?),
-        "took" => took(alloc, link, number(words.first()?)? as usize),
         "tell" => tell(alloc, link, words.first()?),
         "lose" => lose(alloc, link),
         "owed" => format!(in alloc; "'{}'", link.owed().escape_bytes()).ok(),
         "state" => said_state(alloc, link),
-        "verified" => streams::verified(alloc, number(words.first()?)? as usize),
-        "signed" => streams::signed(alloc, number(words.first()?)? as usize),
+        _ => by_number(alloc, link, verb, number(words.first()?)?),
+    }
+}
+
+fn by_number(alloc: Global, link: &mut Link, verb: &str, value: u64) -> Option<String> {
+    match verb {
+        "begin" => {
+            link.begin(value);
+            said_how_far(alloc, link)
+        }
+        "linked" => linked(alloc, link, value),
+        "took" => took(alloc, link, value as usize),
+        "verified" => streams::verified(alloc, value as usize),
+        "signed" => streams::signed(alloc, value as usize),
         _ => None,
     }
 }

@@ -42,21 +42,27 @@ pub(crate) fn of_way(
     words: &[Vec<u8>],
 ) -> Option<String> {
     match verb {
-        "key" => {
-            way.blob = copy_of(alloc, words.first()?)?;
-            way.hosts = Vec::new(alloc);
-            String::from_str(alloc, "key").ok()
-        }
-        "host" => {
-            way.hosts.push(host_of(alloc, words)?).ok()?;
-            format!(in alloc; "host {}", way.hosts.len()).ok()
-        }
-        "rules" => {
-            way.rules = rules_of(alloc, words.first()?)?;
-            format!(in alloc; "{} constraints", way.rules.len()).ok()
-        }
+        "key" => set_key(alloc, way, words.first()?),
+        "host" => add_host(alloc, way, words),
+        "rules" => set_rules(alloc, way, words.first()?),
         _ => about_way(alloc, way, verb, words),
     }
+}
+
+fn set_key(alloc: Global, way: &mut Way, blob: &[u8]) -> Option<String> {
+    way.blob = copy_of(alloc, blob)?;
+    way.hosts = Vec::new(alloc);
+    String::from_str(alloc, "key").ok()
+}
+
+fn add_host(alloc: Global, way: &mut Way, words: &[Vec<u8>]) -> Option<String> {
+    way.hosts.push(host_of(alloc, words)?).ok()?;
+    format!(in alloc; "host {}", way.hosts.len()).ok()
+}
+
+fn set_rules(alloc: Global, way: &mut Way, text: &[u8]) -> Option<String> {
+    way.rules = rules_of(alloc, text)?;
+    format!(in alloc; "{} constraints", way.rules.len()).ok()
 }
 
 fn copy_of(alloc: Global, bytes: &[u8]) -> Option<Vec<u8>> {
@@ -116,21 +122,32 @@ fn chain_to(alloc: Global, hosts: &[Host]) -> Option<Chain> {
 fn about_way(alloc: Global, way: &Way, verb: &str, words: &[Vec<u8>]) -> Option<String> {
     match (verb, words) {
         ("attempt", [wall]) => attempt(alloc, way.rules.as_slice(), number(wall)?),
-        ("login", [count, wall]) => {
-            login(
-                alloc,
-                way,
-                way.hosts.get(..number(count)? as usize)?,
-                number(wall)?,
-            )
-        }
+        ("login", [count, wall]) => login(alloc, way, hosts_of(way, count)?, number(wall)?),
         ("sign", [count, wall, blob, message]) => {
-            let chain = chain_to(alloc, way.hosts.get(..number(count)? as usize)?)?;
-            let signed = may_sign(way.rules.as_slice(), blob, &chain, message, number(wall)?);
+            let wall = number(wall)?;
+            let signed = sign(alloc, way, hosts_of(way, count)?, blob, message, wall)?;
             said_signed(alloc, signed)
         }
         _ => None,
     }
+}
+
+/// So many of the hosts, from the first.
+fn hosts_of<'a>(way: &'a Way, count: &[u8]) -> Option<&'a [Host]> {
+    way.hosts.get(..number(count)? as usize)
+}
+
+/// What is answered where another key or message is to be signed at the last of these hosts.
+fn sign(
+    alloc: Global,
+    way: &Way,
+    hosts: &[Host],
+    blob: &[u8],
+    message: &[u8],
+    wall: u64,
+) -> Option<Result<(), Denial>> {
+    let chain = chain_to(alloc, hosts)?;
+    Some(may_sign(way.rules.as_slice(), blob, &chain, message, wall))
 }
 
 fn said_signed(alloc: Global, signed: Result<(), Denial>) -> Option<String> {
