@@ -1,6 +1,6 @@
 """Logins over three hosts that OpenSSH's programs made, as rows: from `ssh-add -h` to the signature.
 
-What was recorded stands in crates/part_tests/src/logins: hosts, sessions, what `ssh` gave to sign and
+What was recorded stands in the table of crates/part_table: hosts, sessions, what `ssh` gave to sign and
 what `ssh-add -h` sent, and beside it what OpenSSH's agent listed and signed. The private key and the
 signatures weren't recorded; no agent looks at them.
 """
@@ -8,6 +8,7 @@ signatures weren't recorded; no agent looks at them.
 from __future__ import annotations
 
 import re
+from base64 import b64decode
 from dataclasses import dataclass
 from pathlib import Path
 
@@ -15,7 +16,12 @@ from .rows import LIST, NO, NOTHING, OK, hear, listing, row, st, to, u32, u64
 from .rows_children import chain, hello, sign, signed
 from .rows_runs import EVERY_ROW as EARLIER
 
-RECORDED = Path(__file__).parents[1] / "crates/part_tests/src/logins"
+RECORDED = Path(__file__).parents[1] / "crates/part_table"
+# The headings of the table under which each way stands.
+WAYS = {
+    "# hosts with certificates are answered as by OpenSSH": "certificates",
+    "# hosts with plain keys are answered as by OpenSSH": "plain_keys",
+}
 COMMENT = b"user@host"
 # A second of 2026, at which the certificates of the hosts are good.
 WALL = 1795000000
@@ -38,34 +44,46 @@ class Way:
     rules: list[Rules]
 
 
-ESCAPES = {b"0": b"\0", b"n": b"\n", b"r": b"\r", b"t": b"\t", b"\\": b"\\", b'"': b'"', b"'": b"'"}
+ANSWER = re.compile(r"listed: (true|false) signed: (Ok|Err)\(.*\) listed beyond: (true|false)")
 
 
-def read_text(literal: str) -> bytes:
-    """The bytes of what stands between the quotes of a byte string."""
-
-    def unescaped(match: re.Match[bytes]) -> bytes:
-        if match[1].startswith(b"\n"):
-            return b""
-        return bytes.fromhex(match[1][1:].decode()) if len(match[1]) == 3 else ESCAPES[match[1]]
-
-    return re.sub(rb"\\(\n\s*|x..|.)", unescaped, literal.encode())
+def bytes_of(word: str) -> bytes:
+    return b64decode(word.removeprefix("base64:"), validate=True)
 
 
-def read_way(path: Path) -> Way:
-    text = path.read_text()
-    fields = re.findall(r'(\w+): b"((?:[^"\\]|\\.|\\\n)*)"', text)
-    texts = {name: [read_text(each) for key, each in fields if key == name] for name, _ in fields}
-    answers = {
-        name: [[word == "true" for word in each.split(", ")] for each in found]
-        for name in ("listed", "signed", "listed_beyond")
-        if (found := re.findall(rf"\b{name}: \[([a-z, ]+)\]", text))
-    }
-    comments = re.findall(r"((?: +// .*\n)+) +Rules \{", text)
-    words = [" ".join(re.sub(r"\s*// ", " ", each).split()) for each in comments]
-    rules = zip(words, texts["constraints"], *answers.values(), strict=True)
-    hops = zip(texts["host_key"], texts["session"], texts["message"], strict=True)
-    return Way(path.stem, *texts["blob"], list(hops), [Rules(*each) for each in rules])
+def read_way(name: str, lines: list[tuple[str, str]]) -> Way:
+    """The way of these questions and answers."""
+    way = Way(name, b"", [], [])
+    heading = ""
+    for question, answer in lines:
+        match question.split(" "):
+            case ["#", *words]:
+                heading = " ".join(words)
+            case ["way", "key", blob]:
+                way.blob = bytes_of(blob)
+            case ["way", "host", *texts]:
+                key, session, message = map(bytes_of, texts)
+                way.hops.append((key, session, message))
+            case ["way", "rules", constraints]:
+                way.rules.append(Rules(heading, bytes_of(constraints), [], [], []))
+            case ["way", "login", *_]:
+                found = ANSWER.fullmatch(answer)
+                assert found, f"{name}: {answer}"
+                way.rules[-1].listed.append(found[1] == "true")
+                way.rules[-1].signed.append(found[2] == "Ok")
+                way.rules[-1].listed_beyond.append(found[3] == "true")
+    return way
+
+
+def read_ways() -> list[Way]:
+    """The ways of the table, in the order of their names."""
+    questions, answers = ((RECORDED / name).read_text().splitlines() for name in ("stdin", "stdout"))
+    lines = list(zip(questions, answers, strict=True))
+    ways = []
+    for heading, name in sorted(WAYS.items(), key=lambda item: item[1]):
+        first = questions.index(heading)
+        ways.append(read_way(name, lines[first : questions.index("", first)]))
+    return ways
 
 
 class Login:
@@ -127,8 +145,7 @@ class Login:
             self.leave(port)
 
 
-for source in sorted(RECORDED.glob("*.rt")):
-    way = read_way(source)
+for way in read_ways():
     for rules in way.rules:
         login = Login(way, rules)
         login.hosts()

@@ -1,5 +1,5 @@
 """What clients send, from schedules: that of OpenSSH's ssh-add and ssh, recorded, in examples/ and in the logins of
-crates/part_tests, and the rest of the literal rows of model/."""
+crates/part_table, and the rest of the literal rows of model/."""
 
 import re
 import sys
