@@ -187,7 +187,7 @@ def what_a_user_installed_is_closed_to_that_user_s_programs(folder):
 def typed():
     """The lines that README gives to type, from the installation to a login."""
     page = (rig.TOP / "README.md").read_text()
-    return re.findall(r"(?m)^\$ (.*)$", page[page.index("**To install:**") : page.index("## What it does")])
+    return re.findall(r"(?m)^\$ (.*)$", page[page.index("## Use it") : page.index("## What you can say")])
 
 
 @check

@@ -1,6 +1,5 @@
 #!/usr/bin/env bash
-# The commands of each transcript of examples/ print what stands there, and README begins with the first of what
-# `make demo` prints.
+# The commands of each transcript of examples/ print what stands there, and README begins with the first of them.
 set -u
 cd "$(dirname "$0")/.." || exit 2
 make -s bin/agent_prog bin/mortarleek_signer bin/add_tool bin/audit_prog bin/log_prog bin/filter_proxy > /dev/null || exit 1
@@ -17,7 +16,8 @@ for page in examples/*.md; do
     echo "transcripts: $name: as it stands"
 done
 shown=$(sed '/^## /,$d' README.md | sed -n '/^```console$/,/^```$/p' | grep -v '^```')
-case $(console examples/at-work.md) in
-    "$shown"*) echo 'transcripts: README: as at-work.md begins' ;;
-    *) echo 'transcripts: README shows something else than examples/at-work.md begins with'; exit 1 ;;
-esac
+if [ "$shown" != "$(console examples/first.md)" ]; then
+    echo 'transcripts: README begins with something else than examples/first.md shows'
+    exit 1
+fi
+echo 'transcripts: README: as first.md'
