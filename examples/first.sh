@@ -36,6 +36,6 @@ say() {
     say 'ssh forge'
     say 'mortarleek log today'
     kill "$SSH_AGENT_PID"
-} | sed "s,SHA256:[A-Za-z0-9+/]*,SHA256:..,g; s,^[0-9-]* [0-9:]*  ,2026-12-01 14:05:40  ,; s,$folder/,,
+} | tr -d "\r" | sed "s,SHA256:[A-Za-z0-9+/]*,SHA256:..,g; s,^[0-9-]* [0-9:]*  ,2026-12-01 14:05:40  ,; s,$folder/,,
     s,^$(id -un)@forge,me@forge,; s,login as \"$(id -un)\",login as \"me\","
 rm -r "$folder"
