@@ -1,7 +1,7 @@
 #!/usr/bin/env python3
 """`agent_prog serve --record` under OpenSSH's clients: its record, replayed, gives each client the bytes that it got,
 and has no private key and no passphrase in it; a full disk, or more tried passphrases than have room, is said when it
-comes, and disturbs nobody, or with `--record-or-stop` ends the agent; `mortarleek-agent --record` makes a new file of
+comes, and disturbs nobody, or with `--record-or-stop` ends the agent, which waits where the disk is full; `mortarleek-agent --record` makes a new file of
 mode 0600; `mortarleek-status` tells of a record that stopped."""
 
 import base64
@@ -203,6 +203,53 @@ def with_record_or_stop_nothing_is_signed_unseen(folder):
     said = agent.process.stderr.read().decode().splitlines()
     assert len(said) == 2 and "nothing more is recorded" in said[0] and said[1].endswith("and the agent with it"), said
     assert record.read_bytes() == before
+
+
+def signs(peer, blob):
+    """Whether the agent answers a request for a signature within two seconds."""
+    peer.send(bytes([SIGN]) + string(blob) + string(b"data") + bytes(4))
+    peer.socket.settimeout(2)
+    try:
+        return peer.reply()[0] == SIGNATURE
+    except TimeoutError:
+        return False
+    finally:
+        peer.socket.settimeout(20)
+
+
+@check
+def on_a_full_disk_it_waits_with_its_keys(folder):
+    """A disk of 64 kB, which root can mount."""
+    disk = folder / "disk"
+    disk.mkdir()
+    if subprocess.run(["mount", "-t", "tmpfs", "-o", "size=64k", "tmpfs", disk], stderr=subprocess.DEVNULL).returncode:
+        raise rig.Skip("no disk can be mounted here")
+    try:
+        record, words = disk / "record", ("--record", "--record-or-stop")
+        with open(record, "wb") as file:
+            agent = our_agent(PROGRAM, folder, *words, helper=rig.BUILT / "standin_helper", stdout=file, stderr=subprocess.PIPE)
+        fields, comment, blob = rig.stand_in_key(b"t" * 32)
+        with agent.peer() as peer:
+            assert peer.ask(ADD, fields, comment)[0] == SUCCESS
+            assert signs(peer, blob)
+            for _ in range(2):
+                with contextlib.suppress(OSError), open(disk / "other", "wb", buffering=0) as other:
+                    while True:
+                        other.write(bytes(512))
+                # What is left of the last page of the record is used up by what comes of requests.
+                while signs(peer, blob):
+                    pass
+                assert b"no room for the record" in agent.process.stderr.readline()
+                assert agent.process.poll() is None
+                (disk / "other").unlink()
+                assert peer.reply()[0] == SIGNATURE
+                assert b"there is room for the record again" in agent.process.stderr.readline()
+            assert [found for found, _ in peer.blobs()] == [blob]
+        agent.end()
+        # It is whole: nothing is missing where it waited.
+        assert replayed(record.read_bytes())[1].count(bytes([SIGNATURE])) > 3
+    finally:
+        run(["umount", "-l", disk])
 
 
 @check

@@ -19,7 +19,7 @@ function __mortarleek_agent
     complete $argv -l reuse -d 'Print the lines of the agent that answers at the path'
     complete $argv -l stand-in -d 'Start the helper for tests'
     complete $argv -l record -r -F -d 'Write what happens to a new file'
-    complete $argv -l record-or-stop -d 'End where no more of the record can be written'
+    complete $argv -l record-or-stop -d 'Sign nothing of which the record can tell nothing'
     complete $argv -l confirm-limit -x -a '30 1m 5m' -d 'End a question to the user after this time'
     complete $argv -s a -r -F -d 'Listen at this path'
     complete $argv -s c -d 'Print lines for csh'

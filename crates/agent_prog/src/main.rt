@@ -8,10 +8,12 @@ mod cores;
 mod descriptors;
 mod loader;
 mod outside;
+mod patient;
 
 use crate::cores::may_dump;
 use crate::descriptors::close_inherited;
 use crate::outside::world_of;
+use crate::patient::Patient;
 use agent_top::{Status, agent_main};
 use serve_words::{ServeFault, ServeWords, read_serve};
 use std::alloc::{AllocGlobal, Global};
@@ -82,15 +84,11 @@ fn run_alone<W: Wait, I: Source, O: Sink, E: Sink>(
 }
 
 // The runtime is handed in twice: only `main`'s own may wait.
-fn run<W: Wait, I: Source, O: Sink, E: Sink>(
-    rt: &HostRuntime,
-    wait: &W,
-    input: &mut I,
-    output: &mut O,
-    errors: &mut E,
-) -> Result<Status, Status> {
+fn run<W: Wait>(rt: &HostRuntime, wait: &W) -> Result<Status, Status> {
     let alloc = rt.alloc();
     let words = words_of(rt)?;
+    let mut input = Reading::new(rt.stdin());
+    let mut errors = Writing::new(rt.stderr());
     match read_serve(alloc, &words) {
         Ok(served) => {
             close_inherited(rt, alloc);
@@ -104,18 +102,27 @@ fn run<W: Wait, I: Source, O: Sink, E: Sink>(
                     "mortarleek: {name} was set: what it names runs in the agent, beside its keys"
                 );
             }
-            serve(rt, wait, &words, served, input, output, errors)
+            let mut output = Writing::new(Patient::new(rt, rt.stdout(), served.or_stop));
+            serve(
+                rt,
+                wait,
+                &words,
+                served,
+                &mut input,
+                &mut output,
+                &mut errors,
+            )
         }
         Err(ServeFault::Memory) => Err(Status::Memory),
-        Err(ServeFault::Usage) => Ok(run_alone(wait, alloc, &words, input, output, errors)),
+        Err(ServeFault::Usage) => {
+            let mut output = Writing::new(rt.stdout());
+            Ok(run_alone(wait, alloc, &words, &mut input, &mut output, &mut errors))
+        }
     }
 }
 
 fn main(rt: HostRuntime) -> ExitCode {
-    let mut input = Reading::new(rt.stdin());
-    let mut output = Writing::new(rt.stdout());
-    let mut errors = Writing::new(rt.stderr());
-    let status = match run(&rt, &rt, &mut input, &mut output, &mut errors) {
+    let status = match run(&rt, &rt) {
         Ok(status) => status,
         Err(status) => status,
     };
