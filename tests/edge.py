@@ -823,7 +823,7 @@ def no_key_is_listed_long_behind_its_end_whatever_is_sent_before(folder):
         assert any(without for _, without in found), "all was over before the key's end"
         late = max(with_it for with_it, _ in found) - end
         print(f"listed last {late:.3f} s behind its end")
-        assert late < 0.5, f"{late:.2f} s"
+        assert late < 0.1, f"{late:.2f} s"
 
 
 # What is told once.
@@ -1313,7 +1313,7 @@ def an_rsa_key_beyond_the_bounds_is_refused_before_it_costs_anything(folder):
 
 @check
 def as_many_signatures_as_may_be_asked_for_come_before_the_helper_is_given_up(folder):
-    """With the dearest key, of 8192 bits and an exponent of 64: 256 within the 60 seconds of one. Numbers within the
+    """With the dearest key, of 8192 bits and an exponent of 64: 256 within 20 of the 60 seconds that one has. Numbers within the
     bounds that are no key cost no more."""
     path = folder / "key"
     words = ["-pkeyopt", "rsa_keygen_bits:8192", "-pkeyopt", f"rsa_keygen_pubexp:{2**64 - 59}"]
@@ -1327,7 +1327,7 @@ def as_many_signatures_as_may_be_asked_for_come_before_the_helper_is_given_up(fo
             with agent.peer(seconds=60) as peer:
                 took = time_of_a_signature(agent, peer, each, wanted)
             print(f"8192 bits, an exponent of 64: {took:.3f} s a request, 256 in {256 * took:.0f} s")
-            assert 256 * took < 60, took
+            assert 256 * took <= 20, took
 
 
 # Hosts that nobody answers for.
