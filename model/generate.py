@@ -98,12 +98,13 @@ class Schedule(ChildMoves):
             key = pool.plain_key(pool.STAND_IN, seed)
             held = sum(one.room for one in self.agent.identities.values())
             count, more = divmod(LIMITS["room"] - held - len(key.added), each)
+            # One byte too many is refused, and then the very last has room.
+            ends = self.random.choice([[1, 0], [1, 0], [0, 1], [-1, 1]])
             if count >= most:
-                count, more = most, 0
-            else:
-                more = max(0, more + self.random.choice([-1, 0, 0, 1, 1]))
-            if count > 0:
-                name, user = b"h" * (1 + more // 8), b"u" * (more % 8)
+                count, more, ends = most, 0, [0]
+            for end in ends if count > 0 else []:
+                left = max(0, more + end)
+                name, user = b"h" * (1 + left // 8), b"u" * (left % 8)
                 last = pool.rule(origin, pool.hop(user, name, [host.entry]))
                 rules = pool.restrict(*[first] * (count - 1), last)
                 self.send(port, b"\x19" + key.added + string(b"") + rules, cut=0)
@@ -305,15 +306,15 @@ LONG_MOVES: dict[str, int] = {
     "many_clients": 3,
     "long_body": 4,
     "full_list": 6,
-    "full_room": 2,
+    "full_room": 3,
     "long_line": 2,
     "many_asks": 5,
-    "heavy_asks": 3,
+    "heavy_asks": 5,
     "many_children": 3,
     "long_answer": 7,
     "many_bindings": 4,
-    "large_host_keys": 5,
-    "many_principals": 5,
+    "large_host_keys": 10,
+    "many_principals": 8,
     "long_user": 5,
     "many_confirmations": 6,
     "many_keys": 2,

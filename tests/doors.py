@@ -228,6 +228,12 @@ def a_relay_that_failed_fails_the_command(folder):
                 assert (f"terms_relay failed with status {status}" in said) == (status != 0), (status, said)
 
 
+def what_stands(path):
+    """All that is told of what stands at the path but for when it was looked at, which a link that is followed changes."""
+    told = os.lstat(path)
+    return told.st_mode, told.st_ino, told.st_dev, told.st_uid, told.st_gid, told.st_size, told.st_mtime_ns, told.st_nlink
+
+
 @check
 def a_record_is_no_file_that_another_put_there(folder):
     """What another user's program puts at the name between the look and the open, by a debugger that has the start's looks
@@ -253,8 +259,8 @@ def a_record_is_no_file_that_another_put_there(folder):
     ):
         put()
         os.chown(path, other, other, follow_symlinks=False)
-        before = os.lstat(path)
-        heard = os.open(path if stat.S_ISFIFO(before.st_mode) else elsewhere, os.O_RDONLY | os.O_NONBLOCK)
+        before = what_stands(path)
+        heard = os.open(path if stat.S_ISFIFO(before[0]) else elsewhere, os.O_RDONLY | os.O_NONBLOCK)
         try:
             words = [*looks, f"inject=%%stat:error=ENOENT:when=1..{blind}", installed.agent, "--record", path, "true"]
             said = run(words, 1, env=installed.environment, timeout=20)
@@ -264,7 +270,7 @@ def a_record_is_no_file_that_another_put_there(folder):
             assert os.read(heard, 100) == b""
         finally:
             os.close(heard)
-        assert os.lstat(path) == before and not (folder / "dangling").exists()
+        assert what_stands(path) == before and not (folder / "dangling").exists()
         path.unlink()
     assert installed.folders() == []
     run([installed.agent, "--record", path, "true"], env=installed.environment)
