@@ -32,7 +32,7 @@ SEED = NUMBERS[1] if len(NUMBERS) > 1 else 64
 # What a program is asked about each vector.
 CALLS = ["key", "sign", "verify"]
 
-# RFC 8032, section 7.1: seed, public key, message and signature of TEST 1, 2, 3 and SHA(abc).
+# RFC 8032, section 7.1: seed, public key, message and signature of TEST 1, 2, 3 and SHA(abc). TEST 1024 is Debian's last.
 ROWS = [
     (
         "9d61b19deffd5a60ba844af492ec2cc44449c5697b326919703bac031cae7f60",
@@ -125,16 +125,38 @@ def the_thousand_vectors_of_debian(folder):
     for line in pathlib.Path(VECTORS).read_text().splitlines():
         secret, public, message, signed = line.split(":")[:4]
         rows += calls_of(secret[:64], public, message, signed[:128])
+    assert secret.startswith("f5e5767cf153319517630f22") and signed.startswith("0aab4c900501b3e24d7cdf46"), "TEST 1024"
     assert same(folder, rows) == len(CALLS) * 1024
+
+
+def unusual_seed(pick):
+    """Zeros or ones with one or two bits turned, or with some bytes by chance, or one byte over and over."""
+    seed = bytearray(pick.choice((b"\x00", b"\xff")) * 32)
+    kind = pick.randrange(4)
+    if kind == 0:
+        return bytes([pick.randrange(256)]) * 32
+    if kind == 1:
+        return turned(turned(seed, pick.randrange(256)), pick.randrange(256))
+    if kind == 2:
+        return turned(seed, pick.randrange(256))
+    begin = pick.randrange(32)
+    end = pick.randrange(begin, 33)
+    seed[begin:end] = pick.randbytes(end - begin)
+    return bytes(seed)
 
 
 @check
 def random_keys_beside_libcrypto(folder):
-    """Signed alike; and with one bit of R, S, A or the message turned, refused as libcrypto does."""
+    """Signed alike, with every other seed an unusual one; and with one bit of R, S, A or the message turned, refused as
+    libcrypto does."""
     private, _, _ = libcrypto()
-    pick, rows = random.Random(SEED), []
-    for _ in range(COUNT):
+    pick, rows, fixed = random.Random(SEED), [], [bytes(32), b"\xff" * 32]
+    for number in range(COUNT):
         seed, message = pick.randbytes(32), pick.randbytes(pick.choice((0, 1, 31, 64, 111, 112, 200)))
+        if number % 2:
+            seed = unusual_seed(pick)
+        if number < len(fixed):
+            seed = fixed[number]
         key = private.from_private_bytes(seed)
         public, signature = public_bytes(key), key.sign(message)
         rows += calls_of(seed.hex(), public.hex(), message.hex(), signature.hex())
