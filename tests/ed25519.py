@@ -23,14 +23,11 @@ from model import ed25519 as model
 
 check = rig.Checks("ed25519")
 TOOL = pathlib.Path(os.environ.get("ED25519", BUILT / "ed25519_tool"))
-answers = functools.partial(line_tools.answers, TOOL)
+same = functools.partial(line_tools.same, functools.partial(line_tools.answers, TOOL))
 VECTORS = "/usr/lib/python3/dist-packages/cryptography_vectors/asymmetric/Ed25519/sign.input"
 NUMBERS = [int(word) for word in sys.argv[1:] if word.isdigit()]
 COUNT = NUMBERS[0] if NUMBERS else 10000
 SEED = NUMBERS[1] if len(NUMBERS) > 1 else 64
-
-# What a program is asked about each vector.
-CALLS = ["key", "sign", "verify"]
 
 # RFC 8032, section 7.1: seed, public key, message and signature of TEST 1, 2, 3 and SHA(abc). TEST 1024 is Debian's last.
 ROWS = [
@@ -66,19 +63,13 @@ ROWS = [
 ]
 
 
-def same(folder, rows):
-    """Each line of the rows has the answer that stands beside it: the tool's, or the helper's (signer_requests.py)."""
-    return line_tools.same(answers, folder, rows)
-
-
 def calls_of(seed, public, message, signature):
     """The calls of one vector."""
-    rows = {
-        "key": (f"key {seed}", public),
-        "sign": (f"sign {seed} {public} {message}", signature),
-        "verify": (f"verify {public} {signature} {message}", "true"),
-    }
-    return [rows[call] for call in CALLS]
+    return [
+        (f"key {seed}", public),
+        (f"sign {seed} {public} {message}", signature),
+        (f"verify {public} {signature} {message}", "true"),
+    ]
 
 
 @functools.cache
@@ -126,7 +117,7 @@ def the_thousand_vectors_of_debian(folder):
         secret, public, message, signed = line.split(":")[:4]
         rows += calls_of(secret[:64], public, message, signed[:128])
     assert secret.startswith("f5e5767cf153319517630f22") and signed.startswith("0aab4c900501b3e24d7cdf46"), "TEST 1024"
-    assert same(folder, rows) == len(CALLS) * 1024
+    assert same(folder, rows) == 3 * 1024
 
 
 def unusual_seed(pick):

@@ -161,6 +161,7 @@ def name_of(row):
 def factors(n, e, d):
     """Two factors of n, by exponents that undo each other: a root of 1 other than 1 and -1."""
     odd = e * d - 1
+    assert pow(2, odd, n) == 1
     odd //= odd & -odd
     for base in range(2, 200):
         root = pow(base, odd, n)
