@@ -2,7 +2,8 @@
 """Wycheproof's vectors for signatures, of Debian's source package that holds them, beside ecdsa_tool, ed25519_tool, rsa_tool
 and the proved helper (mortarleek_signer) as they are built: what a file calls valid is accepted and what it calls invalid
 refused, and of what it calls acceptable a table below says which. Words choose checks by a part of their names. The files
-are kept in ~/.cache/mortarleek-wycheproof; WYCHEPROOF=FOLDER takes others."""
+are kept in ~/.cache/mortarleek-wycheproof; WYCHEPROOF=FOLDER takes others, and MORTARLEEK_SIGNER=PROGRAM puts another
+program in the helper's place."""
 
 import collections
 import functools
