@@ -225,12 +225,60 @@ def points_of_small_order(folder):
 
 
 @check
+def parts_of_small_order(folder):
+    """Keys and R with a part of order 8, for which section 5.1.7's equation holds with the factor 8. Without that it holds
+    where R's part is the one of [k]A', be k taken modulo L or with all its 512 bits: the first counts, here and for
+    libcrypto."""
+    part, rows = model.decode(bytes.fromhex(SMALL[4])), []
+    assert model.times(4, part) != model.NEUTRAL == model.times(8, part)
+    kinds = [(modulo, whole) for modulo in (False, True) for whole in (False, True)]
+    for scalar, nonce in ((0, 0), (1, 1), (12345, 2**200 + 1)):
+        public = model.encode(model.added(model.times(scalar, model.BASE), part))
+        for count in range(8):
+            commitment = model.encode(model.added(model.times(nonce, model.BASE), model.times(8 - count, part)))
+            for kind in kinds:
+                for message in (str(number).encode() for number in range(100000)):
+                    k = model.integer(model.hashed(commitment, public, message))
+                    if kind == (k % model.L % 8 == count, k % 8 == count):
+                        break
+                case = public, message, commitment + model.octets((nonce + k * scalar) % model.L)
+                assert model.verify(*case) == accepts_libcrypto(*case) == kind[0], case
+                rows.append((verifying(*case), spoken(kind[0])))
+        # The key of a seed has no such part.
+        public = model.encode(model.times(scalar + 1, model.BASE))
+        for count in range(8):
+            commitment = model.encode(model.added(model.times(nonce, model.BASE), model.times(count, part)))
+            k = model.integer(model.hashed(commitment, public, b""))
+            case = public, b"", commitment + model.octets((nonce + k * (scalar + 1)) % model.L)
+            assert model.verify(*case) == accepts_libcrypto(*case) == (count == 0), case
+            rows.append((verifying(*case), spoken(count == 0)))
+    assert same(folder, rows) == 3 * (8 * 4 + 8)
+
+
+def no_encodings():
+    """y at or above p, and x = 0 with the sign set."""
+    zero_signed = [model.octets(1 | 1 << 255), model.octets(model.P - 1 | 1 << 255)]
+    return zero_signed + [model.octets(model.P + more | sign << 255) for more in range(19) for sign in (0, 1)]
+
+
+@check
+def commitments_that_are_no_encodings(folder):
+    """In the place of R, where the equation holds of the point that a reduction makes of some: refused, by libcrypto too."""
+    rows = []
+    for commitment in no_encodings():
+        for key in map(bytes.fromhex, SMALL):
+            for message in (bytes([number]) for number in range(8)):
+                case = key, message, commitment + bytes(32)
+                assert not model.verify(*case) and not accepts_libcrypto(*case), case
+                rows.append((verifying(*case), "false"))
+    same(folder, rows)
+
+
+@check
 def keys_that_are_no_encodings(folder):
     """y at or above p, and x = 0 with the sign set: refused here, by section 5.1.3, where libcrypto reduces or ignores."""
     rows, others, signature = [], 0, response_only(9)
-    zero_signed = [model.octets(1 | 1 << 255), model.octets(model.P - 1 | 1 << 255)]
-    above = [model.octets(model.P + more | sign << 255) for more in range(19) for sign in (0, 1)]
-    for key in zero_signed + above:
+    for key in no_encodings():
         assert model.decode(key) is None
         for message in (bytes([number]) for number in range(8)):
             others += accepts_libcrypto(key, message, signature)
