@@ -119,6 +119,17 @@ def of_libcrypto(curve):
     }[curve]
 
 
+@functools.cache
+def by_rfc_6979(curve):
+    """How libcrypto is asked for the signatures of RFC 6979; None where it is too old for that."""
+    from cryptography.exceptions import UnsupportedAlgorithm
+
+    try:
+        return libcrypto()[0].ECDSA(of_libcrypto(curve)[1], deterministic_signing=True)
+    except (TypeError, UnsupportedAlgorithm):
+        return None
+
+
 def accepts_libcrypto(curve, public, message, signature):
     ec, utils, _, invalid = libcrypto()
     r, s = (int.from_bytes(half, "big") for half in (signature[: curve.size], signature[curve.size :]))
@@ -217,14 +228,19 @@ def with_ends_in_front(curve):
 @check
 def random_keys_beside_libcrypto_and_the_model(folder):
     """Keys as libcrypto makes them, every other with an unusual number; signatures as the model does, which libcrypto
-    takes; libcrypto's own, which are taken here; and one bit turned."""
+    makes too where it can, and takes; libcrypto's own, which are taken here; and one bit turned."""
     ec, utils, _, _ = libcrypto()
+    print(f"ecdsa: libcrypto {'makes' if by_rfc_6979(P256) else 'does not make'} the signatures of RFC 6979", flush=True)
     from cryptography.hazmat.primitives.serialization import Encoding, PublicFormat
 
     pick = random.Random(SEED)
     for curve in CURVES:
         rows, unusual, fixed = [], unusual_numbers(curve), [1, curve.n - 1, 2, curve.n - 2]
         group, hash_function = of_libcrypto(curve)
+
+        def signed(private, message, how):
+            return b"".join(map(curve.octets, utils.decode_dss_signature(private.sign(message, how))))
+
         for number in range(COUNT):
             message = pick.randbytes(pick.choice((0, 1, 31, 55, 56, 64, 111, 112, 200)))
             if number % 16 == 8:
@@ -236,9 +252,10 @@ def random_keys_beside_libcrypto_and_the_model(folder):
             public = private.public_key().public_bytes(Encoding.X962, PublicFormat.UncompressedPoint)
             signature = KEPT[curve].sign(d, message)
             assert accepts_libcrypto(curve, public, message, signature)
+            if how := by_rfc_6979(curve):
+                assert signed(private, message, how) == signature, (d, message)
             rows += calls_of(curve, d, public, message, signature)
-            other = b"".join(map(curve.octets, utils.decode_dss_signature(private.sign(message, ec.ECDSA(hash_function)))))
-            rows.append((verifying(curve, public, message, other), "true"))
+            rows.append((verifying(curve, public, message, signed(private, message, ec.ECDSA(hash_function))), "true"))
             texts = [public, message, signature]
             part = pick.choice((0, 2, 2) if not message else (0, 1, 2, 2))
             texts[part] = turned(texts[part], pick.randrange(8 * len(texts[part])))
