@@ -108,7 +108,7 @@ ask_too(
     ecdsa.each_bit_of_one_signature,
     ecdsa.sums_that_double_or_end_at_infinity,
 )
-# The helper puts zeros before a signature that lacks them; what the long keys and the last take is the signature.
+# The helper puts zeros before a signature that lacks them; the last two are about rsa_sign, whoever asks for it.
 ask_too(
     rsa,
     line_requests.rsa_answer,
