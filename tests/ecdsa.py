@@ -119,6 +119,17 @@ def of_libcrypto(curve):
     }[curve]
 
 
+@functools.cache
+def by_rfc_6979(curve):
+    """How libcrypto is asked for the signatures of RFC 6979; None where it is too old for that."""
+    from cryptography.exceptions import UnsupportedAlgorithm
+
+    try:
+        return libcrypto()[0].ECDSA(of_libcrypto(curve)[1], deterministic_signing=True)
+    except (TypeError, UnsupportedAlgorithm):
+        return None
+
+
 def accepts_libcrypto(curve, public, message, signature):
     ec, utils, _, invalid = libcrypto()
     r, s = (int.from_bytes(half, "big") for half in (signature[: curve.size], signature[curve.size :]))
@@ -141,39 +152,110 @@ def the_vectors_of_the_standard(folder):
     assert same(folder, rows) == 6 * len(CURVES)
 
 
+def vectors_of_nist(name, section):
+    """What each vector of a section of a file of NIST assigns."""
+    text = VECTORS.joinpath(name).read_text().replace("\r", "")
+    (part,) = (part for part in re.split(r"^(?=\[[PKB]-\d)", text, flags=re.M) if part.startswith(section))
+    rows = (dict(re.findall(r"^(\w+) = (\w+)", block, flags=re.M)) for block in part.split("\n\n"))
+    return [row for row in rows if "Qx" in row]
+
+
+def public_in(curve, row):
+    """The public key of a vector of NIST."""
+    return b"\x04" + b"".join(bytes.fromhex(row[part].zfill(2 * curve.size)) for part in ("Qx", "Qy"))
+
+
 @check
 def the_vectors_of_nist(folder):
-    """SigVer of CAVP for each curve with its hash: r, s, the message or the key changed, or none; and SigGen."""
+    """SigVer of CAVP for each curve with its hash: r, s, the message or the key changed, or none; and SigGen, whose keys
+    also sign here."""
     rig.install("ecdsa")
     for curve in CURVES:
         section = f"[P-{curve.name[1:]},SHA-{curve.hash_name[3:]}]"
         rows = []
-        for name, wanted in (("SigVer.rsp", None), ("SigGen.txt", "P")):
-            part = VECTORS.joinpath(name).read_text().replace("\r", "").split(section)[1].split("\n[")[0]
-            for text in re.split(r"(?=^Msg = )", part, flags=re.M)[1:]:
-                row = dict(re.findall(r"^(\w+) = (\w+)", text, flags=re.M))
-                x, y, r, s = (bytes.fromhex(row[key].zfill(2 * curve.size)) for key in ("Qx", "Qy", "R", "S"))
-                holds = (wanted or row["Result"]) == "P"
-                rows.append((verifying(curve, b"\x04" + x + y, bytes.fromhex(row["Msg"]), r + s), spoken(holds)))
-        assert {answer for _, answer in rows} == {"true", "false"}
-        assert same(folder, rows) >= 30
+        for name in ("SigVer.rsp", "SigGen.txt"):
+            for row in vectors_of_nist(name, section):
+                signature = b"".join(bytes.fromhex(row[part].zfill(2 * curve.size)) for part in ("R", "S"))
+                public, message, holds = public_in(curve, row), bytes.fromhex(row["Msg"]), row.get("Result", "P") == "P"
+                rows.append((verifying(curve, public, message, signature), spoken(holds)))
+                if "d" in row:
+                    d = int(row["d"], 16)
+                    rows += calls_of(curve, d, public, message, KEPT[curve].sign(d, message))
+        wanted = [answer for _, answer in rows]
+        assert (wanted.count("false"), wanted.count("true")) == (12, 3 + 2 * 15), curve.name
+        assert same(folder, rows) == 15 + 4 * 15
+
+
+@check
+def the_keys_of_nist(folder):
+    """KeyPair of CAVP: the public key of each private number, by which signatures hold."""
+    rig.install("ecdsa")
+    rows = []
+    for curve in CURVES:
+        for edition in ("FIPS_186-2", "FIPS_186-3"):
+            for row in vectors_of_nist(f"../{edition}/KeyPair.rsp", f"[P-{curve.name[1:]}]"):
+                d = int(row["d"], 16)
+                rows += calls_of(curve, d, public_in(curve, row), b"a key", KEPT[curve].sign(d, b"a key"))
+    assert same(folder, rows) == 3 * 2 * 10 * len(CURVES)
+
+
+def unusual_numbers(curve):
+    """What draws private numbers that are small, near n, with zeros in front or behind, or with one or two bits or runs."""
+    bits = curve.n.bit_length()
+
+    def within(number):
+        return number % (curve.n - 1) + 1
+
+    return [
+        lambda pick: pick.randrange(1, 256),
+        lambda pick: curve.n - pick.randrange(1, 256),
+        lambda pick: within(pick.getrandbits(8 * pick.randrange(1, curve.size))),
+        lambda pick: within(pick.getrandbits(bits) >> 8 * pick.randrange(1, 9)),
+        lambda pick: within(pick.getrandbits(bits) << 64 * pick.randrange(1, bits // 64)),
+        lambda pick: within(1 << pick.randrange(bits)),
+        lambda pick: within((1 << pick.randrange(bits)) + (1 << pick.randrange(bits))),
+        lambda pick: within((1 << pick.randrange(bits)) - (1 << pick.randrange(bits))),
+    ]
+
+
+@functools.cache
+def with_ends_in_front(curve):
+    """A message whose digest begins with 16 zeros, and one with 16 ones."""
+    texts = [f"message {number}".encode() for number in range(500000)]
+    return [next(text for text in texts if curve.digest(text).startswith(front)) for front in (bytes(2), b"\xff\xff")]
 
 
 @check
 def random_keys_beside_libcrypto_and_the_model(folder):
-    """Keys as libcrypto makes them, signatures as the model does, which libcrypto takes; and one bit turned."""
-    ec = libcrypto()[0]
+    """Keys as libcrypto makes them, every other with an unusual number; signatures as the model does, which libcrypto
+    makes too where it can, and takes; libcrypto's own, which are taken here; and one bit turned."""
+    ec, utils, _, _ = libcrypto()
+    print(f"ecdsa: libcrypto {'makes' if by_rfc_6979(P256) else 'does not make'} the signatures of RFC 6979", flush=True)
     from cryptography.hazmat.primitives.serialization import Encoding, PublicFormat
 
     pick = random.Random(SEED)
     for curve in CURVES:
-        rows = []
-        for _ in range(COUNT):
-            d, message = pick.randrange(1, curve.n), pick.randbytes(pick.choice((0, 1, 31, 55, 56, 64, 111, 112, 200)))
-            key = ec.derive_private_key(d, of_libcrypto(curve)[0]).public_key()
-            public, signature = key.public_bytes(Encoding.X962, PublicFormat.UncompressedPoint), KEPT[curve].sign(d, message)
+        rows, unusual, fixed = [], unusual_numbers(curve), [1, curve.n - 1, 2, curve.n - 2]
+        group, hash_function = of_libcrypto(curve)
+
+        def signed(private, message, how):
+            return b"".join(map(curve.octets, utils.decode_dss_signature(private.sign(message, how))))
+
+        for number in range(COUNT):
+            message = pick.randbytes(pick.choice((0, 1, 31, 55, 56, 64, 111, 112, 200)))
+            if number % 16 == 8:
+                message = pick.choice(with_ends_in_front(curve))
+            d = pick.choice(unusual)(pick) if number % 2 else pick.randrange(1, curve.n)
+            if number < len(fixed):
+                d = fixed[number]
+            private = ec.derive_private_key(d, group)
+            public = private.public_key().public_bytes(Encoding.X962, PublicFormat.UncompressedPoint)
+            signature = KEPT[curve].sign(d, message)
             assert accepts_libcrypto(curve, public, message, signature)
+            if how := by_rfc_6979(curve):
+                assert signed(private, message, how) == signature, (d, message)
             rows += calls_of(curve, d, public, message, signature)
+            rows.append((verifying(curve, public, message, signed(private, message, ec.ECDSA(hash_function))), "true"))
             texts = [public, message, signature]
             part = pick.choice((0, 2, 2) if not message else (0, 1, 2, 2))
             texts[part] = turned(texts[part], pick.randrange(8 * len(texts[part])))

@@ -23,16 +23,13 @@ from model import ed25519 as model
 
 check = rig.Checks("ed25519")
 TOOL = pathlib.Path(os.environ.get("ED25519", BUILT / "ed25519_tool"))
-answers = functools.partial(line_tools.answers, TOOL)
+same = functools.partial(line_tools.same, functools.partial(line_tools.answers, TOOL))
 VECTORS = "/usr/lib/python3/dist-packages/cryptography_vectors/asymmetric/Ed25519/sign.input"
 NUMBERS = [int(word) for word in sys.argv[1:] if word.isdigit()]
 COUNT = NUMBERS[0] if NUMBERS else 10000
 SEED = NUMBERS[1] if len(NUMBERS) > 1 else 64
 
-# What a program is asked about each vector.
-CALLS = ["key", "sign", "verify"]
-
-# RFC 8032, section 7.1: seed, public key, message and signature of TEST 1, 2, 3 and SHA(abc).
+# RFC 8032, section 7.1: seed, public key, message and signature of TEST 1, 2, 3 and SHA(abc). TEST 1024 is Debian's last.
 ROWS = [
     (
         "9d61b19deffd5a60ba844af492ec2cc44449c5697b326919703bac031cae7f60",
@@ -66,19 +63,13 @@ ROWS = [
 ]
 
 
-def same(folder, rows):
-    """Each line of the rows has the answer that stands beside it: the tool's, or the helper's (signer_requests.py)."""
-    return line_tools.same(answers, folder, rows)
-
-
 def calls_of(seed, public, message, signature):
     """The calls of one vector."""
-    rows = {
-        "key": (f"key {seed}", public),
-        "sign": (f"sign {seed} {public} {message}", signature),
-        "verify": (f"verify {public} {signature} {message}", "true"),
-    }
-    return [rows[call] for call in CALLS]
+    return [
+        (f"key {seed}", public),
+        (f"sign {seed} {public} {message}", signature),
+        (f"verify {public} {signature} {message}", "true"),
+    ]
 
 
 @functools.cache
@@ -125,16 +116,38 @@ def the_thousand_vectors_of_debian(folder):
     for line in pathlib.Path(VECTORS).read_text().splitlines():
         secret, public, message, signed = line.split(":")[:4]
         rows += calls_of(secret[:64], public, message, signed[:128])
-    assert same(folder, rows) == len(CALLS) * 1024
+    assert secret.startswith("f5e5767cf153319517630f22") and signed.startswith("0aab4c900501b3e24d7cdf46"), "TEST 1024"
+    assert same(folder, rows) == 3 * 1024
+
+
+def unusual_seed(pick):
+    """Zeros or ones with one or two bits turned, or with some bytes by chance, or one byte over and over."""
+    seed = bytearray(pick.choice((b"\x00", b"\xff")) * 32)
+    kind = pick.randrange(4)
+    if kind == 0:
+        return bytes([pick.randrange(256)]) * 32
+    if kind == 1:
+        return turned(turned(seed, pick.randrange(256)), pick.randrange(256))
+    if kind == 2:
+        return turned(seed, pick.randrange(256))
+    begin = pick.randrange(32)
+    end = pick.randrange(begin, 33)
+    seed[begin:end] = pick.randbytes(end - begin)
+    return bytes(seed)
 
 
 @check
 def random_keys_beside_libcrypto(folder):
-    """Signed alike; and with one bit of R, S, A or the message turned, refused as libcrypto does."""
+    """Signed alike, with every other seed an unusual one; and with one bit of R, S, A or the message turned, refused as
+    libcrypto does."""
     private, _, _ = libcrypto()
-    pick, rows = random.Random(SEED), []
-    for _ in range(COUNT):
+    pick, rows, fixed = random.Random(SEED), [], [bytes(32), b"\xff" * 32]
+    for number in range(COUNT):
         seed, message = pick.randbytes(32), pick.randbytes(pick.choice((0, 1, 31, 64, 111, 112, 200)))
+        if number % 2:
+            seed = unusual_seed(pick)
+        if number < len(fixed):
+            seed = fixed[number]
         key = private.from_private_bytes(seed)
         public, signature = public_bytes(key), key.sign(message)
         rows += calls_of(seed.hex(), public.hex(), message.hex(), signature.hex())
@@ -212,12 +225,60 @@ def points_of_small_order(folder):
 
 
 @check
+def parts_of_small_order(folder):
+    """Keys and R with a part of order 8, for which section 5.1.7's equation holds with the factor 8. Without that it holds
+    where R's part is the one of [k]A', be k taken modulo L or with all its 512 bits: the first counts, here and for
+    libcrypto."""
+    part, rows = model.decode(bytes.fromhex(SMALL[4])), []
+    assert model.times(4, part) != model.NEUTRAL == model.times(8, part)
+    kinds = [(modulo, whole) for modulo in (False, True) for whole in (False, True)]
+    for scalar, nonce in ((0, 0), (1, 1), (12345, 2**200 + 1)):
+        public = model.encode(model.added(model.times(scalar, model.BASE), part))
+        for count in range(8):
+            commitment = model.encode(model.added(model.times(nonce, model.BASE), model.times(8 - count, part)))
+            for kind in kinds:
+                for message in (str(number).encode() for number in range(100000)):
+                    k = model.integer(model.hashed(commitment, public, message))
+                    if kind == (k % model.L % 8 == count, k % 8 == count):
+                        break
+                case = public, message, commitment + model.octets((nonce + k * scalar) % model.L)
+                assert model.verify(*case) == accepts_libcrypto(*case) == kind[0], case
+                rows.append((verifying(*case), spoken(kind[0])))
+        # The key of a seed has no such part.
+        public = model.encode(model.times(scalar + 1, model.BASE))
+        for count in range(8):
+            commitment = model.encode(model.added(model.times(nonce, model.BASE), model.times(count, part)))
+            k = model.integer(model.hashed(commitment, public, b""))
+            case = public, b"", commitment + model.octets((nonce + k * (scalar + 1)) % model.L)
+            assert model.verify(*case) == accepts_libcrypto(*case) == (count == 0), case
+            rows.append((verifying(*case), spoken(count == 0)))
+    assert same(folder, rows) == 3 * (8 * 4 + 8)
+
+
+def no_encodings():
+    """y at or above p, and x = 0 with the sign set."""
+    zero_signed = [model.octets(1 | 1 << 255), model.octets(model.P - 1 | 1 << 255)]
+    return zero_signed + [model.octets(model.P + more | sign << 255) for more in range(19) for sign in (0, 1)]
+
+
+@check
+def commitments_that_are_no_encodings(folder):
+    """In the place of R, where the equation holds of the point that a reduction makes of some: refused, by libcrypto too."""
+    rows = []
+    for commitment in no_encodings():
+        for key in map(bytes.fromhex, SMALL):
+            for message in (bytes([number]) for number in range(8)):
+                case = key, message, commitment + bytes(32)
+                assert not model.verify(*case) and not accepts_libcrypto(*case), case
+                rows.append((verifying(*case), "false"))
+    same(folder, rows)
+
+
+@check
 def keys_that_are_no_encodings(folder):
     """y at or above p, and x = 0 with the sign set: refused here, by section 5.1.3, where libcrypto reduces or ignores."""
     rows, others, signature = [], 0, response_only(9)
-    zero_signed = [model.octets(1 | 1 << 255), model.octets(model.P - 1 | 1 << 255)]
-    above = [model.octets(model.P + more | sign << 255) for more in range(19) for sign in (0, 1)]
-    for key in zero_signed + above:
+    for key in no_encodings():
         assert model.decode(key) is None
         for message in (bytes([number]) for number in range(8)):
             others += accepts_libcrypto(key, message, signature)

@@ -31,7 +31,8 @@ def same(ask, folder, rows):
     """Each line of the rows has the answer that stands beside it, where `ask` is asked. How many there are."""
     said = ask(folder, [line for line, _ in rows])
     for (line, wanted), answer in zip(rows, said):
-        assert answer == wanted, f"{line[:300]}: {answer[:300]}, not {wanted[:300]}"
+        # A random one is seen in no other place.
+        assert answer == wanted, f"{line[:20000]}: {answer[:3000]}, not {wanted[:3000]}"
     return len(rows)
 
 

@@ -58,10 +58,11 @@ class Key:
     def power(self, encoded):
         return pow(int.from_bytes(encoded, "big"), self.d, self.n).to_bytes(self.size(), "big")
 
-    def signing(self, name, message, **changed):
+    def signing(self, name, message, front=lambda: "", **changed):
+        """The line, with what stands in front of each number but e."""
         numbers = {part: getattr(self, part) for part in ("n", "e", "d", "p", "q", "iqmp")} | changed
-        words = [octets(numbers["n"]), str(numbers["e"])] + [octets(numbers[part]) for part in ("d", "p", "q", "iqmp")]
-        return " ".join(["sign", name, *words, message.hex()])
+        n, e, *others = (front() + octets(number) if part != "e" else str(number) for part, number in numbers.items())
+        return " ".join(["sign", name, n, e, *others, message.hex()])
 
     def verifying(self, name, message, signature, e=None, n=None):
         n = octets(self.n) if n is None else n
@@ -133,39 +134,96 @@ def the_vectors_of_rsa_laboratories(folder):
     assert same(folder, rows) == 600
 
 
-def blocks(path):
-    """The assignments of a file of NIST, each block with those of its modulus."""
+def vectors_of_nist(name, last):
+    """What each vector of a file of NIST assigns, with what stands above it for its modulus: those that have `last` in
+    the end, and are by a hash function of ours where they are by one."""
     known = {}
-    for line in path.read_text().splitlines():
-        if "=" in line:
-            name, value = (side.strip() for side in line.strip().strip("[]").split("=", 1))
-            known[name] = value
-            if name in ("mod", "n"):
-                known.pop("e", None)
-        elif not line.strip() and "S" in known and "Result" in known:
-            yield dict(known)
-            known.pop("Result")
+    for line in (VECTORS / name).read_text().splitlines():
+        if "=" not in line:
+            continue
+        part, value = (side.strip() for side in line.strip("[] ").split("=", 1))
+        known[part] = value
+        if part == "mod":
+            # Of another key.
+            known = {part: value}
+        if part == last and name_of(known) in (None, *HASHES):
+            yield {part: value for part, value in known.items() if part in ("SHAAlg", "Msg", "Result")} | {
+                part: int(known[part], 16) for part in ("n", "e", "d", "p", "q", "S") if part in known
+            }
+
+
+def name_of(row):
+    """The hash function of a vector, in our name."""
+    return row["SHAAlg"].lower().replace("-", "") if "SHAAlg" in row else None
+
+
+@functools.cache
+def factors(n, e, d):
+    """Two factors of n, by exponents that undo each other: a root of 1 other than 1 and -1."""
+    odd = e * d - 1
+    assert pow(2, odd, n) == 1
+    odd //= odd & -odd
+    for base in range(2, 200):
+        root = pow(base, odd, n)
+        while root not in (1, n - 1):
+            root, before = root * root % n, root
+            if root == 1:
+                p = math.gcd(before - 1, n)
+                return p, n // p
+    raise ValueError("no factors")
+
+
+def signed_and_verified(key, name, message, signature):
+    return [(key.signing(name, message), signature.hex()), (key.verifying(name, message, signature), "true")]
 
 
 @check
 def the_verifications_of_nist(folder):
-    """Signatures that were changed in one thing each: message, exponent, signature, and the form of the encoding."""
+    """Signatures that were changed in one thing each: message, exponent, signature, and the form of the encoding; and
+    the ones that weren't, made anew."""
     rig.install("rsa")
     rows = []
-    for name in ("SigVer15EMTest.txt", "FIPS_186-2/SigVer15_186-3.rsp"):
-        for row in blocks(VECTORS / name):
-            hashed = row["SHAAlg"].lower().replace("-", "")
-            e = int(row["e"], 16)
-            if hashed not in HASHES or e >= 2**64:
-                continue
-            n, signature = int(row["n"], 16), bytes.fromhex(row["S"])
-            size = (n.bit_length() + 7) // 8
-            signature = signature[-size:] if len(signature) > size and not any(signature[:-size]) else signature
-            line = f"verify {hashed} {octets(n)} {e} {signature.hex()} {row['Msg']}"
-            rows.append((line, spoken(row["Result"].startswith("P"))))
+    for path in ("SigVer15EMTest.txt", "FIPS_186-2/SigVer15_186-3.rsp"):
+        for row in vectors_of_nist(path, "Result"):
+            key, message = Key(row["p"], row["q"], row["e"], row["d"]), bytes.fromhex(row["Msg"])
+            assert key.n == row["n"]
+            signature, holds = row["S"].to_bytes(key.size(), "big"), row["Result"].startswith("P")
+            rows.append((key.verifying(name_of(row), message, signature), spoken(holds)))
+            if holds:
+                rows.append((key.signing(name_of(row), message), signature.hex()))
     wanted = [answer for _, answer in rows]
-    assert min(wanted.count("true"), wanted.count("false")) > 10, len(rows)
+    assert (wanted.count("true"), wanted.count("false"), len(rows)) == (45, 315, 405)
     same(folder, rows)
+
+
+@check
+def the_signatures_of_nist(folder):
+    """With keys of 1024 to 4096 bits; where d is there they are made anew."""
+    rig.install("rsa")
+    rows, signed = [], 0
+    for path in ("SigGen15_186-2.txt", "SigGen15_186-2.rsp", "SigGen15_186-3.rsp"):
+        for row in vectors_of_nist(f"FIPS_186-2/{path}", "S"):
+            n, message = row["n"], bytes.fromhex(row["Msg"])
+            signature = row["S"].to_bytes((n.bit_length() + 7) // 8, "big")
+            rows.append((f"verify {name_of(row)} {octets(n)} {row['e']} {signature.hex()} {row['Msg']}", "true"))
+            if "d" in row:
+                key = Key(*factors(n, row["e"], row["d"]), row["e"], row["d"])
+                rows.append((key.signing(name_of(row), message), signature.hex()))
+                signed += 1
+    assert signed == 150
+    assert same(folder, rows) == 600
+
+
+@check
+def the_keys_of_nist(folder):
+    """Of 1024 to 4096 bits, with public exponents of 3, 17 and 65537, and what each signs by the formula."""
+    rig.install("rsa")
+    rows, message = [], b"a key of NIST"
+    for number, row in enumerate(vectors_of_nist("FIPS_186-2/KeyGenRSA.rsp", "d")):
+        key, name = Key(row["p"], row["q"], row["e"], row["d"]), HASHES[number % len(HASHES)]
+        assert key.n == row["n"]
+        rows += signed_and_verified(key, name, message, key.power(encoded(name, message, key.size())))
+    assert same(folder, rows) == 2 * 30
 
 
 @check
@@ -184,6 +242,58 @@ def random_keys_beside_libcrypto(folder):
                 rows.append((key.verifying(name, message, signature), "true"))
                 wrong = turned(signature, pick.randrange(8 * len(signature)))
                 rows.append((key.verifying(name, message, wrong), spoken(accepts_libcrypto(private, name, message, wrong))))
+    same(folder, rows)
+
+
+# Bits of p and of q: one longer than the other, of moduli of 1025 and 2049 bits, and of 1024 to 2048.
+SHAPES = [(513, 512), (512, 513), (1025, 1024), (1024, 1025), (300, 725), (1024, 256), (256, 800), (512, 512)]
+# One more than there are shapes, so that each comes with each.
+EXPONENTS = [3, 5, 17, 257, 65539, 2**31 + 11, 2**32 + 1, 2**63 + 29, 2**64 - 1]
+
+
+def prime(pick, bits, e):
+    """A prime p of so many bits, where e and p - 1 share no factor: by libcrypto where it makes such short keys."""
+    while True:
+        if bits >= 512:
+            numbers = libcrypto()[0].generate_private_key(65537, 2 * bits).private_numbers()
+            number = pick.choice((numbers.p, numbers.q))
+        else:
+            number = pick.getrandbits(bits) | 1 | 3 << bits - 2
+            if not all(number % small for small in range(3, 2000, 2)) or pow(2, number - 1, number) != 1:
+                continue
+        if math.gcd(e, number - 1) == 1:
+            return number
+
+
+def unusual_key(pick, shape, e):
+    """With another d that does the same work; and libcrypto's handle of it."""
+    p, q = (prime(pick, bits, e) for bits in shape)
+    order = math.lcm(p - 1, q - 1)
+    d = pow(e, -1, order)
+    key = Key(p, q, e, d + order * pick.randrange((p * q - d) // order + 1))
+    rsa = libcrypto()[0]
+    public = rsa.RSAPublicNumbers(e, key.n)
+    return key, rsa.RSAPrivateNumbers(p, q, key.d, key.d % (p - 1), key.d % (q - 1), key.iqmp, public).private_key()
+
+
+@check
+def unusual_keys_beside_libcrypto(folder):
+    """Factors of unlike lengths, p < q, moduli of a bit more than whole words, exponents from 3 to 64 bits, other d, and
+    zeros in front of all numbers: signed alike, and with one bit turned refused as libcrypto does."""
+    _, padding, names, _ = libcrypto()
+    pick, rows, seen = random.Random(SEED), [], set()
+    for number, shape in enumerate(SHAPES * COUNT):
+        key, private = unusual_key(pick, shape, EXPONENTS[number % len(EXPONENTS)])
+        seen |= {key.n.bit_length(), "p < q" if key.p < key.q else "p > q"}
+        for _ in range(13):
+            name, message = pick.choice(HASHES), pick.randbytes(pick.randrange(200))
+            signature = private.sign(message, padding, names[name])
+            seen |= {"zeros"} if not signature[0] else set()
+            rows.append((key.signing(name, message, lambda: "00" * pick.randrange(3)), signature.hex()))
+            rows.append((key.verifying(name, message, signature, n="00" * pick.randrange(3) + octets(key.n)), "true"))
+            wrong = turned(signature, pick.randrange(8 * len(signature)))
+            rows.append((key.verifying(name, message, wrong), spoken(accepts_libcrypto(private, name, message, wrong))))
+    assert seen >= {"p < q", "p > q", "zeros", 1025, 2049}, seen
     same(folder, rows)
 
 
@@ -327,9 +437,7 @@ def private_keys_that_are_none(folder):
         {"e": 0},
     ):
         refused.append((key.signing("sha256", message, **changed), "refused"))
-    words = key.signing("sha256", message).split()
-    padded = " ".join(words[:2] + ["00" + words[2], words[3]] + ["0000" + word for word in words[4:8]] + words[8:])
-    rows = [(key.signing("sha256", message), right), (padded, right)]
+    rows = [(key.signing("sha256", message), right), (key.signing("sha256", message, lambda: "0000"), right)]
     # an exponent that does the same work: d and a multiple of both p - 1 and q - 1
     rows.append((key.signing("sha256", message, d=key.d + math.lcm(key.p - 1, key.q - 1)), right))
     same(folder, rows + refused)
@@ -340,16 +448,8 @@ def factors_of_different_lengths(folder):
     """p of 400 bits and q of 700, either way round, and factors whose words aren't whole."""
     libcrypto()
     pick, rows = random.Random(SEED), []
-
-    def prime(bits):
-        while True:
-            number = pick.getrandbits(bits) | 1 | 1 << bits - 1
-            if all(number % small for small in range(3, 2000, 2)) and pow(2, number - 1, number) == 1:
-                if math.gcd(65537, number - 1) == 1:
-                    return number
-
     for first, second in ((400, 700), (700, 400), (513, 515), (520, 504), (100, 1000), (1000, 100)):
-        key = Key(prime(first), prime(second), 65537)
+        key = Key(prime(pick, first, 65537), prime(pick, second, 65537), 65537)
         if key.n.bit_length() < 1024:
             continue
         for name in HASHES:

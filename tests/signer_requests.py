@@ -1,8 +1,8 @@
 #!/usr/bin/env python3
-"""The proved helper as it is built (mortarleek_signer), of which this process is the agent: the vectors of tests/ed25519.py
-beside libcrypto, random requests beside model/mortarleek_signer.py, the helper behind, and how it ends. Words choose checks by
-a part of their names; `mortarleek_signer.py N SEED` takes N random keys (1000) and 2 N random requests by a seed.
-MORTARLEEK_SIGNER=PROGRAM puts another program in its place."""
+"""The proved helper as it is built (mortarleek_signer), of which this process is the agent: what tests/ed25519.py,
+tests/ecdsa.py and tests/rsa.py have, as requests; random requests beside model/signer.py, the helper behind, and how it
+ends. Words choose checks by a part of their names; `signer_requests.py N SEED` takes N random keys of Ed25519 (1000), fewer
+of the others, and 2 N random requests by a seed. MORTARLEEK_SIGNER=PROGRAM puts another program in its place."""
 
 import json
 import os
@@ -18,7 +18,12 @@ sys.dont_write_bytecode = True
 
 import ecdsa
 import ed25519 as vectors
+import line_requests
+import line_tools
 import rig
+import rsa
+from line_requests import ed25519_blob as public_blob
+from line_requests import ed25519_private as addition
 from rig import TOP, children, is_alive, run, string, strings, until
 
 sys.path.insert(0, str(TOP / "helper/tests"))
@@ -31,6 +36,7 @@ PROGRAM = pathlib.Path(os.environ.get("MORTARLEEK_SIGNER", rig.HELPER))
 PLAIN = b"ssh-ed25519"
 SIGN, VERIFY, SIGNED, REFUSED, TRUE, FALSE = 1, 2, 101, 102, 103, 104
 vectors.COUNT = vectors.NUMBERS[0] if vectors.NUMBERS else 1000
+ecdsa.COUNT, rsa.COUNT = max(20, vectors.COUNT // 10), max(1, vectors.COUNT // 500)
 SEED = vectors.NUMBERS[1] if len(vectors.NUMBERS) > 1 else random.SystemRandom().randrange(10**9)
 
 
@@ -47,19 +53,18 @@ class Helper(rig.Child):
     def __exit__(self, *_):
         self.end()
 
-    def ask(self, kind, *texts):
+    def ask(self, kind, *texts, more=b""):
         """The kind of the answer, and what stands in it."""
         self.asks += 1
-        flags = bytes(4) if kind == SIGN else b""
-        self.peer.send(struct.pack(">BQ", kind, self.asks) + b"".join(map(string, texts)) + flags)
+        self.peer.send(struct.pack(">BQ", kind, self.asks) + b"".join(map(string, texts)) + more)
         answer = self.peer.reply()
         found, number = struct.unpack_from(">BQ", answer)
         assert number == self.asks, (number, self.asks)
         return found, answer[9:]
 
-    def sign(self, private, blob, message):
+    def sign(self, private, blob, message, flags=0):
         """The signature, or None."""
-        kind, rest = self.ask(SIGN, private, blob, message)
+        kind, rest = self.ask(SIGN, private, blob, message, more=struct.pack(">I", flags))
         assert kind == SIGNED or (kind, rest) == (REFUSED, b""), (kind, rest)
         return strings(rest)[0] if kind == SIGNED else None
 
@@ -69,38 +74,48 @@ class Helper(rig.Child):
         return answer[0] == TRUE
 
 
-def public_blob(public):
-    return string(PLAIN) + string(public)
-
-
-def addition(seed, public):
-    return public_blob(public) + string(seed + public)
-
-
-def by_helper(folder, lines):
-    """What it answers to each line of tests/ed25519.py, as requests with plain keys."""
-    said = []
-    with Helper() as helper:
-        for line in lines:
-            call, *fields = line.split(" ")
-            first, second, message = map(bytes.fromhex, fields)
-            if call == "sign":
-                signature = helper.sign(addition(first, second), public_blob(second), message)
-                name, text = strings(signature) if signature else (PLAIN, None)
-                assert name == PLAIN, name
-                said.append(text.hex() if text else "refused")
-            else:
-                signature = string(PLAIN) + string(second)
-                said.append("true" if helper.verify(public_blob(first), signature, message) else "false")
-    return said
-
-
-# What is asked of the tool is asked of the helper, but for the calls that it hasn't.
-vectors.answers, vectors.CALLS = by_helper, ["sign", "verify"]
 check.part = "vectors"
-for _, case in vectors.check.cases:
-    if case not in (vectors.lines_that_are_none, vectors.wrong_readings_are_told_by_the_vectors):
-        check(case)
+
+
+def ask_too(module, answer, *others):
+    """Checks of a module, but for some: what it asks of its tool is asked of the helper, without the calls for a public
+    key, which it hasn't."""
+
+    def same(folder, rows):
+        asked = [row for row in rows if not row[0].startswith("key ")]
+        with Helper() as helper:
+            line_tools.same(lambda _, lines: line_requests.answers(helper, answer, lines), folder, asked)
+        return len(rows)
+
+    def through_it(case):
+        def made(folder):
+            case(folder)
+
+        made.__name__ = f"{module.check.name}_{case.__name__}"
+        return made
+
+    module.same = same
+    for _, case in module.check.cases:
+        if case not in (module.lines_that_are_none, *others):
+            check(through_it(case))
+
+
+ask_too(vectors, line_requests.ed25519_answer, vectors.wrong_readings_are_told_by_the_vectors)
+# These two take the model half a minute.
+ask_too(
+    ecdsa,
+    line_requests.ecdsa_answer,
+    ecdsa.each_bit_of_one_signature,
+    ecdsa.sums_that_double_or_end_at_infinity,
+)
+# The helper puts zeros before a signature that lacks them; the last two are about rsa_sign, whoever asks for it.
+ask_too(
+    rsa,
+    line_requests.rsa_answer,
+    rsa.lengths_and_bounds_of_signatures,
+    rsa.long_keys_beside_libcrypto,
+    rsa.no_step_depends_on_a_secret,
+)
 
 check.part = "requests"
 
