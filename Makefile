@@ -132,8 +132,8 @@ install: $(patsubst %,bin/%,$(filter-out $(QUICK),$(INSTALLED)))
 	sed 's,/usr/local/bin,$(PREFIX)/bin,' $(UNIT) > $(UNITS)/mortarleek-agent.service
 	chmod 644 $(UNITS)/mortarleek-agent.service
 	@front/proof_of $(LAID:%=bin/%) | sed -n '/: proved: /!p' >&2
-	@$(if $(DESTDIR),:,echo 'installed below $(PREFIX). An agent that runs goes on, and starts none of the programs that were replaced:' && \
-	    echo 'end it (mortarleek agent -k) and start it anew.')
+	@$(if $(DESTDIR),:,echo 'installed below $(PREFIX). An agent that runs goes on, and starts none of the programs that were replaced;' && \
+	    echo 'eval "$$(mortarleek agent --restart)" starts one of these in its place, without its keys.')
 
 uninstall:
 	@if [ -z '$(DESTDIR)' ] && [ -e $(LIBEXEC)/agent_prog ]; then \
