@@ -64,9 +64,9 @@ version:
 	@mkdir -p bin
 	@RT='$(RT)' scripts/version > bin/version
 
-# Where it can't be told, none stays that tells of others.
+# What was proved isn't lost where this can't be told, and none stays then that tells of other programs.
 bill:
-	@RT='$(RT)' scripts/sbom bin > bin/sbom.cdx.json || { rm -f bin/sbom.cdx.json; exit 1; }
+	@RT='$(RT)' scripts/sbom bin > bin/sbom.cdx.json || { rm -f bin/sbom.cdx.json; echo 'no bin/sbom.cdx.json, then'; }
 
 helper:
 	@tests/packages.sh make @helper
