@@ -1,5 +1,5 @@
 # make            proves what the programs stand on, a line for each crate, and builds them into bin/; bin/PROVED has a
-#                 record of each: which bytes, of which sources, by which toolchain
+#                 record of each: which bytes, of which sources, by which toolchain; bin/sbom.cdx.json what they link
 # make proof      says of each program in bin/ whether it is what was proved
 # make quick      builds what is installed without proofs, in some minutes: `mortarleek --version` then says NOT proved
 # make demo       shows the agent at work with OpenSSH's tools, built without proofs where it isn't proved yet
@@ -28,12 +28,12 @@ UNPROVED ?=
 export UNPROVED
 SOURCES := crates.txt $(shell find crates -name out -prune -o \( -name '*.rt' -o -name '*.antt' \) -print)
 
-.PHONY: all programs proof quick toolchain proofs version helper demo check nightly bench install uninstall deb release \
+.PHONY: all programs proof quick toolchain proofs version bill helper demo check nightly bench install uninstall deb release \
     check-release picture clean
 # scripts/prove does side by side what can be done so.
 .NOTPARALLEL:
 
-all: programs version
+all: programs version bill
 
 # One run of scripts/prove for all of them: it reads all sources, which takes seconds.
 programs: toolchain
@@ -63,6 +63,10 @@ $(PROGRAMS:%=bin/%): bin/%: $(SOURCES)
 version:
 	@mkdir -p bin
 	@RT='$(RT)' scripts/version > bin/version
+
+# What was proved isn't lost where this can't be told, and none stays then that tells of other programs.
+bill:
+	@RT='$(RT)' scripts/sbom bin > bin/sbom.cdx.json || { rm -f bin/sbom.cdx.json; echo 'no bin/sbom.cdx.json, then'; }
 
 helper:
 	@tests/packages.sh make @helper
@@ -128,8 +132,8 @@ install: $(patsubst %,bin/%,$(filter-out $(QUICK),$(INSTALLED)))
 	sed 's,/usr/local/bin,$(PREFIX)/bin,' $(UNIT) > $(UNITS)/mortarleek-agent.service
 	chmod 644 $(UNITS)/mortarleek-agent.service
 	@front/proof_of $(LAID:%=bin/%) | sed -n '/: proved: /!p' >&2
-	@$(if $(DESTDIR),:,echo 'installed below $(PREFIX). An agent that runs goes on, and starts none of the programs that were replaced:' && \
-	    echo 'end it (mortarleek agent -k) and start it anew.')
+	@$(if $(DESTDIR),:,echo 'installed below $(PREFIX). An agent that runs goes on, and starts none of the programs that were replaced;' && \
+	    echo 'eval "$$(mortarleek agent --restart)" starts one of these in its place, without its keys.')
 
 uninstall:
 	@if [ -z '$(DESTDIR)' ] && [ -e $(LIBEXEC)/agent_prog ]; then \
@@ -141,7 +145,7 @@ uninstall:
 	rm -f $(foreach name,$(PAGES),$(SHARE)/man/man1/$(call page,$(name)).1)
 	rm -f $(SCRIPTS:%=$(SHARE)/bash-completion/completions/%)
 	rm -f $(SCRIPTS:%=$(SHARE)/fish/vendor_completions.d/%.fish) $(SHARE)/zsh/site-functions/_mortarleek
-	rm -f $(UNITS)/mortarleek-agent.service $(SHARE)/mortarleek/PROVED $(SHARE)/mortarleek/unproved
+	rm -f $(UNITS)/mortarleek-agent.service $(SHARE)/mortarleek/PROVED $(SHARE)/mortarleek/unproved $(SHARE)/mortarleek/NOTICES
 	@[ ! -d $(SHARE)/mortarleek ] || rmdir --ignore-fail-on-non-empty $(SHARE)/mortarleek
 	@if [ -d $(LIBEXEC) ] && ! rmdir $(LIBEXEC) 2> /dev/null; then \
 	    echo 'left in $(LIBEXEC), since make install puts no such files there:' && ls -Aq $(LIBEXEC); \

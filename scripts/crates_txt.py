@@ -14,6 +14,12 @@ def read_named(top: Path) -> dict[str, list[str]]:
     return {name: names.split() for name, names in LINE.findall((top / "crates.txt").read_text())}
 
 
+def read_programs(top: Path) -> list[str]:
+    """The programs that are installed: the crates below the heading of that name."""
+    _, _, rest = (top / "crates.txt").read_text().partition("\n# Programs\n")
+    return [name for name, _ in LINE.findall(rest.partition("\n# ")[0])]
+
+
 def read_crates(top: Path) -> dict[str, list[str]]:
     """Each crate, with those of the repository that it names."""
     named = read_named(top)

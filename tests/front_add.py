@@ -128,6 +128,48 @@ def keys_of_every_form_are_added_in_ssh_add_s_words(folder):
 
 
 @check
+def a_dialog_asks_three_times_for_a_passphrase(folder):
+    """ssh-add itself would ask until one is right. Another key is asked for anew, and a right one ends it."""
+    installed, keys, asked = Installed(folder), Keys(folder), folder / "asked"
+    other = keygen(folder / "other", passphrase="another")
+    # It writes down what it is asked. Of the first key it knows the passphrase only once `right` is there, at the third time.
+    right = folder / "right"
+    asker = rig.script(
+        folder / "asker",
+        f"""printf '%s\\n' "$1" >> {asked}; echo "$SSH_ASKPASS" >> {folder}/by
+case $1 in
+*/other*) echo another ;;
+*) if [ -e {right} ] && [ "$(grep -c /locked {asked})" -ge 3 ]; then echo secret; else echo wrong; fi ;;
+esac""",
+    )
+    environment = {"SSH_ASKPASS": str(asker), "SSH_ASKPASS_REQUIRE": "force"}
+    first = f"Enter passphrase for {keys.locked}: "
+    thrice = [first, *[f"Bad passphrase, try again for {keys.locked}: "] * 2]
+    wrong = f"mortarleek-add: {keys.locked}: three passphrases were wrong, so it isn't added\n"
+    with installed.start() as daemon:
+        for words in ([], ["-u", "3"]):
+            asked.write_text("")
+            said = daemon.run(installed.add, *words, keys.locked, other, status=1, environment=environment)
+            assert said.count(wrong) == 1 and f"Identity added: {other} " in said, said
+            assert asked.read_text().splitlines() == [*thrice, f"Enter passphrase for {other}: "], asked.read_text()
+            listed = daemon.run(installed.add, "-l")
+            assert "other" in listed and "locked" not in listed, listed
+            daemon.run(installed.add, "-D")
+        right.touch()
+        asked.write_text("")
+        said = daemon.run(installed.add, keys.locked, environment=environment)
+        assert said == f"Identity added: {keys.locked} (locked)\n" and asked.read_text().splitlines() == thrice, said
+        # The program that asks is told of itself, as before.
+        assert set((folder / "by").read_text().splitlines()) == {str(asker)}
+        # One that isn't there, or says nothing, is as it was.
+        for program in (folder / "none", "/bin/false"):
+            said = daemon.run(installed.add, keys.locked, status=1, environment={**environment, "SSH_ASKPASS": str(program)})
+            assert "three passphrases" not in said, said
+        left = [path.name for path in installed.folders() if path.name.startswith("mortarleek-add")]
+        assert left == [], left
+
+
+@check
 def a_number_of_uses_is_sent_or_the_key_isnt_added(folder):
     installed, keys = Installed(folder), Keys(folder)
     # The recorder stands where an agent of ours does, whose guard is this process.

@@ -334,6 +334,10 @@ def a_release_is_made_of_what_the_gate_proved_alone_and_is_checked(folder):
     names_of = {"GATE", "PROVED", "SHA256SUMS", "sbom.cdx.json", f"mortarleek_{number}_amd64.deb"}
     names_of |= {f"mortarleek-{number}-{part}.tar.gz" for part in ("source", "x86_64")}
     assert {file.name for file in made.iterdir()} == names_of, sorted(made.iterdir())
+    notices = run(["tar", "-xzOf", made / f"mortarleek-{number}-x86_64.tar.gz", "./usr/local/share/mortarleek/NOTICES"])
+    assert "MIO contributors" in notices and "TERMS AND CONDITIONS FOR USE" in notices, notices
+    linked = json.loads((made / "sbom.cdx.json").read_text())["dependencies"][0]["dependsOn"]
+    assert sorted(linked) == sorted(names), linked
     looks = [*make, "check-release"]
     told = run([*looks, f"FOLDER={made}"]).splitlines()
     assert len(told) == 5 and told[-1] == f"proved at commit {commit} by a kit: 9 passed, 0 failed", told
@@ -374,22 +378,48 @@ def the_demo_says_whether_what_it_shows_is_proved(folder):
 
 @check
 def versions_licences_and_the_bill_agree(folder):
+    bills = rig.TOP / "scripts/sbom"
     number = run([rig.TOP / "scripts/version"]).split()[1]
     assert run(["dpkg-parsechangelog", "-l", rig.TOP / "debian/changelog", "-S", "Version"]).strip() == number
-    named = (rig.TOP / "debian/copyright").read_text()
-    licences = run([rig.TOP / "scripts/sbom", "--licences"]).splitlines()
-    assert len(licences) > 5
-    for line in licences:
-        name, expression = line.split()[0], line.partition(": ")[2].replace("MIT", "Expat").replace(" OR ", " or ")
-        said = re.search(rf"(?ms)^ {name}, Copyright .*?: ([^:]*?)\n \.", named)
-        assert said and " ".join(said[1].split()) == expression, (line, said and said[1])
-    bill = json.loads(run([rig.TOP / "scripts/sbom"]))
+    (folder / "quick").mkdir()
+    (folder / "quick/log_prog").write_bytes(b"__asan_init")
+    licences = [*run([bills, "--licences"]).splitlines(), *run([bills, "--licences", folder / "quick"]).splitlines()]
+    paragraphs = [" ".join(text.split()) for text in (rig.TOP / "debian/copyright").read_text().partition("\n\n")[0].split("\n .\n")]
+    kits_own = next(text for text in paragraphs if text.startswith("The other crates of the kit")).rstrip(".").replace(",", "").split()
+    text = run([bills])
+    bill = json.loads(text)
     parts = {part["name"]: part for part in bill["components"]}
+    assert len({name for name in parts if name.startswith("rattle/")}) > 20 and "openssl" in parts, parts
     for line in licences:
-        name, version = line.split(":")[0].split()
-        assert parts[name]["version"] == version, line
-    assert bill["metadata"]["component"]["version"] == number and {"libcrypto", "rust-std", "rattle/mio"} <= set(parts), parts
-    assert run([rig.TOP / "scripts/sbom"]) == run([rig.TOP / "scripts/sbom"])
+        told, _, rest = line.partition(": ")
+        (name, version), (expression, *holders) = told.split(" ", 1), rest.split("; ")
+        if expression == "the kit names none":
+            assert name in kits_own, line
+        else:
+            said = expression.replace("MIT", "Expat").replace(" OR ", " or ").replace(" WITH ", " with ")
+            (found,) = [text for text in paragraphs if text.startswith(f"{name},")]
+            assert found.endswith(f": {said}") and all(holder in found for holder in holders), (line, found)
+        if name == "compiler-rt":
+            continue
+        part = parts[name]
+        part = part["pedigree"]["ancestors"][0] if "pedigree" in part else part
+        assert part["version"] == version, (line, part)
+    assert any(line.startswith("compiler-rt ") for line in licences), licences
+    assert bill["metadata"]["component"]["version"] == number and {"libcrypto", "rust-std"} <= set(parts), parts
+    links = {entry["ref"]: set(entry["dependsOn"]) for entry in bill["dependencies"]}
+    assert links["mortarleek"] == set(links) - {"mortarleek"} and {"agent_prog", "mortarleek_signer", "mortarleek-helper"} < set(links)
+    assert set(parts) == set().union(*links.values())
+    for program in links["mortarleek"] - {"mortarleek-helper"}:
+        assert {"rattle/core", "rattle/std"} <= links[program], program
+        # What a program has code of is listed: crates of the kit by the names of its symbols.
+        if (rig.BUILT / program).exists():
+            names = set(re.findall(r"(?m)^[0-9a-f]* *\w ([a-z]\w*)::", run(["nm", rig.BUILT / program])))
+            of_kit = {name for name in names if f"rattle/{name}" in parts}
+            assert of_kit and {f"rattle/{name}" for name in of_kit} <= links[program], (program, of_kit)
+    assert "rattle/mio" in links["agent_prog"] and "rattle/mio" not in links["mortarleek_signer"], links
+    assert "openssl" in links["mortarleek-helper"] and "rattle/std" not in links["mortarleek-helper"], links
+    assert run([bills]) == text
+    assert "compiler-rt" in run([bills, folder / "quick"]) and "rattle/mio" not in run([bills, folder / "quick"])
 
 
 @check

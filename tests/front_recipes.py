@@ -4,6 +4,7 @@ lines are tried in front_use.py, the unit in front_units.py, AddKeysToAgent in c
 import os
 import pathlib
 import re
+import shlex
 import shutil
 import subprocess
 
@@ -89,6 +90,46 @@ def tmux_keeps_ours_whoever_attaches(folder):
                 assert seen.read_text() == f"{home.socket}\n", seen.read_text()
         finally:
             home.run(f"{tmux} kill-server")
+
+
+@check
+def keychain_takes_the_agent_that_is_there(folder):
+    if shutil.which("keychain") is None:
+        raise Skip("no keychain")
+    (line,) = recipe("keychain")
+    with Home(folder) as home:
+        keygen(home.home / ".ssh/id_ed25519")
+        for told in ("once", "twice"):
+            # As each login does: the number is the guard's.
+            script = f"export SSH_AGENT_PID={home.daemon.pid}; {line}echo $SSH_AUTH_SOCK; ssh-add -l"
+            socket, *keys = home.with_ours(script).splitlines()
+            assert socket == str(home.socket) and len(keys) == 1 and "id_ed25519" in keys[0], (told, socket, keys)
+
+
+@check
+def a_passphrase_comes_out_of_the_keyring(folder):
+    for tool in ("dbus-run-session", "gnome-keyring-daemon", "secret-tool"):
+        if shutil.which(tool) is None:
+            raise Skip(f"no {tool}")
+    program, lines = recipe("A passphrase out of the desktop's keyring")
+    with Home(folder) as home:
+        asker = home.home / ".local/bin/askpass-keyring"
+        asker.parent.mkdir(parents=True)
+        asker.write_text(program)
+        asker.chmod(0o755)
+        (folder / "tools").mkdir()
+        dialog = rig.script(folder / "tools/ssh-askpass", f"printf '%s\\n' \"$1\" >> {folder}/asked; echo 'by a dialog'")
+        for name, passphrase in (("id_ed25519", "of the keyring"), ("other", "by a dialog")):
+            keygen(home.home / f".ssh/{name}", passphrase=passphrase)
+        script = f"""printf 'a login' | gnome-keyring-daemon --unlock --components=secrets
+printf 'of the keyring' > {folder}/typed
+{lines.replace("id_ed25519" + chr(10), f"id_ed25519 < {folder}/typed" + chr(10), 1)}
+SSH_ASKPASS=~/.local/bin/askpass-keyring SSH_ASKPASS_REQUIRE=force mortarleek add -q ~/.ssh/other
+ssh-add -l"""
+        environment = {"PATH": f"{dialog.parent}:{home.environment['PATH']}"}
+        said = home.with_ours(f"dbus-run-session -- sh -c {shlex.quote(script)}", environment=environment)
+        assert "id_ed25519 (ED25519)" in said and "other (ED25519)" in said, said
+        assert (folder / "asked").read_text() == f"Enter passphrase for {home.home}/.ssh/other: \n", said
 
 
 @check

@@ -11,7 +11,7 @@ import subprocess
 import tempfile
 
 import rig
-from installed import Installed, call_proved, check, keygen
+from installed import Daemon, Installed, agent_of, call_proved, check, keygen
 from rig import is_alive, openssh_agent, our_agent, run, until
 
 
@@ -252,6 +252,86 @@ def reuse_prints_the_lines_of_the_agent_that_is_there(folder):
         assert run([installed.agent, *words], 1, env=installed.environment).startswith("usage: "), words
     said = run([installed.agent, "--reuse", "-a", folder / "none/s"], 1, env=installed.environment)
     assert said == f"mortarleek-agent: {folder}/none: no such folder, or not a readable one\n", said
+
+
+@check
+def a_restart_starts_the_installed_agent_in_the_place_of_the_one_that_runs(folder):
+    installed, path, key = Installed(folder), folder / "s", keygen(folder / "key")
+    program = installed.prefix / "libexec/mortarleek/agent_prog"
+    status = [installed.agent.with_name("mortarleek-status")]
+
+    def restarted(*words, status=0, **more):
+        words = [installed.agent, "--restart", *words]
+        done = subprocess.run(words, env=installed.environment | more, capture_output=True, text=True, timeout=60)
+        assert done.returncode == status, done
+        return done.stdout, done.stderr
+
+    def line_of(daemon):
+        return pathlib.Path(f"/proc/{agent_of(daemon.pid)}/cmdline").read_text().split("\0")
+
+    with installed.start("-a", path, "-t", "1h", "--confirm-limit", "20") as daemon:
+        daemon.run("ssh-add", "-q", key)
+        assert "replaced:" not in run(status, env=daemon.environment)
+        # As another installation lays it.
+        shutil.copy(program, folder / "anew")
+        os.replace(folder / "anew", program)
+        how = f"replaced: {program} isn't the file any more of which the agent runs: eval \"$(mortarleek agent --restart)\" starts that one"
+        assert how in run(status, env=daemon.environment)
+        # What would keep another from starting ends nothing.
+        (folder / "there").write_text("")
+        for words in (["--record", folder / "there"], ["-a", folder / "none/s"], ["-P", "a", "-P", "b"]):
+            restarted(*words, status=255 if "-P" in words else 1, SSH_AUTH_SOCK=daemon.path)
+        for words in (["true"], ["-D"], ["-k"], ["-u"], ["--reuse", "-a", path]):
+            assert restarted(*words, status=1, SSH_AUTH_SOCK=daemon.path)[1].startswith("usage: "), words
+        assert "which agent? SSH_AUTH_SOCK isn't set" in restarted(status=1)[1]
+        assert "key" in daemon.run("ssh-add", "-l")
+        lines, said = restarted(SSH_AUTH_SOCK=str(path))
+        assert said == f"mortarleek-agent: the agent of number {daemon.pid} has ended, and its keys are gone: add them again (mortarleek add)\n"
+        assert not is_alive(daemon.pid) and told_by(lines)[0] == str(path)
+        with Daemon(installed, path, int(told_by(lines)[1])) as second:
+            assert "no identities" in second.run("ssh-add", "-l", status=1)
+            assert "replaced:" not in run(status, env=second.environment)
+            words = line_of(second)
+            assert words[words.index("-t") + 1] == "1h" and words[words.index("--confirm-limit") + 1] == "20", words
+            # Two at once: one after the other.
+            starts = [
+                subprocess.Popen([installed.agent, "--restart", "-a", path, "-t", "2h"], env=installed.environment, stdout=subprocess.PIPE, text=True)
+                for _ in range(2)
+            ]
+            told = [told_by(start.communicate(timeout=60)[0]) for start in starts]
+            (third,) = [int(number) for _, number in told if is_alive(int(number))]
+            with Daemon(installed, path, third) as third:
+                words = line_of(third)
+                assert words[words.index("-t") + 1] == "2h" and "--confirm-limit" not in words, words
+                assert "no identities" in third.run("ssh-add", "-l", status=1)
+    until(lambda: not list(folder.glob(".mortarleek-*")), what="the end of each")
+
+
+@check
+def a_restart_ends_no_agent_that_is_another_s(folder):
+    installed = Installed(folder)
+    words = [installed.agent, "--restart"]
+    with openssh_agent(folder, name="other") as other:
+        for more, variables in ((["-a", other.path], {}), ([], {"SSH_AUTH_SOCK": str(other.path)})):
+            said = run([*words, *more], 1, env=installed.environment | variables)
+            assert said == f"mortarleek-agent: {other.path}: no agent that mortarleek agent started here as you: none is ended\n", said
+        assert "no identities" in other.run("ssh-add", "-l", status=1)
+    assert "none is ended" in run([*words, "-a", folder / "s"], 1, env=installed.environment)
+    # One with a command, and one in front.
+    said = run([installed.agent, "-a", folder / "s", installed.agent, "--restart"], 1, env=installed.environment)
+    assert f"{folder}/s: this agent stands in front or before a command" in said and "systemctl --user restart" in said, said
+    with subprocess.Popen([installed.agent, "-D", "-a", folder / "t"], env=installed.environment, stdout=subprocess.PIPE) as front:
+        try:
+            until(lambda: rig.serves(folder / "t"), what="the agent in front")
+            assert "stands in front" in run([*words, "-a", folder / "t"], 1, env=installed.environment)
+        finally:
+            front.terminate()
+    # The socket of a private folder goes with it.
+    with installed.start() as daemon:
+        lines = run([*words], env=daemon.environment)
+        path, number = told_by(lines)
+        with Daemon(installed, path, int(number)) as second:
+            assert path != daemon.path and "no identities" in second.run("ssh-add", "-l", status=1)
 
 
 @check

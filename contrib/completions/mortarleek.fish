@@ -17,6 +17,7 @@ complete -c mortarleek -n '__fish_seen_subcommand_from status' -f -l try -d 'Hav
 # `mortarleek agent`, `mortarleek add` and `mortarleek filter` take the same words as the programs of these names.
 function __mortarleek_agent
     complete $argv -l reuse -d 'Print the lines of the agent that answers at the path'
+    complete $argv -l restart -d 'End the agent that answers at the path, and start one in its place'
     complete $argv -l stand-in -d 'Start the helper for tests'
     complete $argv -l record -r -F -d 'Write what happens to a new file'
     complete $argv -l record-or-stop -d 'Sign nothing of which the record can tell nothing'
