@@ -1,4 +1,4 @@
-//! Answers a table of keys, certificates, lines of schedules, words of `serve` and lifetimes, a line each.
+//! Answers a table of keys, certificates, lines of schedules and of their output, words of `serve` and lifetimes, a line each.
 //!
 //! A line is a verb and its words. A word is bytes with the escapes of Rust's byte strings, a space in it as
 //! `\x20`, or `base64:` and base64. Lines that begin with `#` are written again as they are, so that both tables
@@ -10,6 +10,7 @@ mod input;
 mod keys;
 mod schedules;
 mod serve;
+mod written;
 
 use std::alloc::Global;
 use std::io;
@@ -43,6 +44,9 @@ fn answer(alloc: Global, line: &str) -> io::Result<Option<String>> {
         "fits" => certificates::fitting(alloc, first, second),
         "hosts" => certificates::good_for(alloc, first, second),
         "line" => schedules::step_of(alloc, rest),
+        "long" => schedules::step_of_long(alloc, first, second),
+        "step" => written::step_line(alloc, rest),
+        "deed" => written::deed_line(alloc, rest),
         "words" => serve::words_of(alloc, rest),
         "life" => serve::life_of(alloc, first),
         _ => Ok(None),

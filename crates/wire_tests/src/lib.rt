@@ -1,8 +1,6 @@
-//! Tests of the outside in memory, of the lines of schedules that are written, and of the longest that are read.
-//! Stands on schedule_text and world_ports.
+//! Tests of the outside in memory.
+//! Stands on world_ports.
 #![tactic(auto)]
 
 #[cfg(test)]
 mod outside;
-#[cfg(test)]
-mod schedules;

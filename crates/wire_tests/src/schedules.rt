@@ -1,4 +1,0 @@
-//! Lines written out, and that each call succeeds with ample memory.
-
-mod reading;
-mod writing;
