@@ -349,7 +349,7 @@ def mortarleek_add_locks_and_unlocks(folder):
         assert "plain key" in daemon.run(installed.add, "-l")
 
 
-def typed_at(words, lines, environment, status):
+def typed_at(words, lines, environment, status, prompt=": "):
     """What a program shows on a terminal of its own, where the lines are typed once it asks for each."""
     pid, terminal = os.forkpty()
     if pid == 0:
@@ -360,7 +360,7 @@ def typed_at(words, lines, environment, status):
             said += os.read(terminal, 1024).decode()
         except OSError:
             break
-        if left and said.endswith(": "):
+        if left and said.endswith(prompt):
             time.sleep(0.1)
             os.write(terminal, left.pop(0).encode() + b"\n")
     _, ended = os.waitpid(pid, 0)

@@ -12,6 +12,7 @@ import subprocess
 import tempfile
 
 import rig
+from front_add import typed_at
 from hosts import Hosts
 from installed import call_proved, check, keygen
 from provenance import sum_of_sources
@@ -34,6 +35,7 @@ def manuals_are_clean_and_name_every_option(folder):
         "terms_relay.8",
         "mortarleek-filter.1",
         "mortarleek-log.1",
+        "mortarleek-setup.1",
         "mortarleek-status.1",
         "filter_proxy.8",
     }
@@ -100,6 +102,7 @@ def what_is_installed_works_and_is_taken_away_again(folder):
         "share/man/man1/mortarleek-add.1",
         "share/man/man1/mortarleek-filter.1",
         "share/man/man1/mortarleek-log.1",
+        "share/man/man1/mortarleek-setup.1",
         "share/man/man1/mortarleek-status.1",
         "share/man/man1/mortarleek-serve.1",
         "share/man/man1/mortarleek-replay.1",
@@ -206,7 +209,7 @@ def a_new_user_installs_it_and_logs_in(folder):
     run(["sh", "-c", install], cwd=source, env=environment)
     shutil.rmtree(source)
     (home / ".profile").write_text("PATH=$HOME/.local/bin:$PATH\n")
-    run(["sh", "-c", profile], env=environment)
+    typed_at(["sh", "-c", profile], ["y"], environment, 0, prompt="] ")
     with Hosts(folder, "somewhere") as hosts:
         for kind in ("ed25519", "rsa", "ecdsa"):
             key = keygen(home / f".ssh/id_{kind}", kind=kind)

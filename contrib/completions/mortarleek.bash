@@ -1,5 +1,5 @@
-# Completions of bash for mortarleek, mortarleek-agent, mortarleek-add, mortarleek-filter and
-# mortarleek-log.
+# Completions of bash for mortarleek, mortarleek-agent, mortarleek-add, mortarleek-filter,
+# mortarleek-log, mortarleek-setup and mortarleek-status.
 
 # The words of compgen that say what may stand here.
 _mortarleek_offer() { mapfile -t COMPREPLY < <(compgen "$@"); }
@@ -50,11 +50,13 @@ _mortarleek_log() {
     esac
 }
 
+_mortarleek_setup() { _mortarleek_offer -W '--yes --remove' -- "$2"; }
+
 _mortarleek_status() { _mortarleek_offer -W '--try' -- "$2"; }
 
 _mortarleek() {
     if [ "$COMP_CWORD" = 1 ]; then
-        _mortarleek_offer -W 'add agent audit drill filter log replay serve status --version' -- "$2"
+        _mortarleek_offer -W 'add agent audit drill filter log replay serve setup status --version' -- "$2"
         return
     fi
     case ${COMP_WORDS[1]} in
@@ -62,6 +64,7 @@ _mortarleek() {
     add) _mortarleek_add "$@" ;;
     filter) _mortarleek_filter "$@" ;;
     log) _mortarleek_log "$@" ;;
+    setup) _mortarleek_setup "$@" ;;
     status) _mortarleek_status "$@" ;;
     --version) COMPREPLY=() ;;
     drill) _mortarleek_offer -W '1000 100000' -- "$2" ;;
@@ -74,4 +77,5 @@ complete -o filenames -F _mortarleek_agent mortarleek-agent
 complete -o filenames -F _mortarleek_add mortarleek-add
 complete -o filenames -F _mortarleek_filter mortarleek-filter
 complete -o filenames -F _mortarleek_log mortarleek-log
+complete -o filenames -F _mortarleek_setup mortarleek-setup
 complete -o filenames -F _mortarleek_status mortarleek-status

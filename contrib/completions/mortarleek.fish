@@ -1,5 +1,5 @@
-# Completions of fish for mortarleek, mortarleek-agent, mortarleek-add, mortarleek-filter, mortarleek-log and
-# mortarleek-status.
+# Completions of fish for mortarleek, mortarleek-agent, mortarleek-add, mortarleek-filter, mortarleek-log,
+# mortarleek-setup and mortarleek-status.
 
 complete -c mortarleek -f -n __fish_use_subcommand -a add -d 'Add, list and remove keys'
 complete -c mortarleek -f -n __fish_use_subcommand -a agent -d 'Start or end an agent'
@@ -9,8 +9,13 @@ complete -c mortarleek -f -n __fish_use_subcommand -a filter -d 'Run a command t
 complete -c mortarleek -f -n __fish_use_subcommand -a log -d 'Tell what signatures of a recorded run were for'
 complete -c mortarleek -f -n __fish_use_subcommand -a replay -d 'Run the agent over a schedule'
 complete -c mortarleek -f -n __fish_use_subcommand -a serve -d 'Run the agent itself at a socket'
+complete -c mortarleek -f -n __fish_use_subcommand -a setup -d 'Write the lines by which logins share one agent'
 complete -c mortarleek -f -n __fish_use_subcommand -a status -d 'Tell which agent answers'
 complete -c mortarleek -n __fish_use_subcommand -l version -d 'Print version, commit and toolchain, and what is proved'
+complete -c mortarleek-setup -f -l yes -d 'Write without a question'
+complete -c mortarleek-setup -f -l remove -d 'Take the lines away'
+complete -c mortarleek -n '__fish_seen_subcommand_from setup' -f -l yes -d 'Write without a question'
+complete -c mortarleek -n '__fish_seen_subcommand_from setup' -f -l remove -d 'Take the lines away'
 complete -c mortarleek-status -f -l try -d 'Have each key sign'
 complete -c mortarleek -n '__fish_seen_subcommand_from status' -f -l try -d 'Have each key sign'
 
