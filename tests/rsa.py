@@ -438,8 +438,11 @@ def private_keys_that_are_none(folder):
     ):
         refused.append((key.signing("sha256", message, **changed), "refused"))
     rows = [(key.signing("sha256", message), right), (key.signing("sha256", message, lambda: "0000"), right)]
-    # an exponent that does the same work: d and a multiple of both p - 1 and q - 1
-    rows.append((key.signing("sha256", message, d=key.d + math.lcm(key.p - 1, key.q - 1)), right))
+    # An exponent that does the same work: another by a multiple of both p - 1 and q - 1. Below n there are two at least,
+    # and d may be either; one of more bits than n has another size.
+    both = math.lcm(key.p - 1, key.q - 1)
+    rows.append((key.signing("sha256", message, d=key.d - both if key.d >= both else key.d + both), right))
+    refused.append((key.signing("sha256", message, d=key.d + both * (2**key.n.bit_length() // both + 1)), "refused"))
     same(folder, rows + refused)
 
 
