@@ -16,7 +16,7 @@ from front_add import typed_at
 from hosts import Hosts
 from installed import call_proved, check, keygen
 from provenance import sum_of_sources
-from rig import Skip, is_alive, run, until
+from rig import Skip, is_alive, needs, run, until
 
 
 @check
@@ -66,8 +66,7 @@ def manuals_are_clean_and_name_every_option(folder):
 def completions_are_read_by_their_shells(folder):
     place = rig.TOP / "contrib/completions"
     for shell, name in (("bash", "mortarleek.bash"), ("zsh", "_mortarleek"), ("fish", "mortarleek.fish")):
-        if shutil.which(shell) is None:
-            raise Skip(f"no {shell}")
+        needs(shell)
         run([shell, "-n", place / name])
     script = f"""source {place}/mortarleek.bash
 COMP_WORDS=(mortarleek-agent -); COMP_CWORD=1; _mortarleek_agent mortarleek-agent - mortarleek-agent; echo ${{COMPREPLY[*]}}

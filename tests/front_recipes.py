@@ -11,7 +11,7 @@ import subprocess
 import rig
 from hosts import Hosts
 from installed import Installed, check, keygen
-from rig import Skip, openssh_agent, run, until
+from rig import Skip, needs, openssh_agent, run, until
 
 PAGE = (rig.TOP / "docs/DAILY.md").read_text()
 
@@ -76,8 +76,7 @@ def a_desktop_s_agent_stays_and_ssh_goes_to_ours(folder):
 
 @check
 def tmux_keeps_ours_whoever_attaches(folder):
-    if shutil.which("tmux") is None:
-        raise Skip("no tmux")
+    needs("tmux")
     (lines,) = recipe("Without a display, and in tmux")
     with Home(folder) as home:
         (home.home / ".tmux.conf").write_text(lines)
@@ -94,8 +93,7 @@ def tmux_keeps_ours_whoever_attaches(folder):
 
 @check
 def keychain_takes_the_agent_that_is_there(folder):
-    if shutil.which("keychain") is None:
-        raise Skip("no keychain")
+    needs("keychain")
     (line,) = recipe("keychain")
     with Home(folder) as home:
         keygen(home.home / ".ssh/id_ed25519")
@@ -108,9 +106,7 @@ def keychain_takes_the_agent_that_is_there(folder):
 
 @check
 def a_passphrase_comes_out_of_the_keyring(folder):
-    for tool in ("dbus-run-session", "gnome-keyring-daemon", "secret-tool"):
-        if shutil.which(tool) is None:
-            raise Skip(f"no {tool}")
+    needs("dbus-run-session", "gnome-keyring-daemon", "secret-tool")
     program, lines = recipe("A passphrase out of the desktop's keyring")
     with Home(folder) as home:
         asker = home.home / ".local/bin/askpass-keyring"

@@ -76,7 +76,7 @@ def each_shell_has_its_lines_and_one_agent_for_all_logins(folder):
             program.rename(place / "kept")
             assert login.says() == "/a/desktop's\n", shell
             (place / "kept").rename(program)
-            assert login.setup("--remove") == f"{login.file}: as it was before mortarleek setup\n"
+            assert login.setup("--remove") == f"{login.file}: without the lines of mortarleek setup\n"
             assert not login.file.exists(), login.file.read_text()
             assert login.setup("--remove") == "no file has lines of mortarleek setup\n"
 
@@ -90,7 +90,7 @@ def bash_has_them_in_the_file_that_it_reads(folder):
         assert f"At the end of {file}:" in login.setup("--yes"), name
         assert run(["bash", "-l", "-c", "echo $FROM"], env={**login.environment, "PATH": "/usr/bin:/bin"}) == f"{name}\n"
     said = login.setup("--remove")
-    assert said.count("as it was before") == 3, said
+    assert said.count(": without the lines of mortarleek setup\n") == 3, said
     for name in (".profile", ".bash_login", ".bash_profile"):
         assert (login.home / name).read_text() == f"export FROM={name}\n"
     _end(login)

@@ -32,6 +32,13 @@ class Skip(Exception):
     """The check can't be made here, for the reason that it carries."""
 
 
+def needs(*tools):
+    """A `Skip` where one of these tools isn't in PATH."""
+    for tool in tools:
+        if shutil.which(tool) is None:
+            raise Skip(f"no {tool}")
+
+
 def install(name):
     """Debian's packages of a line of packages.txt, those that are missing; a `Skip` says why where they can't be had."""
     done = subprocess.run([TOP / "tests/packages.sh", name, f"@{name}"], stderr=subprocess.PIPE, text=True)

@@ -8,7 +8,7 @@ import subprocess
 import tempfile
 import time
 
-from rig import BUILT, LIST, TOP, Skip, children, serves, until
+from rig import BUILT, LIST, TOP, Skip, children, needs, serves, until
 
 
 def memory(pid, field="VmRSS"):
@@ -88,8 +88,7 @@ def checked_agent():
     if program.exists() and program.stat().st_mtime > max(path.stat().st_mtime for path in sources):
         return program
     tool = os.environ.get("RT", "rt")
-    if not shutil.which(tool):
-        raise Skip(f"no {tool}")
+    needs(tool)
     place.mkdir(parents=True, exist_ok=True)
     with tempfile.TemporaryDirectory(prefix="mk-") as folder:
         words = [tool, "try", "--seconds", "3600", "--", "serve", "-a", f"{folder}/a", "--helper", "/bin/false"]
