@@ -51,6 +51,14 @@ pub struct UnixPairs<'a, R> {
     pub(crate) faults: u64,
 }
 
+// Whether this side stands at this place among those of which the next poll has to tell.
+fn is_among(owed: &[(u64, Side)], place: usize, pair: u64, side: Side) -> bool {
+    match owed.get(place) {
+        Some((at, owed)) => *at == pair && *owed == side,
+        None => false,
+    }
+}
+
 impl<'a, R: Net> UnixPairs<'a, R> {
     /// Pairs with no listener and no connection yet. Fails where the system or memory does.
     pub fn new(rt: &'a R, alloc: Global) -> io::Result<UnixPairs<'a, R>>
@@ -227,7 +235,8 @@ impl<R: Files<File = File> + Net + Clock> UnixPairs<'_, R> {
         if port.marks.asks(self.round) {
             return port.read(self.round, &mut self.inbox, room);
         }
-        if port.marks.owes(self.round) {
+        if port.marks.may_wait() && !is_among(&self.owed, port.marks.place, pair, side) {
+            port.marks.place = self.owed.len();
             self.owed.push((pair, side))?;
         }
         Ok(Got::NotNow)
@@ -254,10 +263,7 @@ impl<R: Files<File = File> + Net + Clock> UnixPairs<'_, R> {
         ensures pairs { self.new.last_pair ≡ self.old.last_pair }
     {
         if let Some(listener) = &mut self.listener {
-            if listener.is_withheld {
-                listener.is_withheld = false;
-                listener.is_owed = true;
-            }
+            listener.make_room();
         }
     }
 }

@@ -102,9 +102,10 @@ impl<R: Files<File = File> + Net + Clock> UnixPairs<'_, R> {
         self.waiting.clear();
         self.round = self.round.wrapping_add(1);
         if let Some(listener) = &mut self.listener {
-            if listener.renew() {
+            if listener.is_due() {
                 out.push(ready_at(None, Side::Client))?;
             }
+            listener.renew();
         }
         Ok(())
     }

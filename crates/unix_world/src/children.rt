@@ -1,8 +1,13 @@
 //! Ends child processes that don't name themselves, or stay once their connection was closed.
 
+ghost use Rattle.std.specs.Prelude.{◌↔◌, IsSome};
+ghost use Rattle.unix_world.specs.Rounds.{IsAwaited};
+
+use crate::clock::seconds;
 use crate::started::Started;
 use std::alloc::{AllocError, Global};
 use std::process::OpenProcess;
+use std::time::Clock;
 
 // As many may be accepted that haven't named themselves: the agent would close one more.
 const MOST_UNNAMED: usize = 32;
@@ -38,6 +43,8 @@ pub struct Children<P: OpenProcess + Drop> {
     connected: usize,
     // Those whose connection was closed, until they are reaped.
     ending: Vec<Started<P>>,
+    // The second at which it was last looked what is due of them.
+    second: u64,
 }
 
 impl<P: OpenProcess + Drop> Children<P> {
@@ -47,6 +54,14 @@ impl<P: OpenProcess + Drop> Children<P> {
             accepted: 0,
             connected: 0,
             ending: Vec::new(alloc),
+            second: 0,
+        }
+    }
+
+    /// Reads the clock that they are bounded by.
+    pub fn look<R: Clock>(&mut self, rt: &R) {
+        if let Some(second) = seconds(rt) {
+            self.second = second;
         }
     }
 
@@ -56,22 +71,27 @@ impl<P: OpenProcess + Drop> Children<P> {
         self.ending.reserve(self.connected.saturating_add(1))
     }
 
-    /// One was started at this second, whose connection has this key.
-    pub fn begin(&mut self, key: usize, second: u64) -> Result<(), AllocError> {
+    /// One was started, whose connection has this key.
+    pub fn begin(&mut self, key: usize) -> Result<(), AllocError> {
         self.unnamed.push(Unnamed {
             key,
-            due: second.saturating_add(HELLO_LIMIT),
+            due: self.second.saturating_add(HELLO_LIMIT),
         })?;
         self.connected = self.connected.saturating_add(1);
         Ok(())
     }
 
     /// The connection that is to be accepted next, where one may be.
-    pub fn waiting(&self) -> Option<usize> {
+    pub fn waiting(&self) -> Option<usize>
+        ensures { IsSome result ↔ IsAwaited self.now }
+    {
         if self.accepted >= MOST_UNNAMED {
             return None;
         }
-        self.unnamed.get(self.accepted).map(|child| child.key)
+        match self.unnamed.get(self.accepted) {
+            Some(child) => Some(child.key),
+            None => None,
+        }
     }
 
     /// That one was accepted.
@@ -89,8 +109,9 @@ impl<P: OpenProcess + Drop> Children<P> {
         }
     }
 
-    /// The connection of one that should have named itself by this second. Each is told once.
-    pub fn late(&mut self, second: u64) -> Option<usize> {
+    /// The connection of one that should have named itself by now. Each is told once.
+    pub fn late(&mut self) -> Option<usize> {
+        let second = self.second;
         for child in self.unnamed.iter_mut() {
             if child.due <= second {
                 child.due = NEVER;
@@ -100,18 +121,19 @@ impl<P: OpenProcess + Drop> Children<P> {
         None
     }
 
-    /// The connection of this child process was closed at this second.
-    pub fn leave(&mut self, child: Started<P>, second: u64) {
+    /// The connection of this child process was closed.
+    pub fn leave(&mut self, child: Started<P>) {
         let mut child = child;
         self.connected = self.connected.saturating_sub(1);
-        child.due = second.saturating_add(END_LIMIT);
+        child.due = self.second.saturating_add(END_LIMIT);
         // `reserve` took room for it. Without room it would be neither waited for nor killed.
         let _ = self.ending.push(child);
-        self.reap(second);
+        self.reap();
     }
 
     /// Asks the system which of those without a connection have ended, and kills those that should have.
-    pub fn reap(&mut self, second: u64) {
+    pub fn reap(&mut self) {
+        let second = self.second;
         for child in self.ending.iter_mut() {
             child.reap();
             if child.due <= second {
@@ -127,8 +149,8 @@ impl<P: OpenProcess + Drop> Children<P> {
         self.unnamed.is_empty() && self.ending.is_empty()
     }
 
-    /// The second at which something is due first.
-    pub fn next_due(&self) -> Option<u64> {
+    // The second at which something is due first.
+    fn next_due(&self) -> Option<u64> {
         let mut next = None;
         for child in self.unnamed.iter() {
             next = Some(child.due.min(next.unwrap_or(NEVER)));
@@ -137,5 +159,13 @@ impl<P: OpenProcess + Drop> Children<P> {
             next = Some(child.due.min(next.unwrap_or(NEVER)));
         }
         next
+    }
+
+    /// How many seconds it takes until something is due.
+    pub fn next_wait(&self) -> Option<u64> {
+        match self.next_due() {
+            Some(due) => Some(due.saturating_sub(self.second)),
+            None => None,
+        }
     }
 }

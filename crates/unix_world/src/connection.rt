@@ -1,9 +1,11 @@
 //! A connection of a client or a child process, whose hello comes whole before all else.
 
-ghost use Rattle.std.specs.Prelude.{◌≡◌, ◌<◌, length, IfOk, OnErr, Ok};
+ghost use Rattle.std.specs.Prelude.{◌≡◌, ◌≤◌, ◌<◌, ◌⊎◌, ◌↔◌, length, IfOk, IsTrue, OnErr, Ok};
 ghost use Rattle.world_ports.specs.Worlds.{KeepsRest, GotWithin, TookWithin};
+ghost use Rattle.unix_world.specs.Rounds.{HasNone, IsUnnamed, OnNoBytes, OnNoRoom, StaysOwed, WhyNoBytes, WhyNoRoom};
 
 use crate::hello::HELLO;
+use crate::owed::Owed;
 use crate::port::Port;
 use crate::started::Started;
 use mio::{Registry, Token};
@@ -23,21 +25,25 @@ pub struct Connection<P: OpenProcess + Drop> {
 impl<P: OpenProcess + Drop> Connection<P> {
     /// Whether a child process hasn't named itself here yet.
     #[inline(always)]
-    fn is_unnamed(&self) -> bool {
+    fn is_unnamed(&self) -> bool
+        ensures { IsTrue result ↔ IsUnnamed self.now }
+    {
         match &self.child {
             Some(child) => !child.hello.is_said(),
             None => false,
         }
     }
 
-    /// Reads once. Of a child process nothing comes before its hello, which comes whole or not at all; the world says it
-    /// where the connection ends without it. Whether this read brought the rest of a hello comes back too.
+    // Reads once. Of a child process nothing comes before its hello, which comes whole or not at all; the world says it
+    // where the connection ends without it. Whether this read brought the rest of a hello comes back too.
     #[inline(always)]
-    pub fn read(&mut self, round: u64, inbox: &mut [u8], room: &mut [u8]) -> io::Result<(Got, bool)>
+    fn read(&mut self, round: u64, inbox: &mut [u8], room: &mut [u8]) -> io::Result<(Got, bool)>
         requires { 0 < length room.old }
         ensures within { IfOk result (λ read. GotWithin (Ok read.0) (length room.old)) }
         ensures rest { IfOk result (λ read. KeepsRest (Ok read.0) room.old room.new) }
         ensures unchanged { OnErr result (room.new ≡ room.old) }
+        ensures none { IfOk result (λ read. OnNoBytes read.0 (HasNone round self.new.port.marks)) }
+        ensures number { self.new.number ≡ self.old.number }
     {
         match &mut self.child {
             Some(child) if !child.hello.is_said() => {
@@ -56,11 +62,66 @@ impl<P: OpenProcess + Drop> Connection<P> {
         }
     }
 
-    /// Writes from the front of `bytes`: nothing before the hello, as private keys, which nobody may be there to take.
+    /// Reads once a round. Of a connection that may have more, and was read in this round, the next poll tells.
     #[inline(always)]
-    pub fn write(&mut self, registry: &Registry, token: Token, bytes: &[u8]) -> io::Result<Wrote>
+    pub fn read_or_owe(
+        &mut self,
+        port: u64,
+        owed: &mut Owed,
+        inbox: &mut [u8],
+        room: &mut [u8],
+    ) -> io::Result<(Got, bool)>
+        requires { 0 < length room.old }
+        ensures within { IfOk result (λ read. GotWithin (Ok read.0) (length room.old)) }
+        ensures rest { IfOk result (λ read. KeepsRest (Ok read.0) room.old room.new) }
+        ensures unchanged { OnErr result (room.new ≡ room.old) }
+        ensures number { self.new.number ≡ self.old.number }
+        ensures stays { StaysOwed owed.old owed.new }
+        ensures why { IfOk result (λ read. OnNoBytes read.0
+            (WhyNoBytes owed.old.round port self.old.port.marks self.new.port.marks owed.new)) }
+    {
+        if self.port.marks.asks(owed.round) {
+            return self.read(owed.round, inbox, room);
+        }
+        if self.port.marks.may_wait() {
+            owed.put_off_read(port, &mut self.port.marks.place)?;
+        }
+        Ok((Got::NotNow, false))
+    }
+
+    /// Writes while the round allows it. Where it doesn't, the next poll tells of the connection.
+    #[inline(always)]
+    pub fn write_or_owe(
+        &mut self,
+        port: u64,
+        owed: &mut Owed,
+        is_long: bool,
+        registry: &Registry,
+        token: Token,
+        bytes: &[u8],
+    ) -> io::Result<Wrote>
         requires { 0 < length bytes.now }
         ensures within { IfOk result (λ wrote. TookWithin (Ok wrote) (length bytes.now)) }
+        ensures number { self.new.number ≡ self.old.number }
+        ensures stays { StaysOwed owed.old owed.new }
+        ensures why { IfOk result (λ wrote. OnNoRoom wrote (WhyNoRoom owed.old.round port self.old self.new owed.new)) }
+    {
+        if self.port.marks.may_write(owed.round, is_long) {
+            return self.write(registry, token, bytes);
+        }
+        owed.put_off_write(port)?;
+        Ok(Wrote::NotNow)
+    }
+
+    // Writes from the front of `bytes`: nothing before the hello, as private keys, which nobody may be there to take.
+    #[inline(always)]
+    fn write(&mut self, registry: &Registry, token: Token, bytes: &[u8]) -> io::Result<Wrote>
+        requires { 0 < length bytes.now }
+        ensures within { IfOk result (λ wrote. TookWithin (Ok wrote) (length bytes.now)) }
+        ensures registered { IfOk result (λ wrote. OnNoRoom wrote
+            (IsUnnamed self.old ⊎ IsTrue self.new.port.waits_for_room)) }
+        ensures marks { self.new.port.marks ≡ self.old.port.marks }
+        ensures number { self.new.number ≡ self.old.number }
     {
         if self.is_unnamed() {
             return Ok(Wrote::NotNow);
@@ -85,7 +146,9 @@ fn hear<P: OpenProcess + Drop>(
     child: &mut Started<P>,
     round: u64,
     inbox: &mut [u8],
-) {
+)
+    ensures { HasNone round port.new.marks ⊎ (33 ≤ child.new.hello.came) }
+{
     let mut room = [0; HELLO];
     for _ in 0..HELLO {
         let missing = child.hello.missing();
@@ -103,4 +166,6 @@ fn hear<P: OpenProcess + Drop>(
             Ok(Got::End) | Err(_) => child.hello.end(),
         }
     }
+    // No hello comes in more pieces than it has bytes.
+    child.hello.end();
 }

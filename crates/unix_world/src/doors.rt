@@ -1,5 +1,7 @@
 //! Listeners at socket files: makes the files, takes a bounded number a round, removes them.
 
+ghost use Rattle.std.specs.Prelude.{IsTrue};
+
 use crate::lock::hold;
 use libc::net::listen;
 use mio::net::{UnixListener, UnixStream};
@@ -51,13 +53,26 @@ impl Listener {
         }
     }
 
-    /// A poll told of what there is: a round begins. Whether it has to tell of this listener.
-    pub fn renew(&mut self) -> bool {
-        let tells = self.is_stuck || self.is_owed;
+    /// Whether a poll has to tell of this listener.
+    pub fn is_due(&self) -> bool
+        ensures { IsTrue self.now.is_owed → IsTrue result }
+    {
+        self.is_stuck || self.is_owed
+    }
+
+    /// A poll told of what there is: a round begins.
+    pub fn renew(&mut self) {
         self.is_stuck = false;
         self.is_owed = false;
         self.taken = 0;
-        tells
+    }
+
+    /// A connection was closed: who was left waiting may come.
+    pub fn make_room(&mut self) {
+        if self.is_withheld {
+            self.is_withheld = false;
+            self.is_owed = true;
+        }
     }
 }
 

@@ -1,7 +1,8 @@
 //! A child process's HELLO as far as it came, which is said for it where it doesn't come.
 
-ghost use Rattle.std.specs.Prelude.{◌≡◌, ◌<◌, length, Ok};
+ghost use Rattle.std.specs.Prelude.{◌≡◌, ◌<◌, ◌≤◌, ◌-◌, ◌↔◌, length, IsTrue, Ok};
 ghost use Rattle.world_ports.specs.Worlds.{KeepsRest, GotWithin};
+ghost use Rattle.unix_world.specs.Rounds.{IsSaid, OnNoBytes};
 
 use world_ports::Got;
 
@@ -38,7 +39,9 @@ impl Hello {
     }
 
     /// How many of its bytes are to come.
-    pub fn missing(&self) -> usize {
+    pub fn missing(&self) -> usize
+        ensures { result ≡ 33 - self.now.came }
+    {
         HELLO.saturating_sub(self.came)
     }
 
@@ -53,18 +56,24 @@ impl Hello {
     }
 
     /// The connection has ended: what is missing is said in the child's place.
-    pub fn end(&mut self) {
+    pub fn end(&mut self)
+        ensures { self.new.came ≡ 33 }
+    {
         self.came = HELLO;
         self.has_ended = true;
     }
 
     /// Whether it can be handed on.
-    pub fn is_whole(&self) -> bool {
+    pub fn is_whole(&self) -> bool
+        ensures { IsTrue result ↔ (33 ≤ self.now.came) }
+    {
         self.came >= HELLO
     }
 
     /// Whether it was read, and the connection goes on.
-    pub fn is_said(&self) -> bool {
+    pub fn is_said(&self) -> bool
+        ensures { IsTrue result ↔ IsSaid self.now }
+    {
         self.read >= HELLO && !self.has_ended
     }
 
@@ -73,6 +82,7 @@ impl Hello {
         requires { 0 < length room.old }
         ensures within { GotWithin (Ok result) (length room.old) }
         ensures rest { KeepsRest (Ok result) room.old room.new }
+        ensures told { OnNoBytes result ⊥ }
     {
         let left = &self.bytes[self.read.min(HELLO)..];
         if left.is_empty() {

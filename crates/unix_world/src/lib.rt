@@ -5,15 +5,19 @@
 
 mod children;
 mod clock;
+mod clocks;
 mod connection;
 mod doors;
+mod epoll;
 mod hello;
 mod identity;
 mod lock;
 mod marks;
+mod owed;
 mod port;
 mod ports;
 mod programs;
+mod sockets;
 mod started;
 mod unix;
 

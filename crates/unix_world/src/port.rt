@@ -1,7 +1,8 @@
 //! One connection under epoll: its reads, its writes, and its end.
 
-ghost use Rattle.std.specs.Prelude.{◌≡◌, ◌<◌, length, IfOk, OnErr};
+ghost use Rattle.std.specs.Prelude.{◌≡◌, ◌<◌, length, min, IfOk, IsTrue, OnErr};
 ghost use Rattle.world_ports.specs.Worlds.{KeepsRest, GotWithin, TookWithin};
+ghost use Rattle.unix_world.specs.Rounds.{HasNone, OnMost, OnNoBytes, OnNoRoom};
 
 use crate::marks::Marks;
 use mio::net::UnixStream;
@@ -40,6 +41,10 @@ impl Port {
         ensures within { IfOk result (λ got. GotWithin (Ok got) (length room.old)) }
         ensures rest { IfOk result (λ got. KeepsRest (Ok got) room.old room.new) }
         ensures unchanged { OnErr result (room.new ≡ room.old) }
+        // What fills the room may not be all: it is asked for again.
+        ensures more { IfOk result (λ got. OnMost got (min (min (length room.old) (length inbox.old)) 65536)
+            (IsTrue self.new.marks.maybe_more)) }
+        ensures none { IfOk result (λ got. OnNoBytes got (HasNone round self.new.marks)) }
     {
         let most = room.len().min(inbox.len()).min(65536);
         match self.stream.read(&mut inbox[..most]) {
@@ -69,6 +74,8 @@ impl Port {
     pub fn write(&mut self, registry: &Registry, token: Token, bytes: &[u8]) -> io::Result<Wrote>
         requires { 0 < length bytes.now }
         ensures within { IfOk result (λ wrote. TookWithin (Ok wrote) (length bytes.now)) }
+        ensures registered { IfOk result (λ wrote. OnNoRoom wrote (IsTrue self.new.waits_for_room)) }
+        ensures marks { self.new.marks ≡ self.old.marks }
     {
         let most = bytes.len().min(1 << 20);
         match self.stream.write(&bytes[..most]) {

@@ -1,12 +1,19 @@
 //! The open connections by their keys, found by the numbers that they were accepted under.
 
-ghost use Rattle.std.specs.Prelude.{◌<◌};
+ghost use Rattle.std.specs.Prelude.{◌≡◌, ◌<◌, length, IfOk, IfSome, IsTrue, Ok, OnErr};
+ghost use Rattle.world_ports.specs.Worlds.{KeepsRest, GotWithin, TookWithin};
+ghost use Rattle.unix_world.specs.Rounds.{IsAt, OnNoBytes, OnNoRoom, ReadsNothing, StaysOwed, WritesNothing};
 
 use crate::connection::Connection;
+use crate::owed::Owed;
+use mio::{Registry, Token};
 use slab::Slab;
 use std::alloc::{AllocError, Global};
 use std::collections::HashMap;
+use std::io;
+use std::io::{Error, ErrorKind};
 use std::process::OpenProcess;
+use world_ports::{Got, Wrote};
 
 // How many numbers have a place of their own: as many clients may be open, and connections are numbered one by one.
 const NEAR: usize = 128;
@@ -67,23 +74,82 @@ impl<P: OpenProcess + Drop> Ports<P> {
         Ok(())
     }
 
-    /// The connection with this number, behind its key.
+    // The key of the connection with this number.
     #[inline(always)]
-    pub fn find(&mut self, number: u64) -> Option<(usize, &mut Connection<P>)> {
+    fn key_of(&self, number: u64) -> Option<usize>
+        ensures { IfSome result (λ key. IsAt self.now.open key number) }
+    {
         let near = self.near[place_of(number)];
         if self.is_at(near, number) {
-            return Some((near, self.open.get_mut(near)?));
+            return Some(near);
         }
-        let key = *self.keys.get(&number)?;
-        Some((key, self.open.get_mut(key)?))
+        match self.keys.get(&number) {
+            Some(key) if self.is_at(*key, number) => Some(*key),
+            _ => None,
+        }
     }
 
     // Whether the connection under this key has this number.
     #[inline(always)]
-    fn is_at(&self, key: usize, number: u64) -> bool {
+    fn is_at(&self, key: usize, number: u64) -> bool
+        ensures { IsTrue result → IsAt self.now.open key number }
+    {
         match self.open.get(key) {
             Some(connection) => connection.number == Some(number),
             None => false,
+        }
+    }
+
+    /// Reads from the connection with this number, or puts that off. The key of a child process that named itself by this
+    /// comes back too.
+    #[inline(always)]
+    pub fn read(
+        &mut self,
+        port: u64,
+        owed: &mut Owed,
+        inbox: &mut [u8],
+        room: &mut [u8],
+    ) -> io::Result<(Got, Option<usize>)>
+        requires { 0 < length room.old }
+        ensures within { IfOk result (λ read. GotWithin (Ok read.0) (length room.old)) }
+        ensures rest { IfOk result (λ read. KeepsRest (Ok read.0) room.old room.new) }
+        ensures unchanged { OnErr result (room.new ≡ room.old) }
+        ensures stays { StaysOwed owed.old owed.new }
+        ensures why { IfOk result (λ read. OnNoBytes read.0
+            (ReadsNothing owed.old.round port self.old.open self.new.open owed.new)) }
+    {
+        let Some(key) = self.key_of(port) else {
+            return Err(Error::from(ErrorKind::NotFound));
+        };
+        let Some(found) = self.open.get_mut(key) else {
+            return Err(Error::from(ErrorKind::NotFound));
+        };
+        let (got, is_named) = found.read_or_owe(port, owed, inbox, room)?;
+        Ok((got, if is_named { Some(key) } else { None }))
+    }
+
+    /// Writes to the connection with this number, or puts that off.
+    #[inline(always)]
+    pub fn write(
+        &mut self,
+        port: u64,
+        owed: &mut Owed,
+        is_long: bool,
+        registry: &Registry,
+        bytes: &[u8],
+    ) -> io::Result<Wrote>
+        requires { 0 < length bytes.now }
+        ensures within { IfOk result (λ wrote. TookWithin (Ok wrote) (length bytes.now)) }
+        ensures stays { StaysOwed owed.old owed.new }
+        ensures why { IfOk result (λ wrote. OnNoRoom wrote
+            (WritesNothing owed.old.round port self.old.open self.new.open owed.new)) }
+    {
+        let Some(key) = self.key_of(port) else {
+            return Err(Error::from(ErrorKind::NotFound));
+        };
+        match self.open.get_mut(key) {
+            Some(found) => found.write_or_owe(port, owed, is_long, registry, Token(key), bytes),
+            None => Err(Error::from(ErrorKind::NotFound)),
         }
     }
 

@@ -1,19 +1,19 @@
-//! Starts child processes, notes those that leave, and does what is due of the others.
+//! Starts child processes.
 
-ghost use Rattle.std.specs.Prelude.{◌≡◌};
-
-use crate::UnixWorld;
-use crate::clock::seconds;
 use crate::connection::Connection;
+use crate::doors::BoundFile;
 use crate::hello::Hello;
 use crate::port::Port;
+use crate::programs::{KnownPrograms, Programs, kept_environment};
+use crate::sockets::Sockets;
 use crate::started::Started;
 use mio::Token;
 use mio::net::UnixStream;
 use rand::TryRng;
 use rand::rngs::SysRng;
-use std::alloc::AllocError;
-use std::fs::{File, Files};
+use std::alloc::{AllocGlobal, Global};
+use std::env::Env;
+use std::fs::Files;
 use std::io;
 use std::io::{Error, ErrorKind};
 use std::net::Net;
@@ -24,90 +24,79 @@ use std::random::RandomSource;
 use std::time::Clock;
 use world_ports::Job;
 
-impl<R: Files<File = File> + Net + Processes + RandomSource + Clock + Eprint> UnixWorld<'_, R> {
-    // Reads the clock that child processes are bounded by.
-    fn read_second(&mut self)
-        ensures faults { self.new.faults ≡ self.old.faults }
-        ensures ports { self.new.last_port ≡ self.old.last_port }
-        ensures moment { self.new.moment ≡ self.old.moment }
-    {
-        if let Some(second) = seconds(self.rt) {
-            self.second = second;
-        }
-    }
+/// The programs that are started as child processes, which files they were, and what they see of the environment.
+#[derive(Drop)]
+pub struct Starter {
+    programs: Programs,
+    known: KnownPrograms,
+    kept: Vec<(String, String)>,
+}
 
-    pub(crate) fn begin(&mut self, job: Job) -> io::Result<[u8; 16]>
-        ensures faults { self.new.faults ≡ self.old.faults }
-        ensures ports { self.new.last_port ≡ self.old.last_port }
-        ensures moment { self.new.moment ≡ self.old.moment }
-    {
-        let may_start = self
-            .programs
-            .may_start(self.rt, self.alloc, &mut self.known, job.kind)?;
-        if !may_start {
-            return Err(Error::from(ErrorKind::PermissionDenied));
-        }
-        self.ports.reserve()?;
-        self.started.reserve()?;
-        let mut ticket = [0; 16];
-        SysRng::new(self.rt).try_fill_bytes(&mut ticket)?;
-        let (ours, theirs) = net::UnixStream::pair(self.rt)?;
-        ours.set_nonblocking(true)?;
-        let key = self.ports.next_key();
-        let port = Port::new(self.poll.registry(), Token(key), UnixStream::from_std(ours))?;
-        let questions = self.file.as_ref().map(|file| file.questions.as_str());
-        let process = self.programs.start(
-            self.rt,
-            self.alloc,
-            &self.kept,
-            questions,
-            job,
-            &ticket,
-            OwnedFd::from(theirs),
-        )?;
-        self.ports.add(Connection {
-            number: None,
-            port,
-            child: Some(Started::new(process, Hello::new(job.number, &ticket))),
-        })?;
-        self.read_second();
-        self.started.begin(key, self.second)?;
-        Ok(ticket)
+impl Starter {
+    pub fn new<R: Files + Env + AllocGlobal>(
+        rt: &R,
+        alloc: Global,
+        programs: Programs,
+    ) -> io::Result<Starter> {
+        let kept = kept_environment(rt, alloc)?;
+        let known = programs.known(rt);
+        Ok(Starter {
+            programs,
+            known,
+            kept,
+        })
     }
+}
 
-    // The connection of a child process was closed, which had this key.
-    pub(crate) fn child_left(&mut self, key: usize, child: Started<R::Started>)
-        ensures faults { self.new.faults ≡ self.old.faults }
-        ensures ports { self.new.last_port ≡ self.old.last_port }
-        ensures moment { self.new.moment ≡ self.old.moment }
-    {
-        self.read_second();
-        self.started.name(key);
-        self.started.leave(child, self.second);
-    }
+// A ticket that nobody can guess.
+fn new_ticket<R: RandomSource>(rt: &R) -> io::Result<[u8; 16]> {
+    let mut ticket = [0; 16];
+    SysRng::new(rt).try_fill_bytes(&mut ticket)?;
+    Ok(ticket)
+}
 
-    // Does what is due of child processes. Where it ends one that hasn't named itself, the next thing told is its port.
-    pub(crate) fn tend(&mut self) -> Result<(), AllocError>
-        ensures faults { self.new.faults ≡ self.old.faults }
-        ensures ports { self.new.last_port ≡ self.old.last_port }
-        ensures moment { self.new.moment ≡ self.old.moment }
-    {
-        if self.started.is_quiet() {
-            return Ok(());
-        }
-        self.owed.reserve(1)?;
-        self.read_second();
-        self.started.reap(self.second);
-        let Some(key) = self.started.late(self.second) else {
-            return Ok(());
-        };
-        let Some(late) = self.ports.get_mut(key) else {
-            return Ok(());
-        };
-        late.give_up();
-        if let Some(number) = late.number {
-            self.owed.push(number)?;
-        }
-        Ok(())
+/// Starts the child process of a job, and joins its connection, which is there to be accepted.
+pub fn begin<R: Files + Net + Processes + RandomSource + Clock + Eprint>(
+    rt: &R,
+    alloc: Global,
+    starter: &mut Starter,
+    file: &Option<BoundFile>,
+    sockets: &mut Sockets<R::Started>,
+    job: Job,
+) -> io::Result<[u8; 16]> {
+    let may_start = starter
+        .programs
+        .may_start(rt, alloc, &mut starter.known, job.kind)?;
+    if !may_start {
+        return Err(Error::from(ErrorKind::PermissionDenied));
     }
+    sockets.ports.reserve()?;
+    sockets.started.reserve()?;
+    let ticket = new_ticket(rt)?;
+    let (ours, theirs) = net::UnixStream::pair(rt)?;
+    ours.set_nonblocking(true)?;
+    let key = sockets.ports.next_key();
+    let port = Port::new(
+        sockets.epoll.poll.registry(),
+        Token(key),
+        UnixStream::from_std(ours),
+    )?;
+    let questions = file.as_ref().map(|file| file.questions.as_str());
+    let process = starter.programs.start(
+        rt,
+        alloc,
+        &starter.kept,
+        questions,
+        job,
+        &ticket,
+        OwnedFd::from(theirs),
+    )?;
+    sockets.ports.add(Connection {
+        number: None,
+        port,
+        child: Some(Started::new(process, Hello::new(job.number, &ticket))),
+    })?;
+    sockets.started.look(rt);
+    sockets.started.begin(key)?;
+    Ok(ticket)
 }
