@@ -570,7 +570,7 @@ def words_lists_and_sockets_that_are_refused(folder):
             assert why in run([program, keys, agent.path, path, *words], 7), words
         assert "could not be read" in run([program, keys, agent.path, path], 6)
         keys.write_bytes(b"\n" * 1048577)
-        run([program, keys, agent.path, path], 6)
+        assert "more than 1048576 bytes" in run([program, keys, agent.path, path], 6)
         for text, line in (("nonsense\n", 1), (f"\n{public(key)}ssh-rsa {public(key).split()[1]}\n", 3), ("a b\n", 1)):
             keys.write_text(text)
             assert f"line {line} of the list" in run([program, keys, agent.path, path], 1)

@@ -141,6 +141,7 @@ audits_by held asked text deeds (status.Differs line) before after text_is deeds
     record { text = text; deeds = deeds; text_is = text_is; deeds_are = deeds_are; ends = ends }
 audits_by held asked text deeds status.Usage before after text_is deeds_are ends = absurd ends
 audits_by held asked text deeds status.FileFault before after text_is deeds_are ends = absurd ends
+audits_by held asked text deeds status.FileTooLong before after text_is deeds_are ends = absurd ends
 audits_by held asked text deeds (status.BadRecord line) before after text_is deeds_are ends =
     record { text = text; deeds = deeds; text_is = text_is; deeds_are = deeds_are; ends = ends }
 audits_by held asked text deeds status.Memory before after text_is deeds_are ends =

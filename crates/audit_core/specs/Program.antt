@@ -29,6 +29,7 @@ code_of status.Yes = 0
 code_of (status.Differs line) = 1
 code_of status.Usage = 2
 code_of status.FileFault = 3
+code_of status.FileTooLong = 3
 code_of (status.BadRecord line) = 4
 code_of status.Memory = 5
 code_of status.WriteFault = 6
@@ -80,6 +81,7 @@ EndsAudit settings text deeds status.Yes before after = IsAgreed settings text d
 EndsAudit settings text deeds (status.Differs line) before after = IsFound (Differs line) settings text deeds before after
 EndsAudit settings text deeds status.Usage before after = ⊥
 EndsAudit settings text deeds status.FileFault before after = ⊥
+EndsAudit settings text deeds status.FileTooLong before after = ⊥
 EndsAudit settings text deeds (status.BadRecord line) before after = IsFound (IsBad line) settings text deeds before after
 -- want of memory says nothing of the texts: a front of the report is written
 EndsAudit settings text deeds status.Memory before after =
@@ -102,20 +104,22 @@ pub record FailsAt (path : List ℕ) (before now : FilesView) : Type 0 where
 pub record IsTooLong (path : List ℕ) (before now : FilesView) : Type 0 where
   pub more : HoldsMore before path longest_file
   pub failed : now.failed ≡ before.failed
-
--- the file of this path stopped the program
-abbrev pub StopsAt : List ℕ → FilesView → FilesView → Type 0
-StopsAt path before now = FailsAt path before now ⊎ IsTooLong path before now
+  pub faults : now.faults ≡ before.faults
 
 -- the path holds a file that is short enough, where that is told
 abbrev pub HoldsShort : FilesView → List ℕ → Type 0
 HoldsShort files path =
     IfSome files.held (λ at. IsSomeAnd (at path) (λ bytes. length bytes ≤ longest_file))
 
--- the file of the record stopped the program, or behind it that of the deeds
-abbrev pub StopsInOrder : (recording deeds : List ℕ) → FilesView → FilesView → Type 0
-StopsInOrder recording deeds before now =
-    StopsAt recording before now ⊎ (HoldsShort before recording × StopsAt deeds before now)
+-- the call on the record's file failed, or behind a record that is short enough that on the file of the deeds
+abbrev pub FailsInOrder : (recording deeds : List ℕ) → FilesView → FilesView → Type 0
+FailsInOrder recording deeds before now =
+    FailsAt recording before now ⊎ (HoldsShort before recording × FailsAt deeds before now)
+
+-- the file of the record is too long, or behind one that is short enough that of the deeds
+abbrev pub IsTooLongInOrder : (recording deeds : List ℕ) → FilesView → FilesView → Type 0
+IsTooLongInOrder recording deeds before now =
+    IsTooLong recording before now ⊎ (HoldsShort before recording × IsTooLong deeds before now)
 
 -- the file is held, short enough, and this is its text
 pub record IsTextOf (held : Option (List ℕ)) (text : List ℕ) : Type 0 where
@@ -128,6 +132,7 @@ IsFileEnd status.Yes = ⊥
 IsFileEnd (status.Differs line) = ⊥
 IsFileEnd status.Usage = ⊥
 IsFileEnd status.FileFault = Unit {0}
+IsFileEnd status.FileTooLong = Unit {0}
 IsFileEnd (status.BadRecord line) = ⊥
 IsFileEnd status.Memory = Unit {0}
 IsFileEnd status.WriteFault = ⊥
@@ -148,6 +153,7 @@ Audits held asked status.Yes before after = HasAudited held asked status.Yes bef
 Audits held asked (status.Differs line) before after = HasAudited held asked (status.Differs line) before after
 Audits held asked status.Usage before after = ⊥
 Audits held asked status.FileFault before after = after ≡ before
+Audits held asked status.FileTooLong before after = after ≡ before
 Audits held asked (status.BadRecord line) before after = HasAudited held asked (status.BadRecord line) before after
 Audits held asked status.Memory before after = (after ≡ before) ⊎ HasAudited held asked status.Memory before after
 Audits held asked status.WriteFault before after = HasAudited held asked status.WriteFault before after

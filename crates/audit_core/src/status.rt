@@ -7,7 +7,8 @@ use crate::comparison::Finding;
 use crate::writing::Stop;
 use thiserror::Error;
 
-/// How an audit ended, in words for whoever started it. The exit statuses are 0 to 6 in this order.
+/// How an audit ended, in words for whoever started it. The exit statuses are 0 to 6 in this order; the two
+/// faults of a file have one.
 #[derive(Clone, Copy, Debug, PartialEq, Eq, Error)]
 pub enum AuditStatus {
     /// The deeds are what the record prints, and all signatures that were asked for in it are listed.
@@ -19,9 +20,12 @@ pub enum AuditStatus {
     /// The words are none that the program takes.
     #[error("usage: audit_prog RECORD DEEDS [LIFE] [--confirm-limit SECONDS]")]
     Usage,
-    /// A file could not be read, or it is too long.
-    #[error("a file could not be read, or has more than 268435456 bytes")]
+    /// A file could not be read. The files counted that.
+    #[error("a file could not be read")]
     FileFault,
+    /// A file is too long.
+    #[error("a file has more than 268435456 bytes")]
+    FileTooLong,
     /// This line of the record, counted from 1, is refused.
     #[error("line {line} of the record is refused")]
     BadRecord { line: u64 },
@@ -42,7 +46,7 @@ impl AuditStatus {
             AuditStatus::Yes => 0,
             AuditStatus::Differs { .. } => 1,
             AuditStatus::Usage => 2,
-            AuditStatus::FileFault => 3,
+            AuditStatus::FileFault | AuditStatus::FileTooLong => 3,
             AuditStatus::BadRecord { .. } => 4,
             AuditStatus::Memory => 5,
             AuditStatus::WriteFault => 6,

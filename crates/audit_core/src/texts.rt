@@ -1,7 +1,7 @@
 //! The texts of the two files, the record and its deeds, each of which is read whole.
 
-ghost use Rattle.std.specs.Prelude.{◌≡◌, ℕ, List, Option, Some, Err, IfErr, IfOk};
-ghost use Rattle.audit_core.specs.Program.{HoldsShort, IsFileEnd, IsTextOf, StopsAt, StopsInOrder};
+ghost use Rattle.std.specs.Prelude.{◌≡◌, ◌≢◌, ℕ, List, Option, Some, Err, IfErr, IfOk};
+ghost use Rattle.audit_core.specs.Program.{FailsAt, FailsInOrder, HoldsShort, IsFileEnd, IsTextOf, IsTooLong, IsTooLongInOrder};
 ghost use Rattle.audit_core.specs.declared.status.AuditStatus.TheVariants as status;
 ghost use Rattle.world_ports.specs.Files.{OnlyReadsFiles};
 
@@ -25,17 +25,21 @@ fn read_text<F: Files>(alloc: Global, files: &mut F, path: &str) -> Result<Vec<u
         → IfOk result (λ text. IsTextOf (held path.now) text.items) }
     ensures own { IfErr result (λ ended. IsFileEnd ended) }
     ensures file { result ≡ Err status.FileFault
-        → StopsAt path.now (F.seen files.old) (F.seen files.new) }
+        → FailsAt path.now (F.seen files.old) (F.seen files.new) }
+    ensures long { result ≡ Err status.FileTooLong
+        → IsTooLong path.now (F.seen files.old) (F.seen files.new) }
     ensures short { IfOk result (λ text. HoldsShort (F.seen files.old) path.now) }
-    ensures failed { IfOk result (λ text. (F.seen files.new).failed ≡ (F.seen files.old).failed) }
-    ensures faults { IfOk result (λ text. (F.seen files.new).faults ≡ (F.seen files.old).faults) }
+    ensures failed { result ≢ Err status.FileFault
+        → (F.seen files.new).failed ≡ (F.seen files.old).failed }
+    ensures faults { result ≢ Err status.FileFault → result ≢ Err status.Memory
+        → (F.seen files.new).faults ≡ (F.seen files.old).faults }
     ensures only { OnlyReadsFiles (F.seen files.old) (F.seen files.new) }
 {
     match files.read(alloc, path, LONGEST_FILE) {
         Ok(text) => Ok(text),
         Err(FileFault::Memory) => Err(AuditStatus::Memory),
         Err(FileFault::Failed) => Err(AuditStatus::FileFault),
-        Err(FileFault::TooLong) => Err(AuditStatus::FileFault),
+        Err(FileFault::TooLong) => Err(AuditStatus::FileTooLong),
     }
 }
 
@@ -51,7 +55,13 @@ pub fn read_texts<F: Files>(
         × IsTextOf (held deeds.now) texts.deeds.items) }
     ensures own { IfErr result (λ ended. IsFileEnd ended) }
     ensures file { result ≡ Err status.FileFault
-        → StopsInOrder recording.now deeds.now (F.seen files.old) (F.seen files.new) }
+        → FailsInOrder recording.now deeds.now (F.seen files.old) (F.seen files.new) }
+    ensures long { result ≡ Err status.FileTooLong
+        → IsTooLongInOrder recording.now deeds.now (F.seen files.old) (F.seen files.new) }
+    ensures failed { result ≢ Err status.FileFault
+        → (F.seen files.new).failed ≡ (F.seen files.old).failed }
+    ensures faults { result ≢ Err status.FileFault → result ≢ Err status.Memory
+        → (F.seen files.new).faults ≡ (F.seen files.old).faults }
     ensures only { OnlyReadsFiles (F.seen files.old) (F.seen files.new) }
 {
     let recording = read_text(alloc, files, recording)?;

@@ -1,8 +1,8 @@
 //! The program that audits a record, over any files and any output.
 
-ghost use Rattle.std.specs.Prelude.{◌≡◌, ℕ, List, Option, Some};
+ghost use Rattle.std.specs.Prelude.{◌≡◌, ◌≢◌, ℕ, List, Option, Some};
 ghost use Rattle.agent_core.specs.Parts.{settings_of};
-ghost use Rattle.audit_core.specs.Program.{Audits, EndsAudit, StopsInOrder};
+ghost use Rattle.audit_core.specs.Program.{Audits, EndsAudit, FailsInOrder, IsTooLongInOrder};
 ghost use Rattle.audit_core.specs.Words.{Asked, IsAsked, IsUsage};
 ghost use Rattle.audit_core.specs.declared.status.AuditStatus.TheVariants as status;
 ghost use Rattle.world_ports.specs.Causes.{Rose};
@@ -50,9 +50,9 @@ pub fn audit<O: Sink>(
 ///
 /// Where the files tell what they hold, `audits` says of each end what was found and written. Where it is yes, the run
 /// that RECORD and DEEDS describe meets the law of history of agent_laws, and all signing requests that were put in it
-/// are listed. A file fault is of a path that the words name: a call on it failed and no other did, or its file is too long
-/// and no call failed. It is the file of the deeds only where that of the record is short enough and no call on it
-/// failed.
+/// are listed. At a file fault a call on a path that the words name failed and no other did, and that was counted; at any
+/// other end no call failed. A file that is called too long has such a path too. It is that of the deeds only where the file
+/// of the record is short enough and no call on it failed.
 pub fn audit_main<F: Files, O: Sink>(
     alloc: Global,
     words: &[String],
@@ -66,7 +66,13 @@ pub fn audit_main<F: Files, O: Sink>(
     ensures refused { IsUsage words.now
         → (result ≡ status.Usage) × ((output.new ≡ output.old) × (files.new ≡ files.old)) }
     ensures file { (asked : Asked) → IsAsked words.now asked → result ≡ status.FileFault
-        → StopsInOrder asked.recording asked.deeds (F.seen files.old) (F.seen files.new) }
+        → FailsInOrder asked.recording asked.deeds (F.seen files.old) (F.seen files.new) }
+    ensures long { (asked : Asked) → IsAsked words.now asked → result ≡ status.FileTooLong
+        → IsTooLongInOrder asked.recording asked.deeds (F.seen files.old) (F.seen files.new) }
+    ensures failed { result ≢ status.FileFault
+        → (F.seen files.new).failed ≡ (F.seen files.old).failed }
+    ensures faults { result ≢ status.FileFault → result ≢ status.Memory
+        → (F.seen files.new).faults ≡ (F.seen files.old).faults }
     ensures write { result ≡ status.WriteFault
         → Rose (O.seen output.old).write_faults (O.seen output.new).write_faults }
     ensures files_only { OnlyReadsFiles (F.seen files.old) (F.seen files.new) }

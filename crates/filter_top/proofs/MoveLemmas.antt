@@ -110,6 +110,7 @@ serves_later status.BindFault from mid old between new first later = bind_later 
 serves_later status.PollFault from mid old between new first later = poll_later _ first later
 serves_later status.Memory from mid old between new first later = stops_later first later
 serves_later status.FileFault from mid old between new first later = absurd later
+serves_later status.FileTooLong from mid old between new first later = absurd later
 serves_later (status.BadPurpose fault) from mid old between new first later = absurd later
 
 -- a turn that served something

@@ -47,6 +47,7 @@ ends_before held asked status.PollFault journal (inl refused) = absurd refused
 ends_before held asked status.PollFault journal (inr refused) = absurd refused
 ends_before held asked status.Memory journal refused = inl refl
 ends_before held asked status.FileFault journal refused = refl
+ends_before held asked status.FileTooLong journal refused = refl
 ends_before held asked (status.BadPurpose fault) journal (inl refused) = (refused, refl)
 ends_before held asked (status.BadPurpose fault) journal (inr refused) = absurd refused
 
@@ -60,6 +61,7 @@ ends_with held asked listed status.BindFault old new is serves = record { listed
 ends_with held asked listed status.PollFault old new is serves = record { listed = listed; is = is; serves = serves }
 ends_with held asked listed status.Memory old new is serves = inr (record { listed = listed; is = is; serves = serves })
 ends_with held asked listed status.FileFault old new is serves = absurd serves
+ends_with held asked listed status.FileTooLong old new is serves = absurd serves
 ends_with held asked listed (status.BadPurpose fault) old new is serves = absurd serves
 
 -- what the words ask for is one thing
@@ -106,6 +108,7 @@ calls_made status.BindFault from old new serves = calls_up_to serves.moves
 calls_made status.PollFault from old new serves = calls_up_to serves.moves
 calls_made status.Memory from old new serves = calls_to_stop serves
 calls_made status.FileFault from old new serves = absurd serves
+calls_made status.FileTooLong from old new serves = absurd serves
 calls_made (status.BadPurpose fault) from old new serves = absurd serves
 
 -- none were made

@@ -12,4 +12,5 @@ code_of status.BindFault = 3
 code_of status.PollFault = 4
 code_of status.Memory = 5
 code_of status.FileFault = 6
+code_of status.FileTooLong = 6
 code_of (status.BadPurpose fault) = 7

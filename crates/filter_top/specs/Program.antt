@@ -68,6 +68,7 @@ Serves status.BindFault from old new = BindEnds from old new
 Serves status.PollFault from old new = PollEnds from old new (Err fault.Failed)
 Serves status.Memory from old new = Stops from old new
 Serves status.FileFault from old new = ⊥
+Serves status.FileTooLong from old new = ⊥
 Serves (status.BadPurpose fault) from old new = ⊥
 
 -- the file of the list is held, short enough, and these are its blobs
@@ -90,9 +91,11 @@ pub record FailsAt (path : List ℕ) (before now : FilesView) : Type 0 where
   pub failed : Grows before.failed now.failed (path ∷ [])
   pub cause : Rose before.faults now.faults
 
--- the list at this path can't be had: a call on it failed, or it is too long
-abbrev pub IsUnread : List ℕ → FilesView → FilesView → Type 0
-IsUnread path before now = FailsAt path before now ⊎ HoldsMore before path longest_list
+-- the list at this path is too long, where that is told, and no call failed
+pub record IsTooLong (path : List ℕ) (before now : FilesView) : Type 0 where
+  pub more : HoldsMore before path longest_list
+  pub failed : now.failed ≡ before.failed
+  pub faults : now.faults ≡ before.faults
 
 -- so the program may end at its list
 abbrev pub IsRefusedBy : FilterStatus → Option (List ℕ) → Type 0
@@ -103,6 +106,7 @@ IsRefusedBy status.BindFault held = ⊥
 IsRefusedBy status.PollFault held = ⊥
 IsRefusedBy status.Memory held = Unit {0}
 IsRefusedBy status.FileFault held = Unit {0}
+IsRefusedBy status.FileTooLong held = Unit {0}
 IsRefusedBy (status.BadPurpose fault) held = ⊥
 
 -- so it may end before its loop: at the words of its purposes, or else at its list
@@ -118,6 +122,7 @@ IsListEnd status.BindFault = ⊥
 IsListEnd status.PollFault = ⊥
 IsListEnd status.Memory = Unit {0}
 IsListEnd status.FileFault = Unit {0}
+IsListEnd status.FileTooLong = Unit {0}
 IsListEnd (status.BadPurpose fault) = ⊥
 
 -- it ends so without its loop, whatever is held and named
@@ -129,6 +134,7 @@ IsEarlyEnd status.BindFault = ⊥
 IsEarlyEnd status.PollFault = ⊥
 IsEarlyEnd status.Memory = Unit {0}
 IsEarlyEnd status.FileFault = Unit {0}
+IsEarlyEnd status.FileTooLong = Unit {0}
 IsEarlyEnd (status.BadPurpose fault) = Unit {0}
 
 -- by what a text was read as
@@ -154,4 +160,5 @@ Runs held asked status.BindFault old new = Begins held asked status.BindFault ol
 Runs held asked status.PollFault old new = Begins held asked status.PollFault old new
 Runs held asked status.Memory old new = (new ≡ old) ⊎ Begins held asked status.Memory old new
 Runs held asked status.FileFault old new = new ≡ old
+Runs held asked status.FileTooLong old new = new ≡ old
 Runs held asked (status.BadPurpose fault) old new = (purposes_named asked.purposes ≡ Err fault) × (new ≡ old)

@@ -25,6 +25,7 @@ IsBadWord status.BindFault read = ⊥
 IsBadWord status.PollFault read = ⊥
 IsBadWord status.Memory read = Unit {0}
 IsBadWord status.FileFault read = ⊥
+IsBadWord status.FileTooLong read = ⊥
 IsBadWord (status.BadPurpose fault) read = read ≡ Err fault
 
 -- so it may end at these words

@@ -1,8 +1,8 @@
 //! Reads the list's file and the words of purposes, or says how the program ends without them.
 
-ghost use Rattle.std.specs.Prelude.{◌≡◌, ℕ, List, Option, Some, Err, IfErr, MatchResult};
+ghost use Rattle.std.specs.Prelude.{◌≡◌, ◌≢◌, ℕ, List, Option, Some, Err, IfErr, MatchResult};
 ghost use Rattle.filter_core.specs.Slots.{blobs_of, listed_of};
-ghost use Rattle.filter_top.specs.Program.{IsEarlyEnd, IsListEnd, IsListOf, IsListed, IsReadAs, IsRefused, IsRefusedBy, IsUnread, texts_of};
+ghost use Rattle.filter_top.specs.Program.{FailsAt, IsEarlyEnd, IsListEnd, IsListOf, IsListed, IsReadAs, IsRefused, IsRefusedBy, IsTooLong, texts_of};
 ghost use Rattle.filter_top.specs.Purposes.{purposes_named};
 ghost use Rattle.key_purposes.specs.declared.fault.PurposeFault.{PurposeFault};
 ghost use Rattle.filter_top.specs.declared.status.FilterStatus.TheVariants as status;
@@ -33,7 +33,13 @@ pub fn read_listed<F: Files>(
     ensures purpose { (fault : PurposeFault) → result ≡ Err (status.BadPurpose fault)
         → (purposes_named (texts_of asked.now.purposes.now) ≡ Err fault) × (files.new ≡ files.old) }
     ensures file { result ≡ Err status.FileFault
-        → IsUnread asked.now.list.now (F.seen files.old) (F.seen files.new) }
+        → FailsAt asked.now.list.now (F.seen files.old) (F.seen files.new) }
+    ensures long { result ≡ Err status.FileTooLong
+        → IsTooLong asked.now.list.now (F.seen files.old) (F.seen files.new) }
+    ensures failed { result ≢ Err status.FileFault
+        → (F.seen files.new).failed ≡ (F.seen files.old).failed }
+    ensures faults { result ≢ Err status.FileFault → result ≢ Err status.Memory
+        → (F.seen files.new).faults ≡ (F.seen files.old).faults }
 {
     let purposes = read_given(alloc, asked.purposes)?;
     let set = read_blobs(alloc, files, asked.list)?;
@@ -54,13 +60,18 @@ fn read_blobs<F: Files>(
         (λ blobs. IsListOf (held path.now) (blobs_of blobs))
         (λ status. IsRefusedBy status (held path.now)) }
     ensures own { IfErr result (λ status. IsListEnd status) }
-    ensures file { result ≡ Err status.FileFault → IsUnread path.now (F.seen files.old) (F.seen files.new) }
+    ensures file { result ≡ Err status.FileFault → FailsAt path.now (F.seen files.old) (F.seen files.new) }
+    ensures long { result ≡ Err status.FileTooLong → IsTooLong path.now (F.seen files.old) (F.seen files.new) }
+    ensures failed { result ≢ Err status.FileFault
+        → (F.seen files.new).failed ≡ (F.seen files.old).failed }
+    ensures faults { result ≢ Err status.FileFault → result ≢ Err status.Memory
+        → (F.seen files.new).faults ≡ (F.seen files.old).faults }
 {
     match files.read(alloc, path, LONGEST_LIST) {
         Ok(text) => blobs_in(alloc, &text),
         Err(FileFault::Memory) => Err(FilterStatus::Memory),
         Err(FileFault::Failed) => Err(FilterStatus::FileFault),
-        Err(FileFault::TooLong) => Err(FilterStatus::FileFault),
+        Err(FileFault::TooLong) => Err(FilterStatus::FileTooLong),
     }
 }
 

@@ -7,7 +7,8 @@ use key_file::PubFault;
 use key_purposes::PurposeFault;
 use thiserror::Error;
 
-/// How a run of the filter ended, in words for whoever started it. The exit statuses are 0 to 7 in this order.
+/// How a run of the filter ended, in words for whoever started it. The exit statuses are 0 to 7 in this order; the two
+/// faults of the list's file have one.
 #[derive(Clone, Copy, Debug, PartialEq, Eq, Error)]
 pub enum FilterStatus {
     /// Nothing will become ready any more.
@@ -28,9 +29,12 @@ pub enum FilterStatus {
     /// Memory ran out. Says nothing of the outside.
     #[error("out of memory")]
     Memory,
-    /// The list could not be read, or it is too long.
-    #[error("the list could not be read, or has more than 1048576 bytes")]
+    /// The list could not be read. The files counted that.
+    #[error("the list could not be read")]
     FileFault,
+    /// The list is too long.
+    #[error("the list has more than 1048576 bytes")]
+    FileTooLong,
     /// The words behind PATH name no purposes.
     #[error("the purposes are refused: {}", why(.fault))]
     BadPurpose { fault: PurposeFault },
@@ -71,7 +75,7 @@ impl FilterStatus {
             FilterStatus::BindFault => 3,
             FilterStatus::PollFault => 4,
             FilterStatus::Memory => 5,
-            FilterStatus::FileFault => 6,
+            FilterStatus::FileFault | FilterStatus::FileTooLong => 6,
             FilterStatus::BadPurpose { .. } => 7,
         }
     }

@@ -1,11 +1,11 @@
 //! The filter's main function, from the command line's words on, over any files and any pairs.
 
-ghost use Rattle.std.specs.Prelude.{◌≡◌, ◌≤◌, ℕ, Err, List, Option, Some};
+ghost use Rattle.std.specs.Prelude.{◌≡◌, ◌≢◌, ◌≤◌, ℕ, Err, List, Option, Some};
 ghost use Rattle.filter_model.specs.Lists.{Listed};
 ghost use Rattle.key_purposes.specs.declared.fault.PurposeFault.{PurposeFault};
 ghost use Rattle.filter_top.specs.Purposes.{purposes_named};
 ghost use Rattle.filter_top.specs.Passing.{PassesExactly, ServesFairly};
-ghost use Rattle.filter_top.specs.Program.{Asked, IsAsked, IsListed, IsUnread, IsUsage, Runs};
+ghost use Rattle.filter_top.specs.Program.{Asked, FailsAt, IsAsked, IsListed, IsTooLong, IsUsage, Runs};
 ghost use Rattle.filter_top.specs.declared.status.FilterStatus.TheVariants as status;
 ghost use Rattle.world_ports.specs.Causes.{Rose};
 
@@ -55,7 +55,13 @@ pub fn filter_main<R: Wait, F: Files, P: Pairs>(
         → result ≡ status.BadPurpose fault
         → (purposes_named asked.purposes ≡ Err fault) × ((pairs.new ≡ pairs.old) × (files.new ≡ files.old)) }
     ensures file { (asked : Asked) → IsAsked words.now asked → result ≡ status.FileFault
-        → IsUnread asked.list (F.seen files.old) (F.seen files.new) }
+        → FailsAt asked.list (F.seen files.old) (F.seen files.new) }
+    ensures long { (asked : Asked) → IsAsked words.now asked → result ≡ status.FileTooLong
+        → IsTooLong asked.list (F.seen files.old) (F.seen files.new) }
+    ensures failed { result ≢ status.FileFault
+        → (F.seen files.new).failed ≡ (F.seen files.old).failed }
+    ensures faults { result ≢ status.FileFault → result ≢ status.Memory
+        → (F.seen files.new).faults ≡ (F.seen files.old).faults }
     ensures bind { result ≡ status.BindFault → Rose (P.faults pairs.old) (P.faults pairs.new) }
     ensures poll { result ≡ status.PollFault → Rose (P.faults pairs.old) (P.faults pairs.new) }
     ensures later { P.faults pairs.old ≤ P.faults pairs.new }

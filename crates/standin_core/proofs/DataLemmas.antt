@@ -5,11 +5,11 @@ use Rattle.std.proofs.lemmas.Bool.Decides.{nat_tests}
 use Rattle.std.proofs.lemmas.List.{length-replicate}
 use Rattle.secret_buf.specs.Buffers.{Buffer}
 use Rattle.standin_core.specs.Hosts.{Host, hosts_of}
-use Rattle.standin_core.specs.Reading.{HoldsHosts, HoldsLong, HoldsNone, HoldsPairs, ReadsData, ReadsText}
+use Rattle.standin_core.specs.Reading.{HoldsHosts, HoldsNone, HoldsPairs, ReadsData, ReadsText}
 use Rattle.standin_core.specs.Transcript.{hosts_at, hosts_or_fault, text_held}
 use Rattle.standin_core.specs.declared.fault.DataFault.{DataFault}
 use Rattle.standin_core.specs.declared.fault.DataFault.TheVariants as fault
-use Rattle.standin_core.specs.declared.status.HelperStatus.TheVariants.{FileFault, BadFile}
+use Rattle.standin_core.specs.declared.status.HelperStatus.TheVariants.{FileTooLong, BadFile}
 use Rattle.standin_core.proofs.HostLemmas.{ArePairs-nil}
 use Rattle.world_ports.specs.Files.{FilesView, Holds, HoldsMore}
 
@@ -39,8 +39,8 @@ text_held-within : (text : List ℕ) → length text ≤ 1048576 → text_held (
 text_held-within text within = grind (arith, nat_tests)
 
 text_held-long : (held : Option (List ℕ)) → IsSomeAnd held (λ text. 1048576 < length text)
-    → text_held held ≡ Err FileFault
-text_held-long None long = refl
+    → text_held held ≡ Err FileTooLong
+text_held-long None long = absurd long
 text_held-long (Some text) long = grind (arith, nat_tests, long)
 
 -- no file is named
@@ -89,26 +89,24 @@ holds_bad path name text old named holds within none =
       read = file_text path name text at.0 named at.2 within ∙ ap (λ (h : Option (List Host)). ok_or h BadFile) none;
     }
 
+-- a file that is too long gives no hosts
+no_hosts_of_long : (path : Option (List ℕ)) (name : List ℕ) (held : List ℕ → Option (List ℕ))
+    → path ≡ Some name → IsSomeAnd (held name) (λ text. 1048576 < length text)
+    → hosts_at path held ≡ Err FileTooLong
+unfolding hosts_at
+no_hosts_of_long path name held named more =
+    ap (λ (p : Option (List ℕ)). hosts_at p held) named ∙ ap hosts_or_fault (text_held-long (held name) more)
+
 pub holds_long : (path : Option (List ℕ)) (name : List ℕ) (old : FilesView) → path ≡ Some name
-    → HoldsMore old name 1048576 → HoldsLong path old
+    → HoldsMore old name 1048576 → HoldsNone path old FileTooLong
 holds_long path name old named more =
     let long = longer 1048576 in
     let at = agreed old.held (λ held. IsSomeAnd (held name) (λ text. 1048576 < length text)) more (λ n. Some long.0) long.1 in
     record {
       held = at.0;
       told = at.1;
-      name = name;
-      named = named;
-      more = at.2;
+      read = no_hosts_of_long path name at.0 named at.2;
     }
-
--- a file that is too long gives no hosts
-pub no_hosts_of_long : (path : Option (List ℕ)) (name : List ℕ) (held : List ℕ → Option (List ℕ))
-    → path ≡ Some name → IsSomeAnd (held name) (λ text. 1048576 < length text)
-    → hosts_at path held ≡ Err FileFault
-unfolding hosts_at
-no_hosts_of_long path name held named more =
-    ap (λ (p : Option (List ℕ)). hosts_at p held) named ∙ ap hosts_or_fault (text_held-long (held name) more)
 
 -- what a reading of the text says of the file
 pub reads_by_text : (result : Result Buffer DataFault) (path : Option (List ℕ)) (name text : List ℕ) (old new : FilesView)

@@ -10,7 +10,7 @@ use Rattle.standin_core.specs.Hosts.{Host}
 use Rattle.standin_core.specs.Serving.{IsUnderWay}
 use Rattle.standin_core.specs.Transcript.{Transcript, after, ended, greeted, hosts_at, served, transcript_of, transcript_with}
 use Rattle.standin_core.specs.declared.status.HelperStatus.{HelperStatus}
-use Rattle.standin_core.specs.declared.status.HelperStatus.TheVariants.{Done, BadFrame, Usage, FileFault, BadFile, Memory, ReadFault, WriteFault, TornEnd}
+use Rattle.standin_core.specs.declared.status.HelperStatus.TheVariants.{Done, BadFrame, Usage, FileFault, FileTooLong, BadFile, Memory, ReadFault, WriteFault, TornEnd}
 use Rattle.world_ports.specs.Causes.{Rose}
 use Rattle.world_ports.specs.Streams.{OnlyWrites, StreamView, WritesPart}
 
@@ -106,6 +106,7 @@ answers_by Done words old new talk = talk
 answers_by BadFrame words old new talk = talk
 answers_by Usage words old new talk = absurd talk.ends
 answers_by FileFault words old new talk = absurd talk.ends
+answers_by FileTooLong words old new talk = absurd talk.ends
 answers_by BadFile words old new talk = absurd talk.ends
 answers_by Memory words old new talk = inl talk
 answers_by ReadFault words old new talk = talk
@@ -119,9 +120,11 @@ unfolding Ends
 no_usage status whole old new ends is = subst (λ (s : HelperStatus). Ends s whole old new) is ends
 
 pub no_file_fault : (status : HelperStatus) (whole : List ℕ → Transcript) (old new : StreamView)
-    → Ends status whole old new → (status ≡ FileFault) ⊎ (status ≡ BadFile) → ⊥
+    → Ends status whole old new → (status ≡ FileFault) ⊎ ((status ≡ FileTooLong) ⊎ (status ≡ BadFile)) → ⊥
 unfolding Ends
 no_file_fault status whole old new ends (inl is) =
     subst (λ (s : HelperStatus). Ends s whole old new) is ends
-no_file_fault status whole old new ends (inr is) =
+no_file_fault status whole old new ends (inr (inl is)) =
+    subst (λ (s : HelperStatus). Ends s whole old new) is ends
+no_file_fault status whole old new ends (inr (inr is)) =
     subst (λ (s : HelperStatus). Ends s whole old new) is ends

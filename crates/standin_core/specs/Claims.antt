@@ -1,11 +1,11 @@
 -- How a stand-in helper may end, a record an end (ours). The file is read from its end, `Answers`.
-use Rattle.std.specs.Prelude.{◌≡◌, ◌⊎◌, ◌<◌, ℕ, List, [], ◌∷◌, length, Option, Some, IfSome, IsSomeAnd}
+use Rattle.std.specs.Prelude.{◌≡◌, ◌⊎◌, ℕ, List, [], ◌∷◌, Option, Some, IfSome}
 use Rattle.std.specs.Io.KnownBytes.{Appends}
 use Rattle.child_peer.specs.Talk.{HasRead, HoldsOfInput, IsFront}
 use Rattle.child_peer.specs.Words.{ChildWords, words_of}
 use Rattle.standin_core.specs.Transcript.{Transcript, ended, transcript_of}
 use Rattle.standin_core.specs.declared.status.HelperStatus.{HelperStatus}
-use Rattle.standin_core.specs.declared.status.HelperStatus.TheVariants.{Done, BadFrame, Usage, FileFault, BadFile, Memory, ReadFault, WriteFault, TornEnd}
+use Rattle.standin_core.specs.declared.status.HelperStatus.TheVariants.{Done, BadFrame, Usage, FileFault, FileTooLong, BadFile, Memory, ReadFault, WriteFault, TornEnd}
 use Rattle.world_ports.specs.Causes.{Rose}
 use Rattle.world_ports.specs.Files.{FilesView}
 use Rattle.world_ports.specs.Journal.{Grows}
@@ -57,6 +57,7 @@ Ends TornEnd whole old new = EndsAs TornEnd whole old new
 -- these come before the talk
 Ends Usage whole old new = ⊥
 Ends FileFault whole old new = ⊥
+Ends FileTooLong whole old new = ⊥
 Ends BadFile whole old new = ⊥
 
 -- ---- the files too
@@ -81,17 +82,8 @@ pub record EndsUnsaid (status : HelperStatus) (words : List (List ℕ)) (old new
   pub peer : new.peer ≡ old.peer
   pub faults : new.files.faults ≡ old.files.faults
 
--- the data file has more bytes than it may have, by what files hold, where that is told; nothing was read from the
--- agent and nothing sent, and no file failed
-pub record FindsLongFile (words : List (List ℕ)) (old new : Seen) : Type 0 where
-  pub unsaid : EndsUnsaid FileFault words old new
-  pub read : ChildWords
-  pub of_words : words_of words ≡ Some read
-  pub path : List ℕ
-  pub named : read.last ≡ Some path
-  pub more : IsSomeAnd (unsaid.held path) (λ bytes. 1048576 < length bytes)
-
--- the data file could not be read, and nothing was read from the agent and nothing sent
+-- the call that reads the data file failed and no other did, and that was counted; nothing was read from the agent and
+-- nothing sent
 pub record FailsAtFile (words : List (List ℕ)) (old new : Seen) : Type 0 where
   pub read : ChildWords
   pub of_words : words_of words ≡ Some read
@@ -106,7 +98,8 @@ abbrev pub Answers : HelperStatus → List (List ℕ) → Seen → Seen → Type
 Answers Done words old new = EndsTalk Done words old new
 Answers BadFrame words old new = EndsTalk BadFrame words old new
 Answers Usage words old new = EndsUnsaid Usage words old new
-Answers FileFault words old new = FindsLongFile words old new ⊎ FailsAtFile words old new
+Answers FileFault words old new = FailsAtFile words old new
+Answers FileTooLong words old new = EndsUnsaid FileTooLong words old new
 Answers BadFile words old new = EndsUnsaid BadFile words old new
 -- memory ran out in the talk or before it
 Answers Memory words old new = EndsTalk Memory words old new ⊎ (new.peer ≡ old.peer)

@@ -1,11 +1,11 @@
 -- What the steps of reading the data file say (ours).
-use Rattle.std.specs.Prelude.{◌≡◌, ◌<◌, ℕ, Bool, true, false, List, [], ◌∷◌, ◌++◌, length, Option, Some, None, option_map, Result, Ok, Err, IfSome, IsSomeAnd}
+use Rattle.std.specs.Prelude.{◌≡◌, ℕ, Bool, true, false, List, [], ◌∷◌, ◌++◌, Option, Some, None, option_map, Result, Ok, Err, IfSome}
 use Rattle.secret_buf.specs.Buffers.{Buffer}
 use Rattle.standin_core.specs.Hosts.{Host, ArePairs, host_at, hosts_of, secret_for}
 use Rattle.standin_core.specs.Transcript.{hosts_at}
 use Rattle.standin_core.specs.declared.fault.DataFault.{DataFault}
 use Rattle.standin_core.specs.declared.fault.DataFault.TheVariants as fault
-use Rattle.standin_core.specs.declared.status.HelperStatus.TheVariants.{BadFile}
+use Rattle.standin_core.specs.declared.status.HelperStatus.TheVariants.{FileTooLong, BadFile}
 use Rattle.standin_core.specs.declared.status.HelperStatus.{HelperStatus}
 use Rattle.world_ports.specs.Causes.{Rose}
 use Rattle.world_ports.specs.Files.{FilesView}
@@ -65,14 +65,6 @@ pub record HoldsNone (path : Option (List ℕ)) (old : FilesView) (why : HelperS
   pub told : IfSome old.held (λ at. at ≡ held)
   pub read : hosts_at path held ≡ Err why
 
--- the file at the path has more bytes than a data file may have, by what files hold, where that is told
-pub record HoldsLong (path : Option (List ℕ)) (old : FilesView) : Type 0 where
-  pub held : List ℕ → Option (List ℕ)
-  pub told : IfSome old.held (λ at. at ≡ held)
-  pub name : List ℕ
-  pub named : path ≡ Some name
-  pub more : IsSomeAnd (held name) (λ text. 1048576 < length text)
-
 -- the file could not be read
 pub record FailsAt (path : Option (List ℕ)) (old new : FilesView) : Type 0 where
   pub name : List ℕ
@@ -84,6 +76,6 @@ pub record FailsAt (path : Option (List ℕ)) (old new : FilesView) : Type 0 whe
 abbrev pub ReadsData : Result Buffer DataFault → Option (List ℕ) → FilesView → FilesView → Type 0
 ReadsData (Ok pairs) path old new = HoldsPairs path old pairs.live × (new.faults ≡ old.faults)
 ReadsData (Err fault.Bad) path old new = HoldsNone path old BadFile × (new.faults ≡ old.faults)
-ReadsData (Err fault.TooLong) path old new = HoldsLong path old × (new.faults ≡ old.faults)
+ReadsData (Err fault.TooLong) path old new = HoldsNone path old FileTooLong × (new.faults ≡ old.faults)
 ReadsData (Err fault.Failed) path old new = FailsAt path old new
 ReadsData (Err fault.Memory) path old new = Unit {0}

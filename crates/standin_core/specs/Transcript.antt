@@ -7,7 +7,7 @@ use Rattle.child_peer.specs.Words.{ChildWords, words_of}
 use Rattle.standin_core.specs.Answers.{answer_of}
 use Rattle.standin_core.specs.Hosts.{Host, hosts_of}
 use Rattle.standin_core.specs.declared.status.HelperStatus.{HelperStatus}
-use Rattle.standin_core.specs.declared.status.HelperStatus.TheVariants.{Done, BadFrame, Usage, FileFault, BadFile, TornEnd}
+use Rattle.standin_core.specs.declared.status.HelperStatus.TheVariants.{Done, BadFrame, Usage, FileFault, FileTooLong, BadFile, TornEnd}
 use Rattle.wire_text.specs.Bounds.{longest_to_child}
 use Rattle.wire_text.specs.Frames.{Front, Whole, Bad, More, Split, front, frames, split}
 use Rattle.wire_text.specs.Wire.{string}
@@ -69,7 +69,7 @@ served hosts stream = served_split hosts (split longest_to_child stream)
 -- the text of the data file, which has at most 1048576 bytes
 abbrev pub text_held : Option (List ℕ) → Result (List ℕ) HelperStatus
 text_held None = Err FileFault
-text_held (Some text) = if nat_lt 1048576 (length text) then Err FileFault else Ok text
+text_held (Some text) = if nat_lt 1048576 (length text) then Err FileTooLong else Ok text
 
 -- the hosts of a text
 abbrev pub hosts_or_fault : Result (List ℕ) HelperStatus → Result (List Host) HelperStatus

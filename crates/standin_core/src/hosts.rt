@@ -1,6 +1,6 @@
 //! Reads the data file, each line a tag and a secret in hexadecimal (ours), and looks tags up.
 
-ghost use Rattle.std.specs.Prelude.{◌≡◌, ◌≤◌, ◌+◌, ◌++◌, IfOk, MatchResult, OnOk, OnErr, length, take, drop, List, option_map, true, false};
+ghost use Rattle.std.specs.Prelude.{◌≡◌, ◌≢◌, ◌≤◌, ◌+◌, ◌++◌, IfOk, MatchResult, OnOk, OnErr, length, take, drop, List, option_map, Err, true, false};
 ghost use Rattle.hex.specs.Hex.{decode_sized};
 ghost use Rattle.standin_core.specs.Hosts.{Host, ArePairs, secret_for};
 ghost use Rattle.standin_core.specs.Reading.{ReadsLine, ReadsText, ReadsData};
@@ -34,6 +34,8 @@ pub fn read_data<F: Files>(
 ) -> Result<ScrubBuf, DataFault>
     ensures reads { ReadsData result (option_map (λ path. path.now) path.entry)
         (F.seen files.old) (F.seen files.new) }
+    ensures failed { result ≢ Err DataFault.Failed
+        → (F.seen files.new).failed ≡ (F.seen files.old).failed }
     ensures only { OnlyReadsFiles (F.seen files.old) (F.seen files.new) }
 {
     let Some(path) = path else {

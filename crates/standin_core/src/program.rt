@@ -1,6 +1,6 @@
 //! The helper's main function: it reads the data file, says HELLO, and serves the agent.
 
-ghost use Rattle.std.specs.Prelude.{◌≡◌, ◌↔◌, ◌⊎◌, [], List, ℕ, map, string_bytes, None, MatchOption};
+ghost use Rattle.std.specs.Prelude.{◌≡◌, ◌≢◌, ◌↔◌, ◌⊎◌, [], List, ℕ, map, string_bytes, None, MatchOption};
 ghost use Rattle.child_peer.specs.Words.{plain_words, words_of};
 ghost use Rattle.standin_core.specs.Claims.{Answers, Ends};
 ghost use Rattle.standin_core.specs.Hosts.{Host};
@@ -37,8 +37,11 @@ pub fn helper_main<R: Wait, F: Files, P: Source + Sink>(
         (record { files = F.seen files.new; peer = P.seen peer.new }) }
     ensures usage { (result ≡ HelperStatus.Usage) ↔ (words_of (map string_bytes words.now) ≡ None) }
     ensures unused { result ≡ HelperStatus.Usage → (files.new ≡ files.old) × (peer.new ≡ peer.old) }
-    ensures unheard { (result ≡ HelperStatus.FileFault) ⊎ (result ≡ HelperStatus.BadFile)
+    ensures unheard { (result ≡ HelperStatus.FileFault)
+        ⊎ ((result ≡ HelperStatus.FileTooLong) ⊎ (result ≡ HelperStatus.BadFile))
         → peer.new ≡ peer.old }
+    ensures failed { result ≢ HelperStatus.FileFault
+        → (F.seen files.new).failed ≡ (F.seen files.old).failed }
     ensures files_only { OnlyReadsFiles (F.seen files.old) (F.seen files.new) }
 {
     let Some(words) = read_words(words) else {
@@ -47,7 +50,7 @@ pub fn helper_main<R: Wait, F: Files, P: Source + Sink>(
     let pairs = match read_data(alloc, files, words.last) {
         Ok(pairs) => pairs,
         Err(DataFault::Failed) => return HelperStatus::FileFault,
-        Err(DataFault::TooLong) => return HelperStatus::FileFault,
+        Err(DataFault::TooLong) => return HelperStatus::FileTooLong,
         Err(DataFault::Bad) => return HelperStatus::BadFile,
         Err(DataFault::Memory) => return HelperStatus::Memory,
     };

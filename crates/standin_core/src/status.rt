@@ -3,7 +3,7 @@
 ghost use Rattle.std.specs.Prelude.{◌≡◌};
 ghost use Rattle.standin_core.specs.Codes.{code_of};
 
-/// How the program ended. Its number is the exit status.
+/// How the program ended. `code` is the exit status.
 #[derive(Clone, Copy, Debug, PartialEq, Eq)]
 pub enum HelperStatus {
     /// The agent ended between two frames.
@@ -12,8 +12,10 @@ pub enum HelperStatus {
     BadFrame,
     /// The words are none of a helper's.
     Usage,
-    /// The data file could not be read, or has more than 1048576 bytes.
+    /// The data file could not be read. The files counted that.
     FileFault,
+    /// The data file has more than 1048576 bytes.
+    FileTooLong,
     /// The data file has a line that is none of a host's.
     BadFile,
     /// Memory ran out. Says nothing of what was read.
@@ -35,7 +37,7 @@ impl HelperStatus {
             HelperStatus::Done => 0,
             HelperStatus::BadFrame => 1,
             HelperStatus::Usage => 2,
-            HelperStatus::FileFault => 3,
+            HelperStatus::FileFault | HelperStatus::FileTooLong => 3,
             HelperStatus::BadFile => 4,
             HelperStatus::Memory => 5,
             HelperStatus::ReadFault => 6,

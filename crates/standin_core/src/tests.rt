@@ -136,7 +136,7 @@ fn other_words_and_files_are_refused(rt: HostRuntime) -> Result<(), Fail> {
     let failed = told(&rt, alloc, &words, HOST, &[], 4096, (1, 0, 0))?;
     assert_eq!(rt; failed.0, HelperStatus::FileFault);
     let long = told(&rt, alloc, &words, &longer, &[], 4096, NONE)?;
-    assert_eq!(rt; long.0, HelperStatus::FileFault);
+    assert_eq!(rt; long.0, HelperStatus::FileTooLong);
     let of_the_bound = told(&rt, alloc, &words, &longer[1..], &[], 4096, NONE)?;
     assert_eq!(rt; of_the_bound.0, HelperStatus::BadFile);
     let torn = told(&rt, alloc, &words, &HOST[..129], &[], 4096, NONE)?;

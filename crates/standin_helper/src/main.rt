@@ -33,6 +33,7 @@ fn trouble(status: HelperStatus) -> Option<&'static str> {
         HelperStatus::BadFrame => Some("the agent sent no request to a helper"),
         HelperStatus::Usage => Some("usage: standin_helper SOCKET JOB TICKET [DATA]"),
         HelperStatus::FileFault => Some("the data file could not be read"),
+        HelperStatus::FileTooLong => Some("the data file has more than 1048576 bytes"),
         HelperStatus::BadFile => Some("the data file has a line of another form"),
         HelperStatus::Memory => Some("out of memory"),
         HelperStatus::ReadFault => Some("the agent could not be read from"),

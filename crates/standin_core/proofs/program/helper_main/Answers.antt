@@ -1,8 +1,8 @@
-use Rattle.std.proofs.Common.{◌≡◌, sym, refl, subst, List, ℕ, Option, Some, None, map, string_bytes, inl}
+use Rattle.std.proofs.Common.{◌≡◌, sym, refl, subst, List, ℕ, Option, Some, None, map, string_bytes}
 use Rattle.child_peer.specs.Words.{ChildWords, plain_words}
 use Rattle.standin_core.specs.Hosts.{ArePairs}
 use Rattle.standin_core.specs.Transcript.{transcript_of}
-use Rattle.standin_core.proofs.DataLemmas.{files_agree, no_hosts_of_long}
+use Rattle.standin_core.proofs.DataLemmas.{files_agree}
 use Rattle.standin_core.proofs.ProgramLemmas.{answers_by, no_usage, no_file_fault, transcript-usage, transcript-fault, transcript-talk}
 use Rattle.standin_core.proofs.program.helper_main.Goals as goal
 
@@ -24,21 +24,13 @@ returns-in_default-clause-answers g c =
 pub returns-in-Err-TooLong-clause-answers : goal.returns-in-Err-TooLong-clause-answers
 returns-in-Err-TooLong-clause-answers g c =
     let reads = rw c.in-Err-TooLong.field-0-is at c.in-Err-TooLong.ensures.reads in
-    let none = no_hosts_of_long (plain_words c.in-Some.words).last reads.0.name reads.0.held reads.0.named reads.0.more in
-    inl (record {
-      unsaid = record {
-        held = reads.0.held;
-        told = reads.0.told;
-        is = transcript-fault (map string_bytes c.args.words.now) reads.0.held (plain_words c.in-Some.words) _ (sym c.in-Some.ensures) none;
-        peer = refl;
-        faults = reads.1;
-      };
-      read = plain_words c.in-Some.words;
-      of_words = sym c.in-Some.ensures;
-      path = reads.0.name;
-      named = reads.0.named;
-      more = reads.0.more;
-    })
+    record {
+      held = reads.0.held;
+      told = reads.0.told;
+      is = transcript-fault (map string_bytes c.args.words.now) reads.0.held (plain_words c.in-Some.words) _ (sym c.in-Some.ensures) reads.0.read;
+      peer = refl;
+      faults = reads.1;
+    }
 
 pub returns-in-Err-Bad-clause-answers : goal.returns-in-Err-Bad-clause-answers
 returns-in-Err-Bad-clause-answers g c =
