@@ -1,3 +1,4 @@
+pub mod AuditLemmas
 pub mod LineLemmas
 pub mod RaisedLemmas
 pub mod SightLemmas

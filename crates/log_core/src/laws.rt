@@ -1,12 +1,16 @@
-//! A law of a record's log.
+//! Laws of a record's log.
 
-ghost use Rattle.std.specs.Prelude.{◌≡◌, ◌++◌, ℕ, List, []};
+ghost use Rattle.std.specs.Prelude.{◌≡◌, ◌++◌, ℕ, List, [], length, map};
 ghost use Rattle.agent_model.specs.Events.{Timed};
 ghost use Rattle.agent_model.specs.Runs.{history};
 ghost use Rattle.agent_model.specs.State.{Settings, first_state};
+ghost use Rattle.audit_core.specs.Puts.{puts};
+ghost use Rattle.audit_core.specs.Reports.{Agrees, verdict_of};
+ghost use Rattle.audit_core.specs.declared.put.Put.{Put as Listed};
 ghost use Rattle.log_core.specs.Logs.{requests_of, sights_of};
 ghost use Rattle.log_core.specs.Lines.{whole_lines};
 ghost use Rattle.log_laws.specs.Tellings.{TellsEnds};
+ghost use Rattle.log_laws.specs.Puts.{counted, put_seen};
 ghost use Rattle.log_laws.specs.Reads.{reads_of, told_of_client};
 ghost use Rattle.log_laws.specs.Sights.{run_sights, told_in};
 ghost use Rattle.log_laws.specs.Whys.{PutsWhatWasRead};
@@ -35,4 +39,15 @@ pub fn a_log_is_of_the_records_run()
     ensures put { (settings : Settings) (text : List ℕ) (before later : List Timed)
         → before ++ later ≡ events_of settings (whole_lines text)
         → PutsWhatWasRead (settings_of settings (whole_lines text)) before }
+{}
+
+/// A log and an audit tell of the same requests: what is seen of a schedule to be put to the helper is what an audit of
+/// it lists, for the same clients and in the same order. So of a record without a cut line, for which an audit says yes,
+/// a log sees as many put as that yes counts.
+pub fn a_log_sees_what_an_audit_lists()
+    ensures ports { (settings : Settings) (text : List ℕ) → counted put_seen (sights_of settings text)
+        ≡ map (λ (put : Listed). put.port) (puts settings text) }
+    ensures number { (settings : Settings) (text deeds : List ℕ) (listed : List Listed)
+        → whole_lines text ≡ text → verdict_of settings text deeds ≡ Agrees listed
+        → length (counted put_seen (sights_of settings (whole_lines text))) ≡ length listed }
 {}

@@ -14,7 +14,7 @@ mod status;
 mod top;
 mod writing;
 
-pub use laws::a_log_is_of_the_records_run;
+pub use laws::{a_log_is_of_the_records_run, a_log_sees_what_an_audit_lists};
 pub use rounds::write_log;
 pub use rows::a_cut_line_waits;
 pub use seeing::Seeing;
