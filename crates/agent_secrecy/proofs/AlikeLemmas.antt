@@ -5,11 +5,12 @@ use Rattle.key_blob.specs.AddedKeys.{IsAddedKey}
 use Rattle.child_msg.specs.Messages.{Confirm, Sign, Signing, ToChildMessage, Verify}
 use Rattle.agent_model.specs.Actions.{Outcome}
 use Rattle.agent_model.specs.Events.{Timed}
-use Rattle.agent_model.specs.Runs.{AllFit, AreInRange, outcomes}
+use Rattle.agent_model.specs.Runs.{AllFit, outcomes}
 use Rattle.agent_model.specs.State.{Settings, first_state}
 use Rattle.agent_secrecy.specs.Alike.{AreAlike}
 use Rattle.agent_secrecy.specs.Frames.{AreAlikeMessages, AreAlikePut, AreAlikeSignings, key_in}
 use Rattle.agent_secrecy.specs.Hiding.{hide_message}
+use Rattle.agent_secrecy.specs.Pieces.{AreOfBytes}
 use Rattle.agent_secrecy.specs.Secrecy.{AreAlikeSeen}
 use Rattle.agent_secrecy.specs.Secrets.{hidden}
 use Rattle.agent_secrecy.proofs.AdditionLemmas.{ArePut, IsOfAddition}
@@ -73,7 +74,7 @@ all_messages (one ∷ ones) (other ∷ others) seen is other_is =
     (messages one.put other.put seen.0.put is.0 other_is.0, all_messages ones others seen.1 is.1 other_is.1)
 
 pub every_put : (settings : Settings) (one other : List Timed) → AreAlike one other
-    → AllFit (first_state settings) one → AreInRange one → AreInRange other
+    → AllFit (first_state settings) one → AreOfBytes one → AreOfBytes other
     → AreAlikePut (outcomes (first_state settings) one) (outcomes (first_state settings) other)
-every_put settings one other alike fit range other_range =
-    all_messages (outcomes (first_state settings) one) (outcomes (first_state settings) other) (every_run settings one other alike fit) (puts settings one range) (puts settings other other_range)
+every_put settings one other alike fit bytes other_bytes =
+    all_messages (outcomes (first_state settings) one) (outcomes (first_state settings) other) (every_run settings one other alike fit) (puts settings one bytes) (puts settings other other_bytes)

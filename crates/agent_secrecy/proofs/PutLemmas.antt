@@ -15,7 +15,7 @@ use Rattle.agent_model.specs.Binds.{agent_request_of}
 use Rattle.agent_model.specs.Children.{unheard}
 use Rattle.agent_model.specs.Consents.{grant_work}
 use Rattle.agent_model.specs.Events.{Happening, Timed}
-use Rattle.agent_model.specs.Runs.{AreInRange, IsInRange, outcomes}
+use Rattle.agent_model.specs.Runs.{outcomes}
 use Rattle.agent_model.specs.State.{Port, Settings, State, change_port, find_port, first_state, new_port, number_of as port_number, remove_port}
 use Rattle.agent_model.specs.Step.{admitted, asker_at, attempts, handle, has_room, step, take_frame}
 use Rattle.agent_model.specs.Time.{at_moment}
@@ -24,6 +24,7 @@ use Rattle.agent_model.proofs.GrantLemmas.{grant-ends}
 use Rattle.agent_model.proofs.MakeLemmas.{Change, Makes, Quiet, alters, by_event, closes, first, goes_on, grants, hears, links, loses, names, overs, serves, stays, takes, tells}
 use Rattle.agent_model.proofs.TimeLemmas.{at_moment-keeps, time_passes-put}
 use Rattle.agent_model.proofs.NewsLemmas.{IsNews, Told, gone, news, proves, says, told-grant, told-heard, told-lose, told-moment, told-over, untold}
+use Rattle.agent_secrecy.specs.Pieces.{AreOfBytes, IsOfBytes}
 use Rattle.agent_secrecy.proofs.EachLemmas.{each_changed, each_found, each_left}
 use Rattle.agent_secrecy.proofs.AdditionLemmas.{AreHeld, ArePut, IsAddition, adds_read, alive, granted, none, serves as adds_served, used}
 
@@ -100,29 +101,29 @@ admitted-sent true number door ports sent =
 admitted-sent false number door ports sent = sent
 
 -- what an event changes quietly
-change-sent : {event : Happening} {number : ℕ} {f : Port → Port} → IsInRange event
+change-sent : {event : Happening} {number : ℕ} {f : Port → Port} → IsOfBytes event
     → Change event number f → (port : Port) → SentBytes port → SentBytes (f port)
-change-sent range (hears piece is) port sent =
-    All-append (λ byte. byte < 256) port.heard piece sent (subst IsInRange is range).1
-change-sent range (takes count is) port sent = sent
+change-sent bytes (hears piece is) port sent =
+    All-append (λ byte. byte < 256) port.heard piece sent (subst IsOfBytes is bytes)
+change-sent bytes (takes count is) port sent = sent
 
-quiet-keeps : {event : Happening} {old new : State} → IsInRange event → Quiet event old new
+quiet-keeps : {event : Happening} {old new : State} → IsOfBytes event → Quiet event old new
     → Keeps old → Keeps new
-quiet-keeps {old = old} range (alters number f change) keeps = record { keys = keeps.keys; sent = changed-sent number f old.ports (change-sent range change) keeps.sent }
-quiet-keeps {old = old} range (closes number may) keeps =
+quiet-keeps {old = old} bytes (alters number f change) keeps = record { keys = keeps.keys; sent = changed-sent number f old.ports (change-sent bytes change) keeps.sent }
+quiet-keeps {old = old} bytes (closes number may) keeps =
     record { keys = keeps.keys; sent = removed-sent number old.ports keeps.sent }
-quiet-keeps range (goes_on new goes) keeps = record { keys = keeps.keys; sent = keeps.sent }
-quiet-keeps {old = old} range (names job number new) keeps = record { keys = keeps.keys; sent = changed-sent number unheard old.ports (λ port is. no_bytes) keeps.sent }
-quiet-keeps {old = old} range (links job number new) keeps = record { keys = keeps.keys; sent = changed-sent number unheard old.ports (λ port is. no_bytes) keeps.sent }
+quiet-keeps bytes (goes_on new goes) keeps = record { keys = keeps.keys; sent = keeps.sent }
+quiet-keeps {old = old} bytes (names job number new) keeps = record { keys = keeps.keys; sent = changed-sent number unheard old.ports (λ port is. no_bytes) keeps.sent }
+quiet-keeps {old = old} bytes (links job number new) keeps = record { keys = keeps.keys; sent = changed-sent number unheard old.ports (λ port is. no_bytes) keeps.sent }
 
 -- what it makes
-makes-keeps : {event : Happening} {old : State} {outcome : Outcome} → IsInRange event
+makes-keeps : {event : Happening} {old : State} {outcome : Outcome} → IsOfBytes event
     → Makes event old outcome → Keeps old → KeepsAfter outcome
-makes-keeps range (stays state) keeps = record { state = keeps; put = none }
-makes-keeps range (first quiet rest) keeps =
-    let later = makes-keeps range rest (quiet-keeps range quiet keeps) in
+makes-keeps bytes (stays state) keeps = record { state = keeps; put = none }
+makes-keeps bytes (first quiet rest) keeps =
+    let later = makes-keeps bytes rest (quiet-keeps bytes quiet keeps) in
     record { state = later.state; put = later.put }
-makes-keeps range (serves body_len port state found door nothing owed own) keeps =
+makes-keeps bytes (serves body_len port state found door nothing owed own) keeps =
     let body = front_body body_len port.heard in
     let sent = found-sent port.number state.ports port found keeps.sent in
     let small : IsBytes body = All-take (λ byte. byte < 256) body_len (drop 4 port.heard) (All-drop (λ byte. byte < 256) 4 port.heard sent) in
@@ -134,17 +135,17 @@ makes-keeps range (serves body_len port state found door nothing owed own) keeps
       };
       put = kept.put;
     }
-makes-keeps range (tells piece state) keeps =
+makes-keeps bytes (tells piece state) keeps =
     let told = telling piece state.under_way.link in
     let answered = with_answers told.link (answers_in told.settled state) state in
     record {
       state = record { keys = lost-held told.fault answered keeps.keys; sent = news-sent (told-heard state.ports piece state untold) keeps.sent };
       put = lost-put told.fault answered;
     }
-makes-keeps range (loses state) keeps = record { state = record { keys = keeps.keys; sent = news-sent (told-lose state.ports state untold) keeps.sent }; put = none }
-makes-keeps range (overs confirmation state there) keeps =
+makes-keeps bytes (loses state) keeps = record { state = record { keys = keeps.keys; sent = news-sent (told-lose state.ports state untold) keeps.sent }; put = none }
+makes-keeps bytes (overs confirmation state there) keeps =
     record { state = record { keys = keeps.keys; sent = news-sent (told-over state.ports confirmation state untold) keeps.sent }; put = none }
-makes-keeps range (grants confirmation port state there opened) keeps = record {
+makes-keeps bytes (grants confirmation port state there opened) keeps = record {
   state = record {
     keys = used (grant_work port.chain confirmation state).used state.held keeps.keys;
     sent = news-sent (told-grant state.ports state (grant-ends port.chain confirmation state) untold) keeps.sent;
@@ -152,15 +153,15 @@ makes-keeps range (grants confirmation port state there opened) keeps = record {
   put = granted (grant-ends port.chain confirmation state) keeps.keys;
 }
 
-happens : (event : Happening) (state : State) → IsInRange event → Keeps state
+happens : (event : Happening) (state : State) → IsOfBytes event → Keeps state
     → KeepsAfter (handle event state)
-happens event state range keeps =
+happens event state bytes keeps =
     by_event KeepsAfter event state
     (λ door. record {
       state = record { keys = keeps.keys; sent = admitted-sent (has_room door state.ports state.under_way) _ door state.ports keeps.sent };
       put = none;
     })
-    (λ outcome makes. makes-keeps range makes keeps)
+    (λ outcome makes. makes-keeps bytes makes keeps)
 
 at_this_moment : (moment : Moment) (state : State) → Keeps state → Keeps (at_moment moment state)
 at_this_moment moment state keeps = record {
@@ -168,10 +169,10 @@ at_this_moment moment state keeps = record {
   sent = news-sent (told-moment moment state) keeps.sent;
 }
 
-steps : (state : State) (moment : Moment) (event : Happening) → IsInRange event → Keeps state
+steps : (state : State) (moment : Moment) (event : Happening) → IsOfBytes event → Keeps state
     → KeepsAfter (step state moment event)
-steps state moment event range keeps =
-    let one = happens event (at_moment moment state) range (at_this_moment moment state keeps) in
+steps state moment event bytes keeps =
+    let one = happens event (at_moment moment state) bytes (at_this_moment moment state keeps) in
     record {
       state = record { keys = one.state.keys; sent = one.state.sent };
       put = subst (λ put. ArePut (put ++ (handle event (at_moment moment state)).put)) (sym (time_passes-put moment state)) one.put;
@@ -184,13 +185,13 @@ abbrev pub EachPut : List Outcome → Type 0
 EachPut [] = Unit {0}
 EachPut (one ∷ later) = ArePut one.put × EachPut later
 
-puts_from : (state : State) (events : List Timed) → AreInRange events → Keeps state
+puts_from : (state : State) (events : List Timed) → AreOfBytes events → Keeps state
     → EachPut (outcomes state events)
-puts_from state [] range keeps = tt
-puts_from state (timed ∷ later) range keeps =
-    let one = steps state timed.moment timed.event range.0.event keeps in
-    (one.put, puts_from (step state timed.moment timed.event).state later range.1 one.state)
+puts_from state [] bytes keeps = tt
+puts_from state (timed ∷ later) bytes keeps =
+    let one = steps state timed.moment timed.event bytes.0 keeps in
+    (one.put, puts_from (step state timed.moment timed.event).state later bytes.1 one.state)
 
-pub puts : (settings : Settings) (events : List Timed) → AreInRange events
+pub puts : (settings : Settings) (events : List Timed) → AreOfBytes events
     → EachPut (outcomes (first_state settings) events)
-puts settings events range = puts_from (first_state settings) events range (record { keys = All-nil IsAddition; sent = All-nil SentBytes })
+puts settings events bytes = puts_from (first_state settings) events bytes (record { keys = All-nil IsAddition; sent = All-nil SentBytes })

@@ -4,4 +4,5 @@ pub mod Alike
 pub mod Secrecy
 pub mod Rows
 pub mod Frames
+pub mod Pieces
 pub mod Runs

@@ -8,6 +8,7 @@ use Rattle.agent_model.specs.State.{Settings, no_settings}
 use Rattle.replay_run.specs.Drill.{agent_of, drilled}
 use Rattle.replay_run.specs.DrillClaims.{DrillEnds}
 use Rattle.replay_run.proofs.DrillFitLemmas.{drill-fits}
+use Rattle.replay_run.proofs.DrillPieceLemmas.{drill-bytes}
 use Rattle.schedule_text.specs.Numbers.{number_of}
 use Rattle.replay_run.specs.declared.run_end.RunEnd.{RunEnd}
 use Rattle.replay_run.specs.declared.run_end.RunEnd.TheVariants.{Done, Refused, Memory, ReadFault, WriteFault}
@@ -77,8 +78,9 @@ pub drills_lawfully_by : (words : List (List ℕ)) (asked : Drilling) → drill_
     → DrillsLawfully asked
 drills_lawfully_by words asked is =
     let drill = drilled asked.rounds asked.seed in
-    lawful_run no_settings drill.events (agent_of drill) (drill-fits asked.rounds asked.seed (few_rounds words asked is))
-    refl
+    let few = few_rounds words asked is in
+    lawful_run no_settings drill.events (agent_of drill) (drill-fits asked.rounds asked.seed few)
+    (drill-bytes asked.rounds asked.seed few) refl
 
 -- a word isn't both
 not_replay : (word : List ℕ) → bytes_eq word (codes "drill") ≡ true → bytes_eq word (codes "replay") ≡ false

@@ -10,6 +10,7 @@ use Rattle.replay_run.specs.Claims.{Seen, IsRefused, Ends}
 use Rattle.replay_run.proofs.RoundLemmas.{some_of}
 use Rattle.replay_run.proofs.BroughtLemmas.{run-schedule}
 use Rattle.replay_run.proofs.FitLemmas.{schedule-fits}
+use Rattle.replay_run.proofs.PieceLemmas.{schedule-bytes}
 use Rattle.agent_top.specs.Program.{status_of, ReplaysExactly, IsComplete, IsFinished, HasNoFault, Completes, RunsLawfully}
 use Rattle.agent_top.specs.LawfulRun.{IsLawfulRun}
 use Rattle.agent_top.proofs.LawfulRunLemmas.{lawful_run}
@@ -73,7 +74,7 @@ RunsByLaw settings text = IsLawfulRun (settings_of settings text) (events_of set
 schedule-runs : (settings : Settings) (text : List ℕ) → RunsByLaw settings text
 schedule-runs settings text =
     lawful_run (settings_of settings text) (events_of settings text) (run_of settings text).agent (schedule-fits settings text)
-    (run-schedule settings text)
+    (schedule-bytes settings text) (run-schedule settings text)
 
 pub lawful_by : (settings : Settings) (old new : Seen) → RunsLawfully settings old new
 lawful_by settings old new = λ bytes read. record {

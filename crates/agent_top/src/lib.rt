@@ -5,11 +5,13 @@
 
 mod agent;
 mod drilling;
+mod laws;
 mod recording;
 mod serving;
 mod status;
 mod top;
 mod words;
 
+pub use laws::lawful_runs_tell_no_secret;
 pub use status::Status;
 pub use top::agent_main;

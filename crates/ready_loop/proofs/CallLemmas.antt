@@ -26,6 +26,7 @@ use Rattle.agent_model.specs.State.{State, find_port, owed_of, starts}
 use Rattle.agent_model.specs.Step.{step}
 use Rattle.loop_model.specs.Calls.{served_of}
 use Rattle.loop_model.specs.Dues.{Closing, Free, NowFor, Polling, due_look, due_of, port_of, wait_of}
+use Rattle.loop_model.specs.Fitting.{IsTyped}
 use Rattle.loop_model.specs.Servable.{has_job}
 use Rattle.loop_model.specs.LegalJournal.{LoopState, after_entry, after_if_legal, in_state, is_first_job, is_read, is_taken, may_serve}
 use Rattle.world_ports.specs.Worlds.{IsPiece, read_room}
@@ -200,21 +201,21 @@ start-any state line job answer first =
 
 -- a call that finds that the thing isn't ready any more
 pub serves_dropped : {T E : Type 0} {value : T} {state : State} {line after : Line} {old new : Option (List Entry)}
-    (thing : Thing) (next : Entry) → is_poll next ≡ false
+    (thing : Thing) (next : Entry) → is_poll next ≡ false → IsTyped next
     → after_if_legal (in_state state line Free) next ≡ Some (in_state state (in_hand thing line) Free)
     → after ≡ in_hand thing line → Grows old new (next ∷ [])
     → AdvancesOrStops {T = T} {E = E} (Ok value) (in_state state line Free) old new (in_state state after Free)
-serves_dropped {state = state} {line = line} {after = after} {old = old} {new = new} thing next quiet is gone told = record {
-  by = advances_once (in_state state line Free) (in_state state after Free) old new next quiet
+serves_dropped {state = state} {line = line} {after = after} {old = old} {new = new} thing next quiet typed is gone told = record {
+  by = advances_once (in_state state line Free) (in_state state after Free) old new next quiet typed
       (is ∙ ap (λ (l : Line). Some (in_state state l Free)) (sym gone)) told;
 }
 
 -- a call for which memory ran out, which may be missing from the journal
 pub serves_short : {T E : Type 0} {fault : E} {from left to : LoopState} {old new : Option (List Entry)} (next : Entry)
-    → is_poll next ≡ false → after_if_legal from next ≡ Some left → Tells old new true next
+    → is_poll next ≡ false → IsTyped next → after_if_legal from next ≡ Some left → Tells old new true next
     → AdvancesOrStops {T = T} {E = E} (Err fault) from old new to
-serves_short {from = from} {left = left} {old = old} {new = new} next quiet is told =
-    record { by = stops_short from left old new true next quiet is told }
+serves_short {from = from} {left = left} {old = old} {new = new} next quiet typed is told =
+    record { by = stops_short from left old new true next quiet typed is told }
 
 -- ---- what fits
 

@@ -1,8 +1,14 @@
 -- A room that was read into is wiped again.
-use Rattle.std.proofs.Common.{◌≡◌, ◌∙◌, ℕ, ◌+◌, ◌-◌, List, ◌++◌, length, drop, ap, sym}
+use Rattle.std.proofs.Common.{◌≡◌, ◌∙◌, ℕ, ◌+◌, ◌-◌, ◌<◌, List, [], ◌++◌, length, drop, ap, sym}
 use Rattle.std.specs.Prelude.{replicate}
 use Rattle.std.proofs.lemmas.List.{drop-replicate, length-replicate, replicate-append-replicate}
 use Rattle.ready_loop.specs.Rooms.{IsWiped}
+use Rattle.std.proofs.lemmas.List.Elements.{All-nil}
+use Rattle.wire_text.specs.Wire.{IsBytes}
+
+-- nothing was read
+pub no_bytes : IsBytes []
+no_bytes = All-nil (λ byte. byte < 256)
 
 -- so many zeros are wiped
 pub zeros_are_wiped : (bytes : List ℕ) (count : ℕ) → bytes ≡ replicate count 0 → IsWiped bytes

@@ -20,6 +20,7 @@ use Rattle.agent_model.specs.Sound.{IsRising}
 use Rattle.agent_model.specs.State.{State, client_count}
 use Rattle.agent_model.specs.Step.{step}
 use Rattle.loop_model.specs.Dues.{Free, due_look, is_polling, wait_of}
+use Rattle.loop_model.specs.Fitting.{IsTyped}
 use Rattle.loop_model.specs.Lines.{Line, is_idle}
 use Rattle.loop_model.specs.LegalJournal.{LoopState, after_entries, after_entry, after_if, after_if_legal, in_state}
 use Rattle.ready_loop.specs.Moves.{Advances, LooksAndPolls, Stops, Turns, is_poll}
@@ -31,7 +32,7 @@ use Rattle.ready_loop.specs.declared.outcome.ServeEnd.{ServeEnd}
 use Rattle.ready_loop.specs.declared.outcome.ServeEnd.TheVariants as ends
 use Rattle.ready_loop.specs.declared.outcome.Turn.TheVariants as turns
 use Rattle.loop_model.proofs.ClientsLemmas.{no_clients}
-use Rattle.ready_loop.proofs.TurningLemmas.{grows_more}
+use Rattle.ready_loop.proofs.TurningLemmas.{grows_more, typed_both}
 
 -- ---- one part after another
 
@@ -61,6 +62,7 @@ runs_more {setting} {from} {mid} {to} {old} {between} {new} first later = record
   added = first.added ++ later.added;
   told = grows_more old between new first.added later.added first.told later.told;
   legal = ran_on setting from mid to first.added later.added first.legal later.legal;
+  typed = typed_both first.added later.added first.typed later.typed;
 }
 
 upto_more : {setting : Setting} {from mid : Stage} {old between new : Option (List Entry)} {last : Entry}
@@ -73,6 +75,8 @@ upto_more {setting} {from} {mid} {old} {between} {new} {last} first later = reco
       (grows_more old between new first.added (later.before ++ last ∷ []) first.told later.told);
   legal = rw (append_assoc first.added later.before (last ∷ []))
       (ran_on setting from mid later.to first.added (later.before ++ last ∷ []) first.legal later.legal);
+  typed = rw (append_assoc first.added later.before (last ∷ []))
+      (typed_both first.added (later.before ++ last ∷ []) first.typed later.typed);
 }
 
 -- a run, and then its end
@@ -198,6 +202,7 @@ served_runs setting from to turn = record {
   added = turn.calls.added;
   told = turn.calls.told;
   legal = quiet_runs setting from to turn.calls.added turn.calls.quiet turn.calls.legal;
+  typed = turn.calls.typed;
 }
 
 pub polled_runs : {old new : Option (List Entry)} (setting : Setting) (state next : State) (line after : Line)
@@ -208,6 +213,7 @@ polled_runs setting state next line after rising on looks = record {
   added = entry.Now (Ok looks.moment) ∷ entry.Poll looks.polls.wait looks.polls.items (Ok polled.Some) ∷ [];
   told = looks.polls.told;
   legal = looks_run setting state line looks.moment looks.polls.wait looks.polls.items (Ok polled.Some) (in_state next after Free) rising on looks.polls.legal;
+  typed = looks.polls.typed;
 }
 
 pub over_ends : {old new : Option (List Entry)} (setting : Setting) (state next : State) (line after : Line)
@@ -222,6 +228,7 @@ over_ends setting state next line after rising on looks = let waits = looks.poll
     before = entry.Now (Ok looks.moment) ∷ [];
     told = waits.told;
     legal = looks_run setting state line looks.moment waits.wait waits.items (Ok polled.Over) looks.polls.to rising on waits.legal;
+    typed = waits.typed;
   };
 }
 
@@ -237,6 +244,7 @@ fault_ends setting state next line after rising on looks = let waits = looks.pol
     before = entry.Now (Ok looks.moment) ∷ [];
     told = waits.told;
     legal = looks_run setting state line looks.moment waits.wait waits.items (Err Failed) looks.polls.to rising on waits.legal;
+    typed = waits.typed;
   };
 }
 
@@ -250,6 +258,7 @@ memory_ends setting state next line after rising on (inl stops) = record {
     added = stops.calls.added;
     told = stops.calls.told;
     legal = quiet_runs setting (in_state state line Free) stops.to stops.calls.added stops.calls.quiet stops.calls.legal;
+    typed = stops.calls.typed;
   };
 }
 memory_ends setting state next line after rising on (inr looks) =
@@ -261,6 +270,7 @@ memory_ends setting state next line after rising on (inr looks) =
         added = entry.Now (Ok looks.moment) ∷ entry.Poll waits.wait waits.items answer ∷ [];
         told = waits.told;
         legal = looks_run setting state line looks.moment waits.wait waits.items answer looks.polls.last.to rising on waits.legal;
+        typed = waits.typed;
       };
     }
 
@@ -284,9 +294,9 @@ ran_one : (setting : Setting) (from to : Stage) (next : Entry) → gone_on setti
 ran_one setting from to next is = ap (option_and_then (λ (after : Stage). ran setting after [])) is
 
 runs_one : (setting : Setting) (from to : Stage) (old new : Option (List Entry)) (next : Entry)
-    → gone_on setting from next ≡ Some to → Grows old new (next ∷ []) → Runs setting from old new to
-runs_one setting from to old new next is told =
-    record { added = next ∷ []; told = told; legal = ran_one setting from to next is }
+    → gone_on setting from next ≡ Some to → IsTyped next → Grows old new (next ∷ []) → Runs setting from old new to
+runs_one setting from to old new next is typed told =
+    record { added = next ∷ []; told = told; legal = ran_one setting from to next is; typed = (typed, tt) }
 
 -- the clients' listener couldn't be bound
 opens_not : (fault : WorldFault) (setting : Setting) (old new : Option (List Entry))
@@ -297,14 +307,15 @@ opens_not Failed setting old new told = record {
   before = [];
   told = told;
   legal = ran_one setting Unbound Refused (entry.Bind Clients setting.path (Err Failed)) (first_bind setting Refused);
+  typed = (tt, tt);
 }
 opens_not Memory setting old new (inl told) = record {
   to = Refused;
-  calls = runs_one setting Unbound Refused old new (entry.Bind Clients setting.path (Err Memory)) (first_bind setting Refused) told;
+  calls = runs_one setting Unbound Refused old new (entry.Bind Clients setting.path (Err Memory)) (first_bind setting Refused) tt told;
 }
 opens_not Memory setting old new (inr told) = record {
   to = Unbound;
-  calls = record { added = []; told = told; legal = refl };
+  calls = record { added = []; told = told; legal = refl; typed = tt };
 }
 
 -- by whether the clients' listener was bound
@@ -312,5 +323,5 @@ pub opens_by : (result : Result Unit WorldFault) (setting : Setting) (old new : 
     → Tells old new (is_short result) (entry.Bind Clients setting.path result)
     → Opens result setting old new
 opens_by (Ok unit) setting old new told =
-    runs_one setting Unbound (begun setting) old new (entry.Bind Clients setting.path (Ok unit)) (first_bind setting (begun setting)) told
+    runs_one setting Unbound (begun setting) old new (entry.Bind Clients setting.path (Ok unit)) (first_bind setting (begun setting)) tt told
 opens_by (Err fault) setting old new told = opens_not fault setting old new told

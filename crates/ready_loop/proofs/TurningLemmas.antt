@@ -13,6 +13,7 @@ use Rattle.world_ports.specs.declared.answers.WorldFault.{WorldFault}
 use Rattle.world_ports.specs.declared.entry.Entry.{Entry}
 use Rattle.world_ports.specs.declared.entry.Entry.TheVariants as entry
 use Rattle.loop_model.specs.Dues.{Free}
+use Rattle.loop_model.specs.Fitting.{AreTyped, IsMoment, IsTyped}
 use Rattle.loop_model.specs.LegalJournal.{LoopState, after_entries, after_if_legal, in_state}
 use Rattle.agent_model.specs.State.{State}
 use Rattle.ready_loop.specs.declared.outcome.HubFault.{HubFault}
@@ -61,6 +62,12 @@ quiet_both (next ∷ first) later quiet more =
 quiet_one : (next : Entry) → is_poll next ≡ false → list_any is_poll (next ∷ []) ≡ false
 quiet_one next quiet = ap (λ (b : Bool). b || false) quiet
 
+-- ---- they have the numbers of their types
+
+pub typed_both : (first later : List Entry) → AreTyped first → AreTyped later → AreTyped (first ++ later)
+typed_both [] later typed more = more
+typed_both (next ∷ first) later typed more = (typed.0, typed_both first later typed.1 more)
+
 -- ---- calls one after another
 
 -- no call
@@ -71,17 +78,19 @@ no_call from journal = record {
   told =
       elim journal as (λ j. Grows j j []) [ None ↦ tt | Some entries ↦ sym (append-nil entries) ];
   legal = refl;
+  typed = tt;
   quiet = refl;
 }
 
 -- one call
 pub one_call : (from to : LoopState) (old new : Option (List Entry)) (next : Entry)
-    → is_poll next ≡ false → after_if_legal from next ≡ Some to → Grows old new (next ∷ [])
+    → is_poll next ≡ false → IsTyped next → after_if_legal from next ≡ Some to → Grows old new (next ∷ [])
     → Continues from old new to
-one_call from to old new next quiet is told = record {
+one_call from to old new next quiet typed is told = record {
   added = next ∷ [];
   told = told;
   legal = turned_one from to next is;
+  typed = (typed, tt);
   quiet = quiet_one next quiet;
 }
 
@@ -92,26 +101,27 @@ goes_on {from} {mid} {to} {old} {between} {new} first later = record {
   added = first.added ++ later.added;
   told = grows_more old between new first.added later.added first.told later.told;
   legal = turned_on from mid to first.added later.added first.legal later.legal;
+  typed = typed_both first.added later.added first.typed later.typed;
   quiet = quiet_both first.added later.added first.quiet later.quiet;
 }
 
 -- one call, and then others
 pub advances : {from mid to : LoopState} {old between new : Option (List Entry)} (next : Entry)
-    → is_poll next ≡ false → after_if_legal from next ≡ Some mid → Grows old between (next ∷ [])
+    → is_poll next ≡ false → IsTyped next → after_if_legal from next ≡ Some mid → Grows old between (next ∷ [])
     → Continues mid between new to → Advances from old new to
 unfolding goes_on one_call
-advances {from} {mid} {to} {old} {between} {new} next quiet is told later = record {
-  calls = goes_on (one_call from mid old between next quiet is told) later;
+advances {from} {mid} {to} {old} {between} {new} next quiet typed is told later = record {
+  calls = goes_on (one_call from mid old between next quiet typed is told) later;
   some = omega (arith, length-append (next ∷ []) later.added);
 }
 
 -- one call alone
 pub advances_once : (from to : LoopState) (old new : Option (List Entry)) (next : Entry)
-    → is_poll next ≡ false → after_if_legal from next ≡ Some to → Grows old new (next ∷ [])
+    → is_poll next ≡ false → IsTyped next → after_if_legal from next ≡ Some to → Grows old new (next ∷ [])
     → Advances from old new to
 unfolding one_call
-advances_once from to old new next quiet is told = record {
-  calls = one_call from to old new next quiet is told;
+advances_once from to old new next quiet typed is told = record {
+  calls = one_call from to old new next quiet typed is told;
   some = omega arith;
 }
 
@@ -128,14 +138,14 @@ stops_there {from} {to} calls = record { to = to; calls = calls }
 
 -- a call that may be missing from the journal
 pub stops_short : (from to : LoopState) (old new : Option (List Entry)) (short : Bool) (next : Entry)
-    → is_poll next ≡ false → after_if_legal from next ≡ Some to → Tells old new short next
+    → is_poll next ≡ false → IsTyped next → after_if_legal from next ≡ Some to → Tells old new short next
     → Stops from old new
-stops_short from to old new false next quiet is told =
-    stops_there (one_call from to old new next quiet is told)
-stops_short from to old new true next quiet is (inl told) =
-    stops_there (one_call from to old new next quiet is told)
-stops_short from to old new true next quiet is (inr told) =
-    stops_there (record { added = []; told = told; legal = refl; quiet = refl })
+stops_short from to old new false next quiet typed is told =
+    stops_there (one_call from to old new next quiet typed is told)
+stops_short from to old new true next quiet typed is (inl told) =
+    stops_there (one_call from to old new next quiet typed is told)
+stops_short from to old new true next quiet typed is (inr told) =
+    stops_there (record { added = []; told = told; legal = refl; typed = tt; quiet = refl })
 
 -- some calls, and then a stop
 pub stops_later : {from mid : LoopState} {old between new : Option (List Entry)}
@@ -167,35 +177,35 @@ goes_by (Err fault) from mid to old between new first later = stops_later first 
 
 -- one call, and then others while memory suffices
 pub goes_then : {T E : Type 0} {result : Result T E} {from mid to : LoopState} {old between new : Option (List Entry)} (next : Entry)
-    → is_poll next ≡ false → after_if_legal from next ≡ Some mid → Grows old between (next ∷ [])
+    → is_poll next ≡ false → IsTyped next → after_if_legal from next ≡ Some mid → Grows old between (next ∷ [])
     → ContinuesOrStops result mid between new to → ContinuesOrStops result from old new to
-goes_then {T} {E} {result} {from} {mid} {to} {old} {between} {new} next quiet is told later = record {
-  by = goes_by result from mid to old between new (one_call from mid old between next quiet is told) later.by;
+goes_then {T} {E} {result} {from} {mid} {to} {old} {between} {new} next quiet typed is told later = record {
+  by = goes_by result from mid to old between new (one_call from mid old between next quiet typed is told) later.by;
 }
 
 serves_by : {T E : Type 0} (result : Result T E) (from mid to : LoopState) (old between new : Option (List Entry)) (next : Entry)
-    → is_poll next ≡ false → after_if_legal from next ≡ Some mid → Grows old between (next ∷ [])
+    → is_poll next ≡ false → IsTyped next → after_if_legal from next ≡ Some mid → Grows old between (next ∷ [])
     → ContinuesBy result mid between new to → AdvancesBy result from old new to
-serves_by (Ok value) from mid to old between new next quiet is told later =
-    advances next quiet is told later
-serves_by (Err fault) from mid to old between new next quiet is told later =
-    stops_later (one_call from mid old between next quiet is told) later
+serves_by (Ok value) from mid to old between new next quiet typed is told later =
+    advances next quiet typed is told later
+serves_by (Err fault) from mid to old between new next quiet typed is told later =
+    stops_later (one_call from mid old between next quiet typed is told) later
 
 -- the same, by one call at least
 pub serves_then : {T E : Type 0} {result : Result T E} {from mid to : LoopState} {old between new : Option (List Entry)} (next : Entry)
-    → is_poll next ≡ false → after_if_legal from next ≡ Some mid → Grows old between (next ∷ [])
+    → is_poll next ≡ false → IsTyped next → after_if_legal from next ≡ Some mid → Grows old between (next ∷ [])
     → ContinuesOrStops result mid between new to → AdvancesOrStops result from old new to
-serves_then {T} {E} {result} {from} {mid} {to} {old} {between} {new} next quiet is told later = record {
-  by = serves_by result from mid to old between new next quiet is told later.by;
+serves_then {T} {E} {result} {from} {mid} {to} {old} {between} {new} next quiet typed is told later = record {
+  by = serves_by result from mid to old between new next quiet typed is told later.by;
 }
 
 -- ---- a look, and then a poll
 
 waits_by : (moment : Moment) (from mid to : LoopState) (old between new : Option (List Entry)) (answer : Result Polled WorldFault)
-    → after_if_legal from (entry.Now (Ok moment)) ≡ Some mid
+    → IsMoment moment → after_if_legal from (entry.Now (Ok moment)) ≡ Some mid
     → Grows old between (entry.Now (Ok moment) ∷ []) → AddsPoll [] mid between new answer to
     → AddsPoll (entry.Now (Ok moment) ∷ []) from old new answer to
-waits_by moment from mid to old between new answer is told later =
+waits_by moment from mid to old between new answer typed is told later =
     let look = entry.Now (Ok moment) ∷ [] in
     let poll = entry.Poll later.wait later.items answer ∷ [] in
     record {
@@ -203,33 +213,34 @@ waits_by moment from mid to old between new answer is told later =
       items = later.items;
       told = grows_more old between new look poll told later.told;
       legal = turned_on from mid to look poll (turned_one from mid (entry.Now (Ok moment)) is) later.legal;
+      typed = (typed, later.typed);
     }
 
 -- one call that looks at the clock, and then a poll
 pub looks_by : (result : Result Turn HubFault) (moment : Moment) (from mid : LoopState) (old between new : Option (List Entry)) (state : State) (line : Line)
-    → after_if_legal from (entry.Now (Ok moment)) ≡ Some mid
+    → IsMoment moment → after_if_legal from (entry.Now (Ok moment)) ≡ Some mid
     → Grows old between (entry.Now (Ok moment) ∷ []) → PollsOrStops result mid between new state line
     → Turns result from old new state line
-looks_by (Ok turns.Served) moment from mid old between new state line is told polls = absurd polls
-looks_by (Ok turns.Polled) moment from mid old between new state line is told polls = record {
+looks_by (Ok turns.Served) moment from mid old between new state line typed is told polls = absurd polls
+looks_by (Ok turns.Polled) moment from mid old between new state line typed is told polls = record {
   moment = moment;
-  polls = waits_by moment from mid (in_state state line Free) old between new (Ok polled.Some) is told polls;
+  polls = waits_by moment from mid (in_state state line Free) old between new (Ok polled.Some) typed is told polls;
 }
-looks_by (Ok turns.Over) moment from mid old between new state line is told polls = record {
+looks_by (Ok turns.Over) moment from mid old between new state line typed is told polls = record {
   moment = moment;
-  polls = record { to = polls.to; waits = waits_by moment from mid polls.to old between new (Ok polled.Over) is told polls.waits };
+  polls = record { to = polls.to; waits = waits_by moment from mid polls.to old between new (Ok polled.Over) typed is told polls.waits };
 }
-looks_by (Err faults.Poll) moment from mid old between new state line is told polls = record {
+looks_by (Err faults.Poll) moment from mid old between new state line typed is told polls = record {
   moment = moment;
-  polls = record { to = polls.to; waits = waits_by moment from mid polls.to old between new (Err Failed) is told polls.waits };
+  polls = record { to = polls.to; waits = waits_by moment from mid polls.to old between new (Err Failed) typed is told polls.waits };
 }
-looks_by (Err faults.Memory) moment from mid old between new state line is told (inl stops) =
-    inl (stops_later (one_call from mid old between (entry.Now (Ok moment)) refl is told) stops)
-looks_by (Err faults.Memory) moment from mid old between new state line is told (inr polls) = inr (record {
+looks_by (Err faults.Memory) moment from mid old between new state line typed is told (inl stops) =
+    inl (stops_later (one_call from mid old between (entry.Now (Ok moment)) refl typed is told) stops)
+looks_by (Err faults.Memory) moment from mid old between new state line typed is told (inr polls) = inr (record {
   moment = moment;
   polls = record {
     answer = polls.answer;
-    last = record { to = polls.last.to; waits = waits_by moment from mid polls.last.to old between new polls.answer is told polls.last.waits };
+    last = record { to = polls.last.to; waits = waits_by moment from mid polls.last.to old between new polls.answer typed is told polls.last.waits };
   };
 })
 
@@ -242,6 +253,7 @@ waits_once from to old new wait items answer is told = record {
   items = items;
   told = told;
   legal = turned_one from to (entry.Poll wait items answer) is;
+  typed = (tt, tt);
 }
 
 -- a poll that wants memory
@@ -254,4 +266,4 @@ waits_short from to old new wait items is (inl told) = inr (record {
   last = record { to = to; waits = waits_once from to old new wait items (Err Memory) is told };
 })
 waits_short from to old new wait items is (inr told) =
-    inl (stops_there (record { added = []; told = told; legal = refl; quiet = refl }))
+    inl (stops_there (record { added = []; told = told; legal = refl; typed = tt; quiet = refl }))

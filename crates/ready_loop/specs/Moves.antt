@@ -12,6 +12,7 @@ use Rattle.world_ports.specs.declared.entry.Entry.{Entry}
 use Rattle.world_ports.specs.declared.entry.Entry.TheVariants as entry
 use Rattle.agent_model.specs.State.{State}
 use Rattle.loop_model.specs.Dues.{Free}
+use Rattle.loop_model.specs.Fitting.{AreTyped}
 use Rattle.loop_model.specs.LegalJournal.{LoopState, after_entries, in_state}
 use Rattle.loop_model.specs.Lines.{Line}
 use Rattle.ready_loop.specs.declared.outcome.Turn.{Turn}
@@ -24,11 +25,13 @@ abbrev pub is_poll : Entry → Bool
 is_poll (entry.Poll wait items answer) = true
 is_poll other = false
 
--- the calls that were added may come from the first reading on, lead to the second, and none of them is a poll
+-- the calls that were added may come from the first reading on, lead to the second, have the numbers of their types, and
+-- none of them is a poll
 pub record Continues (from : LoopState) (old new : Option (List Entry)) (to : LoopState) : Type 0 where
   pub added : List Entry
   pub told : Grows old new added
   pub legal : after_entries from added ≡ Some to
+  pub typed : AreTyped added
   pub quiet : list_any is_poll added ≡ false
 
 -- the calls that were added, one at least, may come from the first reading on, lead to the second, and none is a poll
@@ -41,12 +44,14 @@ pub record Stops (from : LoopState) (old new : Option (List Entry)) : Type 0 whe
   pub to : LoopState
   pub calls : Continues from old new to
 
--- behind the calls `before` a poll with this answer was added, and these lead from the first reading to the second
+-- behind the calls `before` a poll with this answer was added, these lead from the first reading to the second, and have
+-- the numbers of their types
 pub record AddsPoll (before : List Entry) (from : LoopState) (old new : Option (List Entry)) (answer : Result Polled WorldFault) (to : LoopState) : Type 0 where
   pub wait : Option ℕ
   pub items : List Ready
   pub told : Grows old new (before ++ entry.Poll wait items answer ∷ [])
   pub legal : after_entries from (before ++ entry.Poll wait items answer ∷ []) ≡ Some to
+  pub typed : AreTyped (before ++ entry.Poll wait items answer ∷ [])
 
 -- behind the calls `before` a poll with this answer was added, which is the last call that is read
 pub record AddsLastPoll (before : List Entry) (from : LoopState) (old new : Option (List Entry)) (answer : Result Polled WorldFault) : Type 0 where

@@ -13,6 +13,7 @@ use Rattle.world_ports.specs.declared.entry.Entry.TheVariants as entry
 use Rattle.world_ports.specs.declared.events.Door.TheVariants.{Clients}
 use Rattle.agent_model.specs.State.{State, client_count}
 use Rattle.loop_model.specs.Dues.{Free}
+use Rattle.loop_model.specs.Fitting.{AreTyped}
 use Rattle.loop_model.specs.Lines.{empty_line, is_idle}
 use Rattle.loop_model.specs.LegalJournal.{LoopState, after_if_legal, in_state}
 use Rattle.ready_loop.specs.Moves.{is_poll}
@@ -74,18 +75,20 @@ ran setting stage (next ∷ later) = option_and_then (λ after. ran setting afte
 
 -- ---- how it ends
 
--- the calls that were added may come from one stage on, and lead to the other
+-- the calls that were added may come from one stage on, lead to the other, and have the numbers of their types
 pub record Runs (setting : Setting) (from : Stage) (old new : Option (List Entry)) (to : Stage) : Type 0 where
   pub added : List Entry
   pub told : Grows old new added
   pub legal : ran setting from added ≡ Some to
+  pub typed : AreTyped added
 
--- the calls that were added may come from one stage on, and the last of them is this one
+-- the same of calls the last of which is this one
 pub record RunsUpTo (setting : Setting) (from : Stage) (old new : Option (List Entry)) (last : Entry) : Type 0 where
   pub to : Stage
   pub before : List Entry
   pub told : Grows old new (before ++ last ∷ [])
   pub legal : ran setting from (before ++ last ∷ []) ≡ Some to
+  pub typed : AreTyped (before ++ last ∷ [])
 
 -- a poll was the last call, with this answer
 pub record RunsUpToPoll (setting : Setting) (from : Stage) (old new : Option (List Entry)) (answer : Result Polled WorldFault) : Type 0 where

@@ -5,7 +5,9 @@ ghost use Rattle.agent_model.specs.Events.{Ended, Heard, Took};
 ghost use Rattle.agent_model.specs.State.{Fits, starts};
 ghost use Rattle.loop_model.specs.Dues.{Free, NowFor};
 ghost use Rattle.loop_model.specs.Fairness.{GoesRound, KeepsOrder};
+ghost use Rattle.loop_model.specs.Fitting.{IsTicket};
 ghost use Rattle.loop_model.specs.LegalJournal.{in_state, is_first_job};
+ghost use Rattle.wire_text.specs.Wire.{IsBytes};
 ghost use Rattle.world_ports.specs.Worlds.{read_room};
 ghost use Rattle.loop_model.specs.declared.thing.Thing.TheVariants.{Accept, Read, Write};
 ghost use Rattle.loop_model.specs.Lines.{in_hand};
@@ -78,6 +80,7 @@ fn hear<A: Core, W: World>(
         (NowFor (Heard port piece.now)))
         (W.journal world.old) (W.journal world.new) (in_state (A.state agent.new) queue.new Free) }
     ensures round { OnOk result (GoesRound (Read port) queue.old.queue queue.new.queue) }
+    ensures bytes { IsBytes piece.now }
     ensures gone { HasGone result (A.state agent.new) (W.last_port world.new) (W.greatest world.new)
         (W.faults world.old) (W.faults world.new) (W.leads world.old world.new) }
 {
@@ -199,6 +202,20 @@ pub fn write<A: Core, W: World>(
     }
 }
 
+// Tells proofs what a ticket has by its type: 16 bytes.
+#[inline(always)]
+fn is_ticket(ticket: &[u8; 16])
+    ensures { IsTicket ticket.now }
+{
+    are_bytes(ticket);
+}
+
+// Tells proofs what bytes are by their type: numbers below 256.
+#[inline(always)]
+fn are_bytes(bytes: &[u8])
+    ensures { IsBytes bytes.now }
+{}
+
 // Starts a child process.
 pub fn start<A: Core, W: World>(
     queue: &mut Queue,
@@ -217,15 +234,18 @@ pub fn start<A: Core, W: World>(
 {
     let number = job.number;
     match world.start(job) {
-        Ok(ticket) => happen(
-            queue,
-            agent,
-            world,
-            &Event::Started {
-                job: number,
-                ticket,
-            },
-        ),
+        Ok(ticket) => {
+            is_ticket(&ticket);
+            happen(
+                queue,
+                agent,
+                world,
+                &Event::Started {
+                    job: number,
+                    ticket,
+                },
+            )
+        }
         Err(WorldFault::Failed) => happen(queue, agent, world, &Event::StartFailed { job: number }),
         Err(WorldFault::Memory) => Err(AllocError),
     }

@@ -16,13 +16,13 @@ use Rattle.record_world.specs.Frames.{rest_bytes}
 use Rattle.record_world.specs.Recording.{Left as Told, Port as Kept, Taken, find_port as find_kept, heard as kept_heard, held, longest_piece, number_of as kept_number, taken, taken_by}
 use Rattle.agent_model.specs.Events.{Happening, Joined, Heard, Ended, Took, Started, StartFailed, Tick}
 use Rattle.agent_model.specs.Looks.{due, due_front}
-use Rattle.agent_model.specs.Runs.{IsInRange}
 use Rattle.agent_model.specs.Sound.{IsSound}
 use Rattle.agent_model.specs.State.{Fits, Nothing, OnAsk, OnConfirmation, Port, State, Waits, find_port}
 use Rattle.agent_model.specs.Step.{handle, heard_at, step}
 use Rattle.agent_model.specs.Time.{at_moment}
 use Rattle.agent_model.proofs.RunLemmas.{at_moment-twice, step-last_port}
 use Rattle.agent_secrecy.specs.Hiding.{Seen}
+use Rattle.agent_secrecy.specs.Pieces.{IsOfBytes}
 use Rattle.agent_secrecy.proofs.TrackLemmas.{was_open}
 use Rattle.replay_laws.specs.Lines.{events_of, lines_of}
 use Rattle.replay_laws.specs.Naming.{IsFrontOf, Keeps, name_in}
@@ -358,20 +358,20 @@ module _ (all : List (List ℕ)) (few : length all < 2 ^ 64) (renaming : IsRenam
 
   -- ---- any event
 
-  pub event_comes : (event : Happening) → Fits event state → IsInRange event → IsRead event
+  pub event_comes : (event : Happening) → Fits event state → IsOfBytes event → IsRead event
       → IsFrontOf (lines_of event replay.last_port replay.recording).kept.passphrases all
       → C event (lines_of event replay.last_port replay.recording)
-  event_comes (Joined door) fits range read grown =
+  event_comes (Joined door) fits bytes read grown =
       base.joined_comes all few renaming moment state replay follow door fits
-  event_comes (Heard number piece) fits range read grown =
-      heard_by (find_port number here.ports) number piece refl fits range.1 read grown
-  event_comes (Ended number) fits range read grown =
+  event_comes (Heard number piece) fits bytes read grown =
+      heard_by (find_port number here.ports) number piece refl fits bytes read grown
+  event_comes (Ended number) fits bytes read grown =
       base.ended_comes all few renaming moment state replay follow number fits
-  event_comes (Took number count) fits range read grown =
+  event_comes (Took number count) fits bytes read grown =
       base.took_comes all few renaming moment state replay follow (find_port number here.ports) number count refl fits
-  event_comes (Started job ticket) fits range read grown =
+  event_comes (Started job ticket) fits bytes read grown =
       base.started_comes all few renaming moment state replay follow job ticket fits
-  event_comes (StartFailed job) fits range read grown =
+  event_comes (StartFailed job) fits bytes read grown =
       base.failed_comes all few renaming moment state replay follow job fits
-  event_comes Tick fits range read grown =
+  event_comes Tick fits bytes read grown =
       base.tick_comes all few renaming moment state replay follow

@@ -6,11 +6,12 @@ use Rattle.wire_text.specs.Bounds.{longest_body}
 use Rattle.wire_text.specs.Frames.{split}
 use Rattle.record_world.specs.Recording.{Port as Kept, Recording, client_taken, find_port as find_kept, heard as kept_heard, taken_by}
 use Rattle.agent_model.specs.Events.{Happening, Timed, Joined, Heard, Ended, Took, Started, StartFailed, Tick}
-use Rattle.agent_model.specs.Runs.{AllFit, AreInRange}
+use Rattle.agent_model.specs.Runs.{AllFit}
 use Rattle.agent_model.specs.State.{Settings, State, first_state}
 use Rattle.agent_model.specs.Step.{step}
 use Rattle.agent_model.specs.Time.{GiveTime}
 use Rattle.agent_model.proofs.RunLemmas.{first_is_sound}
+use Rattle.agent_secrecy.specs.Pieces.{AreOfBytes}
 use Rattle.replay_laws.specs.Lines.{lines_of}
 use Rattle.replay_laws.specs.Naming.{IsFrontOf, name_in}
 use Rattle.replay_laws.specs.Redacting.{IsRenaming}
@@ -64,15 +65,15 @@ recording_grows replay (timed ∷ later) =
 
 module _ (all : List (List ℕ)) (few : length all < 2 ^ 64) (renaming : IsRenaming (name_in all)) where
   run_replays : (events : List Timed) (state : State) (replay : Replay) → Follow all state replay
-      → AllFit state events → AreInRange events → AreRead events → (recording_of replay events).passphrases ≡ all
+      → AllFit state events → AreOfBytes events → AreRead events → (recording_of replay events).passphrases ≡ all
       → Replays state replay events
-  run_replays [] state replay follow fit range read is = tt
-  run_replays (timed ∷ later) state replay follow fit range read is =
+  run_replays [] state replay follow fit bytes read is = tt
+  run_replays (timed ∷ later) state replay follow fit bytes read is =
       let grown =
       subst (IsFrontOf (told_of timed replay).kept.passphrases) is (recording_grows (replayed timed replay) later) in
       let comes =
-      event_comes all few renaming timed.moment state replay follow timed.event fit.0 range.0.event read.0 grown in
-      (comes.fit, comes.looks, run_replays later (step state timed.moment timed.event).state (replayed timed replay) comes.follows fit.1 range.1 read.1 is)
+      event_comes all few renaming timed.moment state replay follow timed.event fit.0 bytes.0 read.0 grown in
+      (comes.fit, comes.looks, run_replays later (step state timed.moment timed.event).state (replayed timed replay) comes.follows fit.1 bytes.1 read.1 is)
 
   -- nothing came yet
   first_follow : (settings : Settings) → GiveTime settings.limits
@@ -98,4 +99,4 @@ each_replays settings events recorded =
     let all = (recording_of (first_replay settings) events).passphrases in
     let renaming = names_rename all recorded.passphrases in
     run_replays all recorded.passphrases renaming events (first_state settings) (first_replay settings)
-    (first_follow all recorded.passphrases renaming settings recorded.limits) recorded.fit recorded.range recorded.read refl
+    (first_follow all recorded.passphrases renaming settings recorded.limits) recorded.fit recorded.bytes recorded.read refl

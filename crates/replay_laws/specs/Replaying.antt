@@ -4,10 +4,11 @@ use Rattle.std.specs.Prelude.{◌≡◌, ◌^◌, ◌<◌, ◌≤◌, ℕ, Bool,
 use Rattle.world_ports.specs.declared.Door.TheVariants.{Clients}
 use Rattle.world_ports.specs.declared.Moment.{Moment}
 use Rattle.agent_model.specs.Events.{Happening, Timed, Joined, Heard, Ended, Took, Started, StartFailed, Tick}
-use Rattle.agent_model.specs.Runs.{AllFit, AreInRange, last_after}
+use Rattle.agent_model.specs.Runs.{AllFit, last_after}
 use Rattle.agent_model.specs.State.{Fits, Port, Settings, State, find_port, first_state, numbers, owed_of, starts}
 use Rattle.agent_model.specs.Step.{step}
 use Rattle.agent_model.specs.Time.{GiveTime}
+use Rattle.agent_secrecy.specs.Pieces.{AreOfBytes}
 use Rattle.record_world.specs.Recording.{Left, Recording, first_recording, longest_piece}
 use Rattle.replay_laws.specs.Lines.{events_of, lines_of}
 use Rattle.replay_laws.specs.Ticks.{is_at_one, ticked}
@@ -108,12 +109,11 @@ abbrev pub AreRead : List Timed → Type 0
 AreRead [] = Unit {0}
 AreRead (timed ∷ later) = IsRead timed.event × AreRead later
 
--- what a run that is recorded has: each event may come, its numbers are those of its types, a read
--- brings as much as it has room for, the passphrases are counted by 64 bits, and limits that are set
--- give a second at least
+-- what a run that is recorded has: each event may come, a read brings bytes, and as many as it has
+-- room for, the passphrases are counted by 64 bits, and limits that are set give a second at least
 pub record IsRecorded (settings : Settings) (events : List Timed) : Type 0 where
   pub fit : AllFit (first_state settings) events
-  pub range : AreInRange events
+  pub bytes : AreOfBytes events
   pub read : AreRead events
   pub passphrases : length (recording_of (first_replay settings) events).passphrases < 2 ^ 64
   pub limits : GiveTime settings.limits

@@ -8,7 +8,8 @@ ghost use Rattle.agent_model.specs.Rows.{done, failed, listed as list_of_one, no
 ghost use Rattle.agent_model.specs.State.{first_state, no_settings};
 ghost use Rattle.agent_model.specs.TimeRows.{limited};
 ghost use Rattle.replay_laws.specs.Replaying.{AreRead, IsRecorded, first_replay, recording_of};
-ghost use Rattle.agent_model.specs.Runs.{AllFit, AreInRange};
+ghost use Rattle.agent_model.specs.Runs.{AllFit};
+ghost use Rattle.agent_secrecy.specs.Pieces.{AreOfBytes};
 ghost use Rattle.replay_laws.specs.Rows.{all_at_5, asked, carded, late, listed, locked, refused};
 ghost use Rattle.replay_laws.specs.Rows.{seen, seen_again, told, unlocked};
 
@@ -55,7 +56,7 @@ pub fn a_list_is_recorded()
 /// what the law asks for.
 pub fn a_late_port_is_passed_over()
     ensures fit { AllFit (first_state limited) late }
-    ensures range { AreInRange late }
+    ensures bytes { AreOfBytes late }
     ensures read { AreRead late }
     ensures passphrases { length (recording_of (first_replay limited) late).passphrases < 2 ^ 64 }
     ensures seen { seen limited late ≡ (1 ∷ []) ∷ failed ∷ [] }

@@ -16,3 +16,7 @@ pub mod TallyLemmas
 pub mod DrillLemmas
 pub mod KeptLemmas
 pub mod DrillFitLemmas
+pub mod HearLemmas
+pub mod PieceLemmas
+pub mod DrawLemmas
+pub mod DrillPieceLemmas

@@ -1,5 +1,6 @@
 use Rattle.std.proofs.Common.{ap, arith, subst, sym, true, ◌∙◌, ◌≤◌, Bool, Some}
 use Rattle.agent_top.specs.ServeProgram.{ServesExactly}
+use Rattle.agent_top.specs.declared.status.Status.TheVariants.{Memory}
 use Rattle.agent_model.specs.State.{State, first_state}
 use Rattle.loop_model.specs.Orderly.{IsOrderly}
 use Rattle.loop_model.proofs.OwedLemmas.{orderly_first}
@@ -7,7 +8,7 @@ use Rattle.agent_model.specs.Actions.{Stepped}
 use Rattle.agent_top.proofs.RecordLemmas.{unwritten}
 use Rattle.agent_top.proofs.ServeFairLemmas.{serves_fairly}
 use Rattle.agent_top.proofs.ServeLawLemmas.{serves_lawfully}
-use Rattle.agent_top.proofs.ServeLemmas.{serves_by, serves_words}
+use Rattle.agent_top.proofs.ServeLemmas.{added-typed, no_call, serves_by, serves_words}
 use Rattle.agent_top.proofs.serving.serve_by.Goals as goal
 
 pub serve-requires-clause-orderly : goal.serve-requires-clause-orderly
@@ -28,10 +29,13 @@ returns-clause-serves g c setting is =
     (rw c.status_of_serving.ensures (serves_by _ c.serve.result _ _ _ c.serve.ensures.serves))
 
 pub returns-clause-serves_lawfully : goal.returns-clause-serves_lawfully
-returns-clause-serves_lawfully g c setting is = serves_lawfully _ setting _ _ is.state
+returns-clause-serves_lawfully g c setting is =
+    serves_lawfully _ setting _ _ (added-typed _ setting _ _ _ (returns-clause-serves g c setting is)) is.state
 
 pub returns-in-Err-Memory-clause-serves_lawfully : goal.returns-in-Err-Memory-clause-serves_lawfully
-returns-in-Err-Memory-clause-serves_lawfully g c setting is = serves_lawfully _ setting _ _ is.state
+returns-in-Err-Memory-clause-serves_lawfully g c setting is =
+    let journal = g.W.World.journal c.args.world.now in
+    serves_lawfully _ setting journal journal (added-typed true setting Memory journal journal (no_call setting journal)) is.state
 
 pub returns-clause-serves_fairly : goal.returns-clause-serves_fairly
 returns-clause-serves_fairly g c setting is = serves_fairly setting _ _
@@ -49,7 +53,8 @@ returns-then-served-clause-serves g c setting is =
     (ap (λ (seen : Stepped). seen.state) c.new-agent.ensures ∙ ap first_state c.served_settings-settings.ensures) c.serve_recorded.ensures.serves)
 
 pub returns-then-served-clause-serves_lawfully : goal.returns-then-served-clause-serves_lawfully
-returns-then-served-clause-serves_lawfully g c setting is = serves_lawfully _ setting _ _ is.state
+returns-then-served-clause-serves_lawfully g c setting is =
+    serves_lawfully _ setting _ _ (added-typed _ setting _ _ _ (returns-then-served-clause-serves g c setting is)) is.state
 
 pub returns-then-served-clause-serves_fairly : goal.returns-then-served-clause-serves_fairly
 returns-then-served-clause-serves_fairly g c setting is = serves_fairly setting _ _

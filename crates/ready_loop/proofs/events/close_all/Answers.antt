@@ -21,7 +21,7 @@ returns-in_default-clause-legal g c =
     record {
       by = stops_later before
           (stops_short (in_state state line (Closing port later)) (after_entry (in_state state line (Closing port later)) next)
-          (g.W.World.journal c.ports.world) (g.W.World.journal c.close.new.self) (is_err c.close.result) next refl
+          (g.W.World.journal c.ports.world) (g.W.World.journal c.close.new.self) (is_err c.close.result) next refl tt
           (close-any state line port later c.close.result) c.close.ensures.told);
     }
 
@@ -38,7 +38,7 @@ ports-preserved g c =
     (ap (λ (d : Due). in_state state line d) due) c.ports.invariant.calls in
     record {
       calls = goes_on before (one_call (in_state state line (Closing port later)) (in_state state line (due_of later))
-          (g.W.World.journal c.ports.world) (g.W.World.journal c.close.new.self) next refl
+          (g.W.World.journal c.ports.world) (g.W.World.journal c.close.new.self) next refl tt
           (close-taken state line port later) c.in-Ok.ensures.told);
       ports = c.close.ensures.ports ∙ c.ports.invariant.ports;
       second = c.close.ensures.moment ∙ c.ports.invariant.second;

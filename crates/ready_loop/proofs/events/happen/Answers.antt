@@ -1,10 +1,11 @@
-use Rattle.std.proofs.Common.{refl, Ok, Result, Some, ap, sym, ◌∙◌, arith, rules}
+use Rattle.std.proofs.Common.{refl, Ok, Result, Some, ap, subst, sym, ◌∙◌, arith, rules}
 use Rattle.std.specs.declared.alloc.AllocError.{AllocError}
 use Rattle.world_ports.specs.declared.events.Moment.{Moment}
-use Rattle.std.specs.Prelude.{is_err}
+use Rattle.std.specs.Prelude.{IfOk, is_err}
 use Rattle.world_ports.specs.declared.entry.Entry.TheVariants as entry
 use Rattle.loop_model.specs.Dues.{NowFor, due_of}
 use Rattle.agent_core.specs.Happenings.{happening}
+use Rattle.loop_model.specs.Fitting.{IsMoment}
 use Rattle.loop_model.specs.LegalJournal.{after_entry, in_state}
 use Rattle.loop_model.specs.Lines.{Line}
 use Rattle.ready_loop.proofs.TellLemmas.{last-stepped}
@@ -24,6 +25,7 @@ returns-in_default-clause-legal g c =
       by = stops_short (in_state state line (NowFor event))
           (after_entry (in_state state line (NowFor event)) next)
           (g.W.World.journal c.args.world.now) (g.W.World.journal c.now.new.self) (is_err c.now.result) next refl
+          (subst (λ (r : Result Moment AllocError). IfOk r IsMoment) (sym c.in_default.is) tt)
           (now-any state line event c.now.result) c.now.ensures.told;
     }
 
@@ -37,7 +39,7 @@ returns-in_default-tell-clause-legal g c =
     record {
       by = stops_there (one_call (in_state state line (NowFor event))
           (after_entry (in_state state line (NowFor event)) next)
-          (g.W.World.journal c.args.world.now) (g.W.World.journal c.now.new.self) next refl
+          (g.W.World.journal c.args.world.now) (g.W.World.journal c.now.new.self) next refl (record { mono = omega arith; wall = omega arith })
           (now-any state line event answer) c.in-Ok.ensures.told);
     }
 
@@ -46,7 +48,7 @@ returns-clause-legal g c =
     let state = g.A.Core.state c.args.agent.now in
     let after = g.A.Core.state c.tell.new.agent in
     let closes = g.A.Core.closes c.tell.new.agent in
-    goes_then (entry.Now (Ok c.in-Ok.moment)) refl
+    goes_then (entry.Now (Ok c.in-Ok.moment)) refl (record { mono = omega arith; wall = omega arith })
     (now-taken state after closes c.args.queue.now (happening c.args.event.now) c.in-Ok.moment c.in-Ok-tell.ensures.stepped c.in-Ok-tell.ensures.closed
     ∙ ap (λ (line : Line). Some (in_state after line (due_of closes))) (sym c.in-Ok-tell.ensures.after))
     c.in-Ok.ensures.told c.close_all.ensures.legal

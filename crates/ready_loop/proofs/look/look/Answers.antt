@@ -1,10 +1,11 @@
-use Rattle.std.proofs.Common.{refl, inl, ◌≡◌, ◌∙◌, Ok, Result, Some, List, ℕ, true, false, length, [], ◌==◌, ap, sym, arith, rules}
+use Rattle.std.proofs.Common.{refl, inl, ◌≡◌, ◌∙◌, Ok, Result, Some, List, ℕ, true, false, length, [], ◌==◌, ap, subst, sym, arith, rules}
 use Rattle.std.specs.declared.alloc.AllocError.{AllocError}
 use Rattle.world_ports.specs.declared.events.Moment.{Moment}
-use Rattle.std.specs.Prelude.{is_err}
+use Rattle.std.specs.Prelude.{IfOk, is_err}
 use Rattle.world_ports.specs.declared.entry.Entry.TheVariants as entry
 use Rattle.loop_model.specs.Dues.{Due, Free, Polling, due_look, due_of}
 use Rattle.loop_model.specs.Lines.{is_idle}
+use Rattle.loop_model.specs.Fitting.{IsMoment}
 use Rattle.loop_model.specs.LegalJournal.{after_entry, in_state}
 use Rattle.ready_loop.proofs.CallLemmas.{look-any, look-closes, look-none, looked-at}
 use Rattle.agent_model.specs.Events.{Tick}
@@ -21,6 +22,7 @@ returns-in_default-clause-legal g c =
     let next = entry.Now c.now.result in
     inl (stops_short (in_state state line Free) (after_entry (in_state state line Free) next)
     (g.W.World.journal c.args.world.now) (g.W.World.journal c.now.new.self) (is_err c.now.result) next refl
+    (subst (λ (r : Result Moment AllocError). IfOk r IsMoment) (sym c.in_default.is) tt)
     (look-any state line c.now.result c.requires.idle) c.now.ensures.told)
 
 pub returns-in_default-tell-clause-legal : goal.returns-in_default-tell-clause-legal
@@ -30,7 +32,7 @@ returns-in_default-tell-clause-legal g c =
     let answer : Result Moment AllocError = Ok c.in-Ok.moment in
     let next = entry.Now answer in
     inl (stops_there (one_call (in_state state line Free) (after_entry (in_state state line Free) next)
-    (g.W.World.journal c.args.world.now) (g.W.World.journal c.now.new.self) next refl
+    (g.W.World.journal c.args.world.now) (g.W.World.journal c.now.new.self) next refl (record { mono = omega arith; wall = omega arith })
     (look-any state line answer c.requires.idle) c.in-Ok.ensures.told))
 
 pub returns-in_default-close_all-clause-legal : goal.returns-in_default-close_all-clause-legal
@@ -43,7 +45,7 @@ returns-in_default-close_all-clause-legal g c =
     let some : (length closes == 0) ≡ false =
     ap (λ (ps : List ℕ). length ps == 0) (sym c.closes.ensures) ∙ sym c.is_empty.ensures ∙ full in
     inl (stops_later (one_call (in_state state c.args.queue.now Free) (in_state after line (due_of closes))
-    (g.W.World.journal c.args.world.now) (g.W.World.journal c.now.new.self) (entry.Now (Ok c.in-Ok.moment)) refl
+    (g.W.World.journal c.args.world.now) (g.W.World.journal c.now.new.self) (entry.Now (Ok c.in-Ok.moment)) refl (record { mono = omega arith; wall = omega arith })
     (looked-at state after closes c.args.queue.now line c.in-Ok.moment c.requires.idle c.in-Ok-tell.ensures.stepped c.in-Ok-tell.ensures.closed c.in-Ok-tell.ensures.after
     ∙ ap (λ (d : Due). Some (in_state after line d)) (look-closes closes (is_idle after line) some))
     c.in-Ok.ensures.told) (goes_stops c.close_all.ensures.legal))
@@ -57,7 +59,7 @@ returns-then-not-is_empty-clause-legal g c =
     let full : c.is_empty.result ≡ false = grind arith in
     let some : (length closes == 0) ≡ false =
     ap (λ (ps : List ℕ). length ps == 0) (sym c.closes.ensures) ∙ sym c.is_empty.ensures ∙ full in
-    advances (entry.Now (Ok c.in-Ok.moment)) refl
+    advances (entry.Now (Ok c.in-Ok.moment)) refl (record { mono = omega arith; wall = omega arith })
     (looked-at state after closes c.args.queue.now line c.in-Ok.moment c.requires.idle c.in-Ok-tell.ensures.stepped c.in-Ok-tell.ensures.closed c.in-Ok-tell.ensures.after
     ∙ ap (λ (d : Due). Some (in_state after line d)) (look-closes closes (is_idle after line) some))
     c.in-Ok.ensures.told c.in-Ok-close_all.ensures.legal.by
@@ -73,7 +75,7 @@ returns-then-not-is_idle-clause-legal g c =
     let none : (length closes == 0) ≡ true =
     ap (λ (ps : List ℕ). length ps == 0) (sym c.closes.ensures) ∙ sym c.is_empty.ensures ∙ bare in
     advances_once (in_state state c.args.queue.now Free) (in_state after line Free)
-    (g.W.World.journal c.args.world.now) (g.W.World.journal c.now.new.self) (entry.Now (Ok c.in-Ok.moment)) refl
+    (g.W.World.journal c.args.world.now) (g.W.World.journal c.now.new.self) (entry.Now (Ok c.in-Ok.moment)) refl (record { mono = omega arith; wall = omega arith })
     (looked-at state after closes c.args.queue.now line c.in-Ok.moment c.requires.idle c.in-Ok-tell.ensures.stepped c.in-Ok-tell.ensures.closed c.in-Ok-tell.ensures.after
     ∙ ap (λ (d : Due). Some (in_state after line d))
     (look-none closes (is_idle after line) none ∙ ap (due_look []) (sym c.is_idle.ensures ∙ busy)))
@@ -91,7 +93,7 @@ returns-clause-legal g c =
     ap (λ (ps : List ℕ). length ps == 0) (sym c.closes.ensures) ∙ sym c.is_empty.ensures ∙ bare in
     looks_by c.poll.result c.in-Ok.moment (in_state state c.args.queue.now Free) (in_state after line Polling)
     (g.W.World.journal c.args.world.now) (g.W.World.journal c.now.new.self) (g.W.World.journal c.poll.new.world)
-    after c.poll.new.queue
+    after c.poll.new.queue (record { mono = omega arith; wall = omega arith })
     (looked-at state after closes c.args.queue.now line c.in-Ok.moment c.requires.idle c.in-Ok-tell.ensures.stepped c.in-Ok-tell.ensures.closed c.in-Ok-tell.ensures.after
     ∙ ap (λ (d : Due). Some (in_state after line d))
     (look-none closes (is_idle after line) none ∙ ap (due_look []) (sym c.is_idle.ensures ∙ idle)))

@@ -36,7 +36,7 @@ returns-in_default-clause-legal g c =
     let next = entry.Accept c.args.door answer in
     record {
       by = stops_there (one_call (in_state state line Free) (after_entry (in_state state line Free) next)
-          (g.W.World.journal c.args.world.now) (g.W.World.journal c.accept.new.self) next refl
+          (g.W.World.journal c.args.world.now) (g.W.World.journal c.accept.new.self) next refl tt
           (calls.accept-any state line c.args.door answer c.requires.jobs c.requires.next)
           (told_at (λ r. entry.Accept c.args.door r) (g.W.World.journal c.args.world.now) (g.W.World.journal c.accept.new.self)
           (c.in-Ok-Port.is ∙ ap Ok c.in-Ok-Port.field-0-is) c.accept.ensures.told));
@@ -63,7 +63,7 @@ happen-requires-clause-cold g c =
 pub returns-in-Ok-clause-legal : goal.returns-in-Ok-clause-legal
 returns-in-Ok-clause-legal g c =
     let state = g.A.Core.state c.args.agent.now in
-    serves_then (entry.Accept c.args.door (Ok (accepted.Port c.in-Ok-Port.number))) refl
+    serves_then (entry.Accept c.args.door (Ok (accepted.Port c.in-Ok-Port.number))) refl tt
     (calls.accept-any (g.A.Core.state c.args.agent.now) c.args.queue.now c.args.door (Ok (accepted.Port c.in-Ok-Port.number)) c.requires.jobs c.requires.next
     ∙ ap (λ (l : Line). Some (in_state state l (NowFor (Joined c.args.door))))
     (sym (c.in-Ok.ensures ∙ ap (joined_line state c.args.door c.in-Ok-Port.number) c.take.ensures)))
@@ -86,14 +86,14 @@ returns-in-Ok-clause-round g c =
 
 pub returns-in-Ok-NotNow-clause-legal : goal.returns-in-Ok-NotNow-clause-legal
 returns-in-Ok-NotNow-clause-legal g c =
-    calls.serves_dropped (Accept c.args.door) _ refl
+    calls.serves_dropped (Accept c.args.door) _ refl tt
     (calls.accept-any (g.A.Core.state c.args.agent.now) c.args.queue.now c.args.door (Ok accepted.NotNow) c.requires.jobs c.requires.next)
     c.take-in-Ok-NotNow.ensures
     (told_at (λ r. entry.Accept c.args.door r) _ _ (c.in-Ok-NotNow.is ∙ ap Ok c.in-Ok-NotNow.field-0-is) c.accept.ensures.told)
 
 pub returns-in-Err-Failed-clause-legal : goal.returns-in-Err-Failed-clause-legal
 returns-in-Err-Failed-clause-legal g c =
-    calls.serves_dropped (Accept c.args.door) _ refl
+    calls.serves_dropped (Accept c.args.door) _ refl tt
     (calls.accept-any (g.A.Core.state c.args.agent.now) c.args.queue.now c.args.door (Err Failed) c.requires.jobs c.requires.next)
     c.take-in-Err-Failed.ensures
     (told_at (λ r. entry.Accept c.args.door r) _ _ (c.in-Err-Failed.is ∙ ap Err c.in-Err-Failed.field-0-is) c.accept.ensures.told)
@@ -118,6 +118,6 @@ take-requires-in-Err-Failed g c =
 
 pub returns-in-Err-Memory-clause-legal : goal.returns-in-Err-Memory-clause-legal
 returns-in-Err-Memory-clause-legal g c =
-    calls.serves_short _ refl
+    calls.serves_short _ refl tt
     (calls.accept-any (g.A.Core.state c.args.agent.now) c.args.queue.now c.args.door (Err Memory) c.requires.jobs c.requires.next)
     (told_at (λ r. entry.Accept c.args.door r) _ _ (c.in-Err-Memory.is ∙ ap Err c.in-Err-Memory.field-0-is) c.accept.ensures.told)

@@ -10,7 +10,7 @@ use Rattle.world_ports.specs.declared.entry.Entry.TheVariants as entry
 use Rattle.loop_model.specs.declared.thing.Thing.TheVariants.{Read}
 use Rattle.ready_loop.proofs.CallLemmas as calls
 use Rattle.ready_loop.proofs.TurningLemmas.{serves_then, told_at}
-use Rattle.ready_loop.proofs.RoomLemmas.{wiped_again}
+use Rattle.ready_loop.proofs.RoomLemmas.{no_bytes, wiped_again}
 use Rattle.ready_loop.proofs.HandingLemmas.{front-next, read-at}
 use Rattle.ready_loop.proofs.RoundingLemmas.{rounds-none}
 use Rattle.ready_loop.proofs.turn.read.Goals as goal
@@ -36,6 +36,7 @@ returns-in-Ok-Bytes-clause-legal g c =
     let answer = Ok (got.Bytes c.in-Ok-Bytes.n) in
     let bytes = take c.in-Ok-Bytes.n c.read.new.room in
     serves_then (entry.Read c.args.port (length c.args.room.now) bytes answer) refl
+    (omega arith, c.hear-heard.ensures.bytes)
     (calls.read-any (g.A.Core.state c.args.agent.now) c.args.queue.now c.args.port (length c.args.room.now) bytes answer c.requires.jobs c.requires.next c.requires.room
     (calls.read-within (length c.args.room.now) c.in-Ok-Bytes.n bytes (omega (arith, length-take c.in-Ok-Bytes.n c.read.new.room, within.1)) within))
     (told_at (λ r. entry.Read c.args.port (length c.args.room.now) (got_of r c.read.new.room) r) _ _
@@ -51,7 +52,7 @@ returns-in-Ok-Bytes-clause-zero g c =
 pub returns-in-Ok-End-clause-legal : goal.returns-in-Ok-End-clause-legal
 returns-in-Ok-End-clause-legal g c =
     let answer = Ok got.End in
-    serves_then (entry.Read c.args.port (length c.args.room.now) [] answer) refl
+    serves_then (entry.Read c.args.port (length c.args.room.now) [] answer) refl (omega arith, no_bytes)
     (calls.read-any (g.A.Core.state c.args.agent.now) c.args.queue.now c.args.port (length c.args.room.now) [] answer c.requires.jobs c.requires.next c.requires.room refl)
     (told_at (λ r. entry.Read c.args.port (length c.args.room.now) (got_of r c.read.new.room) r) _ _
     (c.in-Ok-End.is ∙ ap Ok c.in-Ok-End.field-0-is) c.read.ensures.told)
@@ -59,7 +60,7 @@ returns-in-Ok-End-clause-legal g c =
 
 pub returns-in-Ok-NotNow-clause-legal : goal.returns-in-Ok-NotNow-clause-legal
 returns-in-Ok-NotNow-clause-legal g c =
-    calls.serves_dropped (Read c.args.port) _ refl
+    calls.serves_dropped (Read c.args.port) _ refl (omega arith, no_bytes)
     (calls.read-any (g.A.Core.state c.args.agent.now) c.args.queue.now c.args.port (length c.args.room.now) [] (Ok got.NotNow) c.requires.jobs c.requires.next c.requires.room refl)
     c.take.ensures
     (told_at (λ r. entry.Read c.args.port (length c.args.room.now) (got_of r c.read.new.room) r) _ _ (c.in-Ok-NotNow.is ∙ ap Ok c.in-Ok-NotNow.field-0-is) c.read.ensures.told)
@@ -82,7 +83,7 @@ end-requires-in-Err-Failed-clause-at g c = read-at c.args.port
 pub returns-in-Err-Failed-clause-legal : goal.returns-in-Err-Failed-clause-legal
 returns-in-Err-Failed-clause-legal g c =
     let answer : Result Got WorldFault = Err Failed in
-    serves_then (entry.Read c.args.port (length c.args.room.now) [] answer) refl
+    serves_then (entry.Read c.args.port (length c.args.room.now) [] answer) refl (omega arith, no_bytes)
     (calls.read-any (g.A.Core.state c.args.agent.now) c.args.queue.now c.args.port (length c.args.room.now) [] answer c.requires.jobs c.requires.next c.requires.room refl)
     (told_at (λ r. entry.Read c.args.port (length c.args.room.now) (got_of r c.read.new.room) r) _ _
     (c.in-Err-Failed.is ∙ ap Err c.in-Err-Failed.field-0-is) c.read.ensures.told)
@@ -90,6 +91,6 @@ returns-in-Err-Failed-clause-legal g c =
 
 pub returns-in-Err-Memory-clause-legal : goal.returns-in-Err-Memory-clause-legal
 returns-in-Err-Memory-clause-legal g c =
-    calls.serves_short _ refl
+    calls.serves_short _ refl (omega arith, no_bytes)
     (calls.read-any (g.A.Core.state c.args.agent.now) c.args.queue.now c.args.port (length c.args.room.now) [] (Err Memory) c.requires.jobs c.requires.next c.requires.room refl)
     (told_at (λ r. entry.Read c.args.port (length c.args.room.now) (got_of r c.read.new.room) r) _ _ (c.in-Err-Memory.is ∙ ap Err c.in-Err-Memory.field-0-is) c.read.ensures.told)

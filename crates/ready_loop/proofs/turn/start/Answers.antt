@@ -1,4 +1,4 @@
-use Rattle.std.proofs.Common.{refl, None, Ok, Err, Result, List, ℕ, ap, ◌∙◌}
+use Rattle.std.proofs.Common.{refl, None, Ok, Err, Result, List, ℕ, ap, ◌∙◌, arith}
 use Rattle.world_ports.specs.declared.answers.WorldFault.{WorldFault}
 use Rattle.world_ports.specs.declared.answers.WorldFault.TheVariants.{Failed, Memory}
 use Rattle.world_ports.specs.declared.entry.Entry.TheVariants as entry
@@ -12,13 +12,14 @@ pub returns-in-Ok-clause-legal : goal.returns-in-Ok-clause-legal
 returns-in-Ok-clause-legal g c =
     let answer : Result (List ℕ) WorldFault = Ok c.in-Ok.ticket in
     serves_then (entry.Start c.args.job answer) refl
+    (omega arith, c.is_ticket.ensures)
     (calls.start-any (g.A.Core.state c.args.agent.now) c.args.queue.now c.args.job answer c.requires.first)
     c.in-Ok.ensures.told c.happen.ensures.legal
 
 pub returns-in-Err-Failed-clause-legal : goal.returns-in-Err-Failed-clause-legal
 returns-in-Err-Failed-clause-legal g c =
     let answer : Result (List ℕ) WorldFault = Err Failed in
-    serves_then (entry.Start c.args.job answer) refl
+    serves_then (entry.Start c.args.job answer) refl (omega arith, tt)
     (calls.start-any (g.A.Core.state c.args.agent.now) c.args.queue.now c.args.job answer c.requires.first)
     (told_at (λ r. entry.Start c.args.job r) _ _
     (c.in-Err-Failed.is ∙ ap Err c.in-Err-Failed.field-0-is) c.start.ensures.told)
@@ -26,7 +27,7 @@ returns-in-Err-Failed-clause-legal g c =
 
 pub returns-in-Err-Memory-clause-legal : goal.returns-in-Err-Memory-clause-legal
 returns-in-Err-Memory-clause-legal g c =
-    calls.serves_short _ refl
+    calls.serves_short _ refl (omega arith, tt)
     (calls.start-any (g.A.Core.state c.args.agent.now) c.args.queue.now c.args.job (Err Memory) c.requires.first)
     (told_at (λ r. entry.Start c.args.job r) _ _ (c.in-Err-Memory.is ∙ ap Err c.in-Err-Memory.field-0-is) c.start.ensures.told)
 

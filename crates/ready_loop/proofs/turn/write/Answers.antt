@@ -1,4 +1,4 @@
-use Rattle.std.proofs.Common.{Ok, Err, Result, ap, length, subst, ◌∙◌, refl}
+use Rattle.std.proofs.Common.{Ok, Err, Result, ap, arith, length, subst, ◌∙◌, refl}
 use Rattle.world_ports.specs.Worlds.{TookWithin}
 use Rattle.world_ports.specs.declared.answers.Wrote.{Wrote}
 use Rattle.world_ports.specs.declared.answers.Wrote.TheVariants as wrote
@@ -23,7 +23,7 @@ pub returns-in-Ok-Took-clause-legal : goal.returns-in-Ok-Took-clause-legal
 returns-in-Ok-Took-clause-legal g c =
     let within = subst (λ r. TookWithin r (length c.owed.result.now)) (c.in-Ok-Took.is ∙ ap Ok c.in-Ok-Took.field-0-is) c.write.ensures.within in
     let answer = Ok (wrote.Took c.in-Ok-Took.n) in
-    serves_then (entry.Write c.args.port c.owed.result.now answer) refl
+    serves_then (entry.Write c.args.port c.owed.result.now answer) refl (omega arith, omega arith)
     (calls.write-any (g.A.Core.state c.args.agent.now) c.args.queue.now c.args.port c.owed.result.now answer c.requires.jobs c.requires.next c.owed.ensures
     (calls.taken-within (length c.owed.result.now) c.in-Ok-Took.n within))
     (told_at (λ r. entry.Write c.args.port c.owed.result.now r) _ _
@@ -32,7 +32,7 @@ returns-in-Ok-Took-clause-legal g c =
 
 pub returns-in-Ok-NotNow-clause-legal : goal.returns-in-Ok-NotNow-clause-legal
 returns-in-Ok-NotNow-clause-legal g c =
-    calls.serves_dropped (Write c.args.port) _ refl
+    calls.serves_dropped (Write c.args.port) _ refl (omega arith, omega arith)
     (calls.write-any (g.A.Core.state c.args.agent.now) c.args.queue.now c.args.port c.owed.result.now (Ok wrote.NotNow) c.requires.jobs c.requires.next c.owed.ensures refl)
     c.take.ensures
     (told_at (λ r. entry.Write c.args.port c.owed.result.now r) _ _ (c.in-Ok-NotNow.is ∙ ap Ok c.in-Ok-NotNow.field-0-is) c.write.ensures.told)
@@ -52,7 +52,7 @@ end-requires-clause-at g c = write-at c.args.port
 pub returns-in-Err-Failed-clause-legal : goal.returns-in-Err-Failed-clause-legal
 returns-in-Err-Failed-clause-legal g c =
     let answer : Result Wrote WorldFault = Err Failed in
-    serves_then (entry.Write c.args.port c.owed.result.now answer) refl
+    serves_then (entry.Write c.args.port c.owed.result.now answer) refl (omega arith, omega arith)
     (calls.write-any (g.A.Core.state c.args.agent.now) c.args.queue.now c.args.port c.owed.result.now answer c.requires.jobs c.requires.next c.owed.ensures refl)
     (told_at (λ r. entry.Write c.args.port c.owed.result.now r) _ _
     (c.in-Err-Failed.is ∙ ap Err c.in-Err-Failed.field-0-is) c.write.ensures.told)
@@ -60,6 +60,6 @@ returns-in-Err-Failed-clause-legal g c =
 
 pub returns-in-Err-Memory-clause-legal : goal.returns-in-Err-Memory-clause-legal
 returns-in-Err-Memory-clause-legal g c =
-    calls.serves_short _ refl
+    calls.serves_short _ refl (omega arith, omega arith)
     (calls.write-any (g.A.Core.state c.args.agent.now) c.args.queue.now c.args.port c.owed.result.now (Err Memory) c.requires.jobs c.requires.next c.owed.ensures refl)
     (told_at (λ r. entry.Write c.args.port c.owed.result.now r) _ _ (c.in-Err-Memory.is ∙ ap Err c.in-Err-Memory.field-0-is) c.write.ensures.told)

@@ -2,6 +2,7 @@ use Rattle.agent_laws.proofs.HistoryLemmas.{first-lawful}
 use Rattle.agent_model.specs.State.{no_settings}
 use Rattle.replay_run.specs.Drill.{drilled}
 use Rattle.replay_run.proofs.DrillFitLemmas.{drill-fits}
+use Rattle.replay_run.proofs.DrillPieceLemmas.{drill-bytes}
 use Rattle.replay_run.proofs.lawful.a_drill_is_lawful.Goals as goal
 
 pub returns-clause-lawful : goal.returns-clause-lawful
@@ -9,3 +10,6 @@ returns-clause-lawful c = λ rounds seed numbers. first-lawful no_settings (dril
 
 pub returns-clause-fits : goal.returns-clause-fits
 returns-clause-fits c = drill-fits
+
+pub returns-clause-bytes : goal.returns-clause-bytes
+returns-clause-bytes c = drill-bytes
