@@ -7,10 +7,13 @@ pub mod UnitLemmas
 pub mod CubicLemmas
 pub mod P256Lemmas
 pub mod P256RootLemmas
+pub mod P256SameLemmas
 pub mod P256GroupLemmas
 pub mod P384Lemmas
 pub mod P384RootLemmas
+pub mod P384SameLemmas
 pub mod P384GroupLemmas
 pub mod P521Lemmas
 pub mod P521RootLemmas
+pub mod P521SameLemmas
 pub mod P521GroupLemmas

@@ -85,3 +85,9 @@ pub data StandsFor (point : Point) : Affine → Type 0 where
   for_infinity : IsAtInfinity point → IsNonzero point.y → StandsFor point Infinity
   for_finite : (x y : ℕ) → IsFinite x y → HasAffine point x y → IsNonzero point.z
       → StandsFor point (At x y)
+
+-- a point of the curve, but for O, for which the coordinates stand
+pub record HasPoint (point : Point) : Type 0 where
+  pub x : ℕ
+  pub y : ℕ
+  pub is : StandsFor point (At x y)

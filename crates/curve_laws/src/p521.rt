@@ -1,12 +1,12 @@
 //! The sum of two points of P-521.
 
-ghost use Rattle.std.specs.Prelude.{◌≡◌, ℕ};
+ghost use Rattle.std.specs.Prelude.{◌≡◌, ℕ, List, Some};
 ghost use Rattle.p521_field.specs.Field.{field_inv, field_mul, field_sub};
 ghost use Rattle.p521_curve.specs.declared.point.Point.{Point as APoint};
-ghost use Rattle.p521_curve.specs.Encoding.{affine_x, affine_y};
+ghost use Rattle.p521_curve.specs.Encoding.{affine_x, affine_y, decoded, encoded};
 ghost use Rattle.p521_curve.specs.Points.{base, base_x, base_y, neutral, point_add};
 ghost use Rattle.curve_laws.specs.P521.{Affine, At, Infinity, HasGroupSum, IsChord, IsGroupSum, IsPoint, IsTangent};
-ghost use Rattle.curve_laws.specs.P521.{HasAffine, HasInverse, IsAtInfinity, IsFinite, IsNonzero, StandsFor};
+ghost use Rattle.curve_laws.specs.P521.{HasAffine, HasInverse, HasPoint, IsAtInfinity, IsFinite, IsNonzero, StandsFor};
 ghost use Rattle.curve_laws.specs.P521.{negated, third_x, third_y};
 
 /// The sum of two points of the curve is the third point of their chord, where x2 - x1 has an inverse.
@@ -55,6 +55,12 @@ pub fn field_inv_inverts()
 pub fn what_is_encoded_is_the_point()
     ensures x { (p : APoint) (x y : ℕ) → StandsFor p (At x y) → affine_x p ≡ x }
     ensures y { (p : APoint) (x y : ℕ) → StandsFor p (At x y) → affine_y p ≡ y }
+    ensures same { (p q : APoint) (z : Affine) → StandsFor p z → StandsFor q z → encoded p ≡ encoded q }
+{}
+
+/// What is decoded stands for a point of the curve.
+pub fn what_is_decoded_is_a_point()
+    ensures { (bytes : List ℕ) (q : APoint) → decoded bytes ≡ Some q → HasPoint q }
 {}
 
 /// No point of the curve has y = 0: x^3 - 3 x + b has no root modulo p.

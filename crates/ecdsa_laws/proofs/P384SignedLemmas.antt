@@ -2,7 +2,6 @@
 use Rattle.std.proofs.Common.{◌≡◌, ◌<◌, ℕ, Some, true, ◌+◌, ◌*◌, ◌%◌, ◌^◌, ◌-◌, arith, ap, refl, sym, ◌∙◌}
 use Rattle.std.proofs.Math.Nat.{mod-eq_of_lt, mod-mod}
 use Rattle.std.proofs.lemmas.Nat.{mod_below, mul-mod_second}
-use Rattle.p384_field.specs.Field.{field_inv, field_mul, prime}
 use Rattle.p384_order.specs.Scalars.{order, scalar_add, scalar_inv, scalar_mul, scalar_pow}
 use Rattle.p384_curve.specs.declared.point.Point.{Point}
 use Rattle.p384_curve.specs.Encoding.{affine_x}
@@ -14,8 +13,8 @@ use Rattle.p384_ecdsa.specs.Verification.{meets, recovered}
 use Rattle.prime_laws.proofs.FermatLemmas.{power-inverts}
 use Rattle.prime_laws.proofs.P384OrderChain.{prime-of-384-bits}
 use Rattle.curve_laws.proofs.DifferenceLemmas.{IsCongruent, equal, products, sums, then}
-use Rattle.curve_laws.proofs.P384RootLemmas.{quotient-x}
-use Rattle.curve_laws.specs.P384.{Affine, At, Infinity, IsGroupSum, StandsFor, for_finite, for_infinity}
+use Rattle.curve_laws.proofs.P384SameLemmas.{same-x}
+use Rattle.curve_laws.specs.P384.{Affine, At, Infinity, IsGroupSum, StandsFor}
 use Rattle.group_laws.specs.Groups.{IsMultiple}
 use Rattle.group_laws.proofs.LoopLemmas.{stands-for-sum}
 use Rattle.group_laws.proofs.MultipleLemmas.{multiple-modulo, multiple-of-multiple}
@@ -88,20 +87,6 @@ s-in-range d e k usable = in-range (signed_with d e k).s order (both-some d e k 
 
 -- ---- one point, and its x
 
-zero-times : (i : ℕ) → (0 * i) % prime ≡ 0
-zero-times i = omega arith
-
--- x of the point at infinity is 0
-x-of-infinity : (p : Point) → p.x ≡ 0 → affine_x p ≡ 0
-unfolding affine_x field_mul
-x-of-infinity p none = ap (λ k. (k * field_inv p.z) % prime) none ∙ zero-times (field_inv p.z)
-
--- two sets of coordinates of one point have one x
-one-x : (p q : Point) (z : Affine) → StandsFor p z → StandsFor q z → affine_x p ≡ affine_x q
-one-x p q _ (for_infinity p_at _) (for_infinity q_at _) = x-of-infinity p p_at.x_is ∙ sym (x-of-infinity q q_at.x_is)
-one-x p q _ (for_finite x y on p_at p_some) (for_finite _ _ on' q_at q_some) =
-    quotient-x p x y (for_finite x y on p_at p_some) ∙ sym (quotient-x q x y (for_finite x y on' q_at q_some))
-
 -- [u1]G + [u2]Q is [k]G, where Q is [d]G and u1 + u2 d is k modulo n
 sum-of-both : (u1 u2 d k : ℕ) (q : Point) (z : Affine) → u1 < order → u2 < order → k < order
     → IsMultiple IsGroupSum Infinity (At base_x base_y) d z → StandsFor q z
@@ -117,7 +102,7 @@ sum-of-both u1 u2 d k q z u1_below u2_below k_below d_is q_is k_is =
     let both = stands-for-sum formula g on u1 (u2 * d) (multiply u1 base) (multiply u2 q) first second_is in
     let direct = multiply-stands k base g (within k k_below) base-stands in
     let same = multiple-modulo group g on order (u1 + u2 * d) k both.x direct.x order-leaves-infinity k_is.is both.is direct.is in
-    one-x (point_add (multiply u1 base) (multiply u2 q)) (multiply k base) direct.x (rw same at both.stands) direct.stands
+    same-x (point_add (multiply u1 base) (multiply u2 q)) (multiply k base) direct.x (rw same at both.stands) direct.stands
 
 -- ---- the check
 

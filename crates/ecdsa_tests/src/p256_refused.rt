@@ -2,7 +2,7 @@
 //! those of RFC 6979, section A.2.5, for "test".
 
 use hex::FromHex;
-use p256_ecdsa::{Doublings, public_key, sign_checked, verify};
+use p256_ecdsa::{BaseTable, public_key, sign_checked, verify};
 
 const PUBLIC: &str =
     "0460fed4ba255a9d31c961eb74c6356d68c049b8923b61fa6ce669622e60f29fb67903fe1008b8bc99a41ae9e95628bc64f2f1b20c2d7e9f5177a3c294d4462299";
@@ -57,9 +57,9 @@ fn right_key() -> [u8; 65] {
 
 #[test]
 fn numbers_out_of_range_are_refused(rt: HostRuntime) {
-    let doublings = Doublings::new(rt.alloc()).expect(&rt, "memory");
+    let table = BaseTable::new(rt.alloc()).expect(&rt, "memory");
     let key = right_key();
-    assert!(rt; verify(&doublings, &key, b"test", &signature_of(R, S)));
+    assert!(rt; verify(&table, &key, b"test", &signature_of(R, S)));
     for (r, s) in [
         (ZERO, S),
         (R, ZERO),
@@ -69,23 +69,23 @@ fn numbers_out_of_range_are_refused(rt: HostRuntime) {
         (S, R),
     ] {
         assert!(rt;
-            !verify(&doublings, &key, b"test", &signature_of(r, s)),
+            !verify(&table, &key, b"test", &signature_of(r, s)),
             "{r} {s}"
         );
     }
-    assert!(rt; !verify(&doublings, &key, b"tests", &signature_of(R, S)));
+    assert!(rt; !verify(&table, &key, b"tests", &signature_of(R, S)));
 }
 
 #[test]
 fn keys_that_are_no_points_are_refused(rt: HostRuntime) {
-    let doublings = Doublings::new(rt.alloc()).expect(&rt, "memory");
+    let table = BaseTable::new(rt.alloc()).expect(&rt, "memory");
     let right = signature_of(R, S);
     let mut marked = right_key();
     marked[0] = 6;
-    assert!(rt; !verify(&doublings, &marked, b"test", &right));
+    assert!(rt; !verify(&table, &marked, b"test", &right));
     for (x, y) in [(X, BESIDE), (PRIME, BESIDE), (X, PRIME), (ZERO, ZERO)] {
         assert!(rt;
-            !verify(&doublings, &key_of(4, x, y), b"test", &right),
+            !verify(&table, &key_of(4, x, y), b"test", &right),
             "{x} {y}"
         );
     }
@@ -93,17 +93,14 @@ fn keys_that_are_no_points_are_refused(rt: HostRuntime) {
 
 #[test]
 fn nothing_is_signed_without_a_pair(rt: HostRuntime) {
-    let doublings = Doublings::new(rt.alloc()).expect(&rt, "memory");
+    let table = BaseTable::new(rt.alloc()).expect(&rt, "memory");
     let key = right_key();
     for private in [ZERO, ORDER] {
+        assert!(rt; public_key(&table, &half(private)).is_none(), "{private}");
         assert!(rt;
-            public_key(&doublings, &half(private)).is_none(),
-            "{private}"
-        );
-        assert!(rt;
-            sign_checked(&doublings, &half(private), &key, b"any").is_none(),
+            sign_checked(&table, &half(private), &key, b"any").is_none(),
             "{private}"
         );
     }
-    assert!(rt; sign_checked(&doublings, &[1; 32], &key, b"any").is_none());
+    assert!(rt; sign_checked(&table, &[1; 32], &key, b"any").is_none());
 }

@@ -1,7 +1,7 @@
 //! RFC 6979, section A.2.5: P-256 with SHA-256.
 
 use hex::FromHex;
-use p256_ecdsa::{Doublings, public_key, sign_checked, verify};
+use p256_ecdsa::{BaseTable, public_key, sign_checked, verify};
 
 const PRIVATE: &str = "c9afa9d845ba75166b5c215767b1d6934e50c3db36e89b127b8a622b120f6721";
 
@@ -22,7 +22,7 @@ const ROWS: [(&str, &str); 2] = [
 ];
 
 // Whether the three calls give what a row says.
-fn agrees(doublings: &Doublings, message: &str, signed: &str) -> bool {
+fn agrees(table: &BaseTable, message: &str, signed: &str) -> bool {
     let Ok(private) = <[u8; 32] as FromHex>::from_hex(PRIVATE) else {
         return false;
     };
@@ -33,15 +33,15 @@ fn agrees(doublings: &Doublings, message: &str, signed: &str) -> bool {
         return false;
     };
     let message = message.as_bytes();
-    public_key(doublings, &private) == Some(public)
-        && sign_checked(doublings, &private, &public, message) == Some(signature)
-        && verify(doublings, &public, message, &signature)
+    public_key(table, &private) == Some(public)
+        && sign_checked(table, &private, &public, message) == Some(signature)
+        && verify(table, &public, message, &signature)
 }
 
 #[test]
 fn the_vectors_of_rfc_6979_come_out(rt: HostRuntime) {
-    let doublings = Doublings::new(rt.alloc()).expect(&rt, "memory");
+    let table = BaseTable::new(rt.alloc()).expect(&rt, "memory");
     for (message, signed) in ROWS {
-        assert!(rt; agrees(&doublings, message, signed), "{message}");
+        assert!(rt; agrees(&table, message, signed), "{message}");
     }
 }

@@ -2,7 +2,7 @@
 //! those of RFC 6979, section A.2.6, for "test".
 
 use hex::FromHex;
-use p384_ecdsa::{Doublings, public_key, sign_checked, verify};
+use p384_ecdsa::{BaseTable, public_key, sign_checked, verify};
 
 const PUBLIC: &str =
     "04ec3a4e415b4e19a4568618029f427fa5da9a8bc4ae92e02e06aae5286b300c64def8f0ea9055866064a254515480bc138015d9b72d7d57244ea8ef9ac0c621896708a59367f9dfb9f54ca84b3f1c9db1288b231c3ae0d4fe7344fd2533264720";
@@ -64,9 +64,9 @@ fn right_key() -> [u8; 97] {
 
 #[test]
 fn numbers_out_of_range_are_refused(rt: HostRuntime) {
-    let doublings = Doublings::new(rt.alloc()).expect(&rt, "memory");
+    let table = BaseTable::new(rt.alloc()).expect(&rt, "memory");
     let key = right_key();
-    assert!(rt; verify(&doublings, &key, b"test", &signature_of(R, S)));
+    assert!(rt; verify(&table, &key, b"test", &signature_of(R, S)));
     for (r, s) in [
         (ZERO, S),
         (R, ZERO),
@@ -76,23 +76,23 @@ fn numbers_out_of_range_are_refused(rt: HostRuntime) {
         (S, R),
     ] {
         assert!(rt;
-            !verify(&doublings, &key, b"test", &signature_of(r, s)),
+            !verify(&table, &key, b"test", &signature_of(r, s)),
             "{r} {s}"
         );
     }
-    assert!(rt; !verify(&doublings, &key, b"tests", &signature_of(R, S)));
+    assert!(rt; !verify(&table, &key, b"tests", &signature_of(R, S)));
 }
 
 #[test]
 fn keys_that_are_no_points_are_refused(rt: HostRuntime) {
-    let doublings = Doublings::new(rt.alloc()).expect(&rt, "memory");
+    let table = BaseTable::new(rt.alloc()).expect(&rt, "memory");
     let right = signature_of(R, S);
     let mut marked = right_key();
     marked[0] = 6;
-    assert!(rt; !verify(&doublings, &marked, b"test", &right));
+    assert!(rt; !verify(&table, &marked, b"test", &right));
     for (x, y) in [(X, BESIDE), (PRIME, BESIDE), (X, PRIME), (ZERO, ZERO)] {
         assert!(rt;
-            !verify(&doublings, &key_of(4, x, y), b"test", &right),
+            !verify(&table, &key_of(4, x, y), b"test", &right),
             "{x} {y}"
         );
     }
@@ -100,17 +100,14 @@ fn keys_that_are_no_points_are_refused(rt: HostRuntime) {
 
 #[test]
 fn nothing_is_signed_without_a_pair(rt: HostRuntime) {
-    let doublings = Doublings::new(rt.alloc()).expect(&rt, "memory");
+    let table = BaseTable::new(rt.alloc()).expect(&rt, "memory");
     let key = right_key();
     for private in [ZERO, ORDER] {
+        assert!(rt; public_key(&table, &half(private)).is_none(), "{private}");
         assert!(rt;
-            public_key(&doublings, &half(private)).is_none(),
-            "{private}"
-        );
-        assert!(rt;
-            sign_checked(&doublings, &half(private), &key, b"any").is_none(),
+            sign_checked(&table, &half(private), &key, b"any").is_none(),
             "{private}"
         );
     }
-    assert!(rt; sign_checked(&doublings, &[1; 48], &key, b"any").is_none());
+    assert!(rt; sign_checked(&table, &[1; 48], &key, b"any").is_none());
 }

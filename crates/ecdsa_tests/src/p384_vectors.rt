@@ -1,7 +1,7 @@
 //! RFC 6979, section A.2.6: P-384 with SHA-384.
 
 use hex::FromHex;
-use p384_ecdsa::{Doublings, public_key, sign_checked, verify};
+use p384_ecdsa::{BaseTable, public_key, sign_checked, verify};
 
 const PRIVATE: &str =
     "6b9d3dad2e1b8c1c05b19875b6659f4de23c3b667bf297ba9aa47740787137d896d5724e4c70a825f872c9ea60d2edf5";
@@ -23,7 +23,7 @@ const ROWS: [(&str, &str); 2] = [
 ];
 
 // Whether the three calls give what a row says.
-fn agrees(doublings: &Doublings, message: &str, signed: &str) -> bool {
+fn agrees(table: &BaseTable, message: &str, signed: &str) -> bool {
     let Ok(private) = <[u8; 48] as FromHex>::from_hex(PRIVATE) else {
         return false;
     };
@@ -34,15 +34,15 @@ fn agrees(doublings: &Doublings, message: &str, signed: &str) -> bool {
         return false;
     };
     let message = message.as_bytes();
-    public_key(doublings, &private) == Some(public)
-        && sign_checked(doublings, &private, &public, message) == Some(signature)
-        && verify(doublings, &public, message, &signature)
+    public_key(table, &private) == Some(public)
+        && sign_checked(table, &private, &public, message) == Some(signature)
+        && verify(table, &public, message, &signature)
 }
 
 #[test]
 fn the_vectors_of_rfc_6979_come_out(rt: HostRuntime) {
-    let doublings = Doublings::new(rt.alloc()).expect(&rt, "memory");
+    let table = BaseTable::new(rt.alloc()).expect(&rt, "memory");
     for (message, signed) in ROWS {
-        assert!(rt; agrees(&doublings, message, signed), "{message}");
+        assert!(rt; agrees(&table, message, signed), "{message}");
     }
 }

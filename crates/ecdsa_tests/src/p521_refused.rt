@@ -2,7 +2,7 @@
 //! those of RFC 6979, section A.2.7, for "test".
 
 use hex::FromHex;
-use p521_ecdsa::{Doublings, public_key, sign_checked, verify};
+use p521_ecdsa::{BaseTable, public_key, sign_checked, verify};
 
 const PUBLIC: &str =
     "0401894550d0785932e00eaa23b694f213f8c3121f86dc97a04e5a7167db4e5bcd371123d46e45db6b5d5370a7f20fb633155d38ffa16d2bd761dcac474b9a2f5023a400493101c962cd4d2fddf782285e64584139c2f91b47f87ff82354d6630f746a28a0db25741b5b34a828008b22acc23f924faafbd4d33f81ea66956dfeaa2bfdfcf5";
@@ -64,9 +64,9 @@ fn right_key() -> [u8; 133] {
 
 #[test]
 fn numbers_out_of_range_are_refused(rt: HostRuntime) {
-    let doublings = Doublings::new(rt.alloc()).expect(&rt, "memory");
+    let table = BaseTable::new(rt.alloc()).expect(&rt, "memory");
     let key = right_key();
-    assert!(rt; verify(&doublings, &key, b"test", &signature_of(R, S)));
+    assert!(rt; verify(&table, &key, b"test", &signature_of(R, S)));
     for (r, s) in [
         (ZERO, S),
         (R, ZERO),
@@ -76,23 +76,23 @@ fn numbers_out_of_range_are_refused(rt: HostRuntime) {
         (S, R),
     ] {
         assert!(rt;
-            !verify(&doublings, &key, b"test", &signature_of(r, s)),
+            !verify(&table, &key, b"test", &signature_of(r, s)),
             "{r} {s}"
         );
     }
-    assert!(rt; !verify(&doublings, &key, b"tests", &signature_of(R, S)));
+    assert!(rt; !verify(&table, &key, b"tests", &signature_of(R, S)));
 }
 
 #[test]
 fn keys_that_are_no_points_are_refused(rt: HostRuntime) {
-    let doublings = Doublings::new(rt.alloc()).expect(&rt, "memory");
+    let table = BaseTable::new(rt.alloc()).expect(&rt, "memory");
     let right = signature_of(R, S);
     let mut marked = right_key();
     marked[0] = 6;
-    assert!(rt; !verify(&doublings, &marked, b"test", &right));
+    assert!(rt; !verify(&table, &marked, b"test", &right));
     for (x, y) in [(X, BESIDE), (PRIME, BESIDE), (X, PRIME), (ZERO, ZERO)] {
         assert!(rt;
-            !verify(&doublings, &key_of(4, x, y), b"test", &right),
+            !verify(&table, &key_of(4, x, y), b"test", &right),
             "{x} {y}"
         );
     }
@@ -100,17 +100,14 @@ fn keys_that_are_no_points_are_refused(rt: HostRuntime) {
 
 #[test]
 fn nothing_is_signed_without_a_pair(rt: HostRuntime) {
-    let doublings = Doublings::new(rt.alloc()).expect(&rt, "memory");
+    let table = BaseTable::new(rt.alloc()).expect(&rt, "memory");
     let key = right_key();
     for private in [ZERO, ORDER] {
+        assert!(rt; public_key(&table, &half(private)).is_none(), "{private}");
         assert!(rt;
-            public_key(&doublings, &half(private)).is_none(),
-            "{private}"
-        );
-        assert!(rt;
-            sign_checked(&doublings, &half(private), &key, b"any").is_none(),
+            sign_checked(&table, &half(private), &key, b"any").is_none(),
             "{private}"
         );
     }
-    assert!(rt; sign_checked(&doublings, &[1; 66], &key, b"any").is_none());
+    assert!(rt; sign_checked(&table, &[1; 66], &key, b"any").is_none());
 }

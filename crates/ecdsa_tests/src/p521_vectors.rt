@@ -1,7 +1,7 @@
 //! RFC 6979, section A.2.7: P-521 with SHA-512.
 
 use hex::FromHex;
-use p521_ecdsa::{Doublings, public_key, sign_checked, verify};
+use p521_ecdsa::{BaseTable, public_key, sign_checked, verify};
 
 const PRIVATE: &str =
     "00fad06daa62ba3b25d2fb40133da757205de67f5bb0018fee8c86e1b68c7e75caa896eb32f1f47c70855836a6d16fcc1466f6d8fbec67db89ec0c08b0e996b83538";
@@ -23,7 +23,7 @@ const ROWS: [(&str, &str); 2] = [
 ];
 
 // Whether the three calls give what a row says.
-fn agrees(doublings: &Doublings, message: &str, signed: &str) -> bool {
+fn agrees(table: &BaseTable, message: &str, signed: &str) -> bool {
     let Ok(private) = <[u8; 66] as FromHex>::from_hex(PRIVATE) else {
         return false;
     };
@@ -34,15 +34,15 @@ fn agrees(doublings: &Doublings, message: &str, signed: &str) -> bool {
         return false;
     };
     let message = message.as_bytes();
-    public_key(doublings, &private) == Some(public)
-        && sign_checked(doublings, &private, &public, message) == Some(signature)
-        && verify(doublings, &public, message, &signature)
+    public_key(table, &private) == Some(public)
+        && sign_checked(table, &private, &public, message) == Some(signature)
+        && verify(table, &public, message, &signature)
 }
 
 #[test]
 fn the_vectors_of_rfc_6979_come_out(rt: HostRuntime) {
-    let doublings = Doublings::new(rt.alloc()).expect(&rt, "memory");
+    let table = BaseTable::new(rt.alloc()).expect(&rt, "memory");
     for (message, signed) in ROWS {
-        assert!(rt; agrees(&doublings, message, signed), "{message}");
+        assert!(rt; agrees(&table, message, signed), "{message}");
     }
 }

@@ -15,17 +15,17 @@ use std::{env, fs, io};
 /// What each curve needs.
 #[derive(Drop)]
 struct Curves {
-    p256: p256_ecdsa::Doublings,
-    p384: p384_ecdsa::Doublings,
-    p521: p521_ecdsa::Doublings,
+    p256: p256_ecdsa::BaseTable,
+    p384: p384_ecdsa::BaseTable,
+    p521: p521_ecdsa::BaseTable,
 }
 
 impl Curves {
     fn new(alloc: Global) -> Result<Curves, AllocError> {
         Ok(Curves {
-            p256: p256_ecdsa::Doublings::new(alloc)?,
-            p384: p384_ecdsa::Doublings::new(alloc)?,
-            p521: p521_ecdsa::Doublings::new(alloc)?,
+            p256: p256_ecdsa::BaseTable::new(alloc)?,
+            p384: p384_ecdsa::BaseTable::new(alloc)?,
+            p521: p521_ecdsa::BaseTable::new(alloc)?,
         })
     }
 }

@@ -8,6 +8,8 @@ pub mod RuleLemmas
 pub mod MultipleLemmas
 pub mod TransferLemmas
 pub mod LoopLemmas
+pub mod DigitLemmas
+pub mod WindowLemmas
 pub mod P256GroupLemmas
 pub mod P256MultipleLemmas
 pub mod P384GroupLemmas

@@ -28,7 +28,7 @@ stands-for-point p _ (for_infinity _ _) = infinity_is
 stands-for-point p _ (for_finite x y on _ _) = finite_is x y on
 
 -- (0 : 1 : 0) stands for O
-neutral-stands : StandsFor neutral Infinity
+pub neutral-stands : StandsFor neutral Infinity
 unfolding neutral
 neutral-stands = for_infinity (record { x_is = refl; z_is = refl }) (record { some = omega arith; below = omega arith })
 
@@ -58,7 +58,7 @@ loop-same (suc bits) s p sum =
     ∙ ap (λ t. multiply_from bits (s / 2) (point_add p p) t) (choose-same (s % 2) sum (point_add sum p))
 
 -- [1]P is P
-once : (x : Affine) → IsPoint x → IsMultiple IsGroupSum Infinity x 1 x
+pub once : (x : Affine) → IsPoint x → IsMultiple IsGroupSum Infinity x 1 x
 once _ infinity_is = once_more 0 Infinity Infinity no_times of_infinities
 once _ (finite_is x y on) = once_more 0 Infinity (At x y) no_times (infinity_with x y)
 

@@ -1,2 +1,4 @@
 -- commutative groups
 pub mod Groups
+-- multiples by digits
+pub mod Digits

@@ -1,4 +1,5 @@
 pub mod KeyLemmas
 pub mod NonceLemmas
 pub mod SigningLemmas
+pub mod SumLemmas
 pub mod VerifyingLemmas

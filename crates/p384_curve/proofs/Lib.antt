@@ -1,3 +1,2 @@
 pub mod AdditionLemmas
 pub mod DecodingLemmas
-pub mod MultipleLemmas

@@ -1,5 +1,5 @@
 -- Numbers in range, and public keys.
-use Rattle.std.proofs.Common.{◌≡◌, ◌<◌, ◌*◌, ◌%◌, ℕ, List, Bool, true, false, not, sym, refl, ◌∙◌, nat_eq, nat_lt, if◌then◌else◌}
+use Rattle.std.proofs.Common.{◌≡◌, ◌<◌, ◌*◌, ◌%◌, ◌^◌, arith, ℕ, List, Bool, true, false, not, sym, refl, ◌∙◌, nat_eq, nat_lt, if◌then◌else◌}
 use Rattle.std.proofs.lemmas.Bool.{both_ways, ltb-true, not-false, not-true}
 use Rattle.std.proofs.Math.Nat.{mod-eq_of_lt}
 use lib.Pointwise.{pointwise, bytes_decides}
@@ -36,7 +36,12 @@ in_range-below k is = go (nat_lt 0 k) is
 pub in_range-same : (k : ℕ) → in_range k ≡ true → k % order ≡ k
 in_range-same k is = mod-eq_of_lt (in_range-below k is)
 
-pub public_key-made : (d : ℕ) (point : Point) (made : List ℕ) → point ≡ multiply d base → made ≡ encoded point → made ≡ public_key d
+-- and has at most so many bits
+pub in_range-within : (k : ℕ) → in_range k ≡ true → k < 2 ^ 384
+in_range-within k is = let below = in_range-below k is in omega arith
+
+pub public_key-made : (d : ℕ) (point : Point) (made : List ℕ) → encoded point ≡ encoded (multiply d base)
+    → made ≡ encoded point → made ≡ public_key d
 unfolding public_key
 public_key-made d point made point_is made_is = cc
 

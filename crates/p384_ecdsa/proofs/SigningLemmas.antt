@@ -18,7 +18,7 @@ pair_of r s = record { r = r; s = s }
 
 -- r and s by a nonce
 pub signed_with-made : (d e hash k x n r k_scalar inverse product sum s : ℕ) (point : Point) → in_range k ≡ true → e ≡ hash % order
-    → point ≡ multiply k base → x ≡ affine_x point → r ≡ x % order → k_scalar ≡ k % order → inverse ≡ scalar_inv k_scalar
+    → affine_x point ≡ affine_x (multiply k base) → x ≡ affine_x point → r ≡ x % order → k_scalar ≡ k % order → inverse ≡ scalar_inv k_scalar
     → product ≡ scalar_mul r d → sum ≡ scalar_add e product → s ≡ scalar_mul inverse sum → pair_of r s ≡ signed_with d hash k
 unfolding signed_with
 signed_with-made d e hash k x n r k_scalar inverse product sum s point within e_is point_is x_is r_is k_is inverse_is product_is sum_is s_is =

@@ -1,5 +1,5 @@
 -- The cases of FIPS 186-5, section 6.4.2.
-use Rattle.std.proofs.Common.{◌≡◌, ◌%◌, ℕ, List, take, drop, refl, Bool, true, false, nat_eq, Some, None, Option}
+use Rattle.std.proofs.Common.{◌≡◌, ◌%◌, ℕ, List, take, drop, refl, ap, ◌∙◌, Bool, true, false, nat_eq, Some, None, Option}
 use Rattle.sha2.specs.Sha512.{sha384}
 use Rattle.wide_words.specs.Numbers.{big_endian, bits_to_int}
 use Rattle.p384_order.specs.Scalars.{order, scalar_inv, scalar_mul}
@@ -9,19 +9,29 @@ use Rattle.p384_curve.specs.Multiples.{multiply}
 use Rattle.p384_curve.specs.Encoding.{affine_x, decoded}
 use Rattle.p384_ecdsa.specs.Keys.{in_range}
 use Rattle.p384_ecdsa.specs.Verification.{accepts, meets, recovered}
+use Rattle.curve_laws.specs.P384.{HasPoint}
 use Rattle.p384_ecdsa.proofs.KeyLemmas.{in_range-same}
+use Rattle.p384_ecdsa.proofs.SumLemmas.{IsMultipleOf, IsMultipleOfBase, product-within, sum-x}
 
-pub recovered-made : (q left right out : Point) (e r s s_scalar w e_scalar u1 r_scalar u2 n1 n2 : ℕ) → in_range r ≡ true → in_range s ≡ true
+pub recovered-made : (q left right out : Point) (e r s s_scalar w e_scalar u1 r_scalar u2 n1 n2 : ℕ) → HasPoint q
+    → in_range r ≡ true → in_range s ≡ true
     → s_scalar ≡ s % order → w ≡ scalar_inv s_scalar → e_scalar ≡ e % order → u1 ≡ scalar_mul e_scalar w → r_scalar ≡ r % order
-    → u2 ≡ scalar_mul r_scalar w → n1 ≡ u1 → left ≡ multiply n1 base → n2 ≡ u2 → right ≡ multiply n2 q
-    → out ≡ point_add left right → out ≡ recovered q e r s
+    → u2 ≡ scalar_mul r_scalar w → n1 ≡ u1 → IsMultipleOfBase n1 left → n2 ≡ u2 → IsMultipleOf q n2 right
+    → out ≡ point_add left right → affine_x out ≡ affine_x (recovered q e r s)
 unfolding recovered
-recovered-made q left right out e r s s_scalar w e_scalar u1 r_scalar u2 n1 n2 r_within s_within e1 e2 e3 e4 e5 e6 e7 e8 e9 e10 e11 =
+recovered-made q left right out e r s s_scalar w e_scalar u1 r_scalar u2 n1 n2 q_is r_within s_within e1 e2 e3 e4 e5 e6 e7 left_is e9 right_is e11 =
     let r_same : r % order ≡ r = in_range-same r r_within in
     let s_same : s % order ≡ s = in_range-same s s_within in
-    cc
+    let first : n1 ≡ scalar_mul (e % order) (scalar_inv s) = cc in
+    let second : n2 ≡ scalar_mul r (scalar_inv s) = cc in
+    ap affine_x e11
+    ∙ sum-x q left right n1 n2 q_is (rw first (product-within (e % order) (scalar_inv s)))
+    (rw second (product-within r (scalar_inv s))) left_is right_is
+    ∙ ap (λ k. affine_x (point_add (multiply k base) (multiply n2 q))) first
+    ∙ ap (λ k. affine_x (point_add (multiply (scalar_mul (e % order) (scalar_inv s)) base) (multiply k q))) second
 
-pub meets-some : (q point : Point) (e r s x x_scalar n : ℕ) (out : Bool) → point ≡ recovered q e r s → x ≡ affine_x point
+pub meets-some : (q point : Point) (e r s x x_scalar n : ℕ) (out : Bool)
+    → affine_x point ≡ affine_x (recovered q e r s) → x ≡ affine_x point
     → x_scalar ≡ x % order → n ≡ x_scalar → out ≡ nat_eq n r → out ≡ meets (Some q) e r s
 unfolding meets
 meets-some q point e r s x x_scalar n out point_is x_is scalar_is n_is is = cc

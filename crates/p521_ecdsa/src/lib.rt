@@ -8,6 +8,6 @@ mod sign;
 mod verification;
 
 pub use keys::public_key;
-pub use p521_curve::Doublings;
+pub use p521_multiples::BaseTable;
 pub use sign::sign_checked;
 pub use verification::verify;

@@ -9,7 +9,7 @@ ghost use Rattle.p521_ecdsa.specs.Signatures.{first_usable, is_usable, joined, s
 
 use crate::keys::{is_in_range, key_of};
 use crate::nonce::{State, both, leftmost_bits, leftmost_of_both, mac, tagged};
-use p521_curve::Doublings;
+use p521_multiples::BaseTable;
 use p521_order::Scalar;
 use sha2::{Digest, Sha512};
 use wide_words::U576;
@@ -32,7 +32,7 @@ pub struct Pair {
 /// The public key is made anew from the private key, so that no key that was stored wrongly, and
 /// none that another chose, gets a signature.
 pub fn sign_checked(
-    doublings: &Doublings,
+    table: &BaseTable,
     private: &[u8; 66],
     public: &[u8; 133],
     message: &[u8],
@@ -49,26 +49,40 @@ pub fn sign_checked(
     if !is_in_range(&d) {
         return None;
     }
-    if key_of(doublings, &d) != *public {
+    if key_of(table, &d) != *public {
         return None;
     }
-    sign_hash(doublings, &Scalar::from_words(&d), &hash_of(message))
+    sign_twice(table, &Scalar::from_words(&d), message)
+}
+
+// The signature of a message, made twice from its hash on. Nonces don't change, so one in which the machine made a fault would
+// give the private key away beside a right one: where both aren't the same, none leaves.
+fn sign_twice(table: &BaseTable, d: &Scalar, message: &[u8]) -> Option<[u8; 132]>
+    ensures { MatchOption result (signature d.now (sha512 message.now) ≡ None)
+        (λ bytes. signature d.now (sha512 message.now) ≡ Some bytes) }
+{
+    let signature = sign_hash(table, d, &hash_of(message))?;
+    let again = sign_hash(table, d, &hash_of(message))?;
+    if again != signature {
+        return None;
+    }
+    Some(signature)
 }
 
 // The signature of a hash.
 #[inline(never)]
-fn sign_hash(doublings: &Doublings, d: &Scalar, hash: &[u8; 64]) -> Option<[u8; 132]>
+fn sign_hash(table: &BaseTable, d: &Scalar, hash: &[u8; 64]) -> Option<[u8; 132]>
     ensures { MatchOption result (signature d.now hash.now ≡ None)
         (λ bytes. signature d.now hash.now ≡ Some bytes) }
 {
-    match pair_of(doublings, d, hash) {
+    match pair_of(table, d, hash) {
         Some(pair) => Some(bytes_of(&pair)),
         None => None,
     }
 }
 
 // r and s by the first nonce that serves.
-fn pair_of(doublings: &Doublings, d: &Scalar, hash: &[u8; 64]) -> Option<Pair>
+fn pair_of(table: &BaseTable, d: &Scalar, hash: &[u8; 64]) -> Option<Pair>
     ensures { result ≡ first_usable d.now hash.now }
 {
     let e = Scalar::from_words(&leftmost_bits(hash));
@@ -80,7 +94,7 @@ fn pair_of(doublings: &Doublings, d: &Scalar, hash: &[u8; 64]) -> Option<Pair>
         let next = mac(&key, &first);
         let k = leftmost_of_both(&first, &next);
         if is_in_range(&k) {
-            let pair = signed_with(doublings, d, &e, &k);
+            let pair = signed_with(table, d, &e, &k);
             if is_usable(&pair) {
                 return Some(pair);
             }
@@ -92,11 +106,11 @@ fn pair_of(doublings: &Doublings, d: &Scalar, hash: &[u8; 64]) -> Option<Pair>
 }
 
 // r and s by this nonce, which is in range.
-fn signed_with(doublings: &Doublings, d: &Scalar, e: &Scalar, k: &U576) -> Pair
+fn signed_with(table: &BaseTable, d: &Scalar, e: &Scalar, k: &U576) -> Pair
     requires { in_range k.now ≡ true }
     ensures { (hash : ℕ) → e.now ≡ hash % order → result ≡ signed_with d.now hash k.now }
 {
-    let r = Scalar::from_words(&doublings.multiple(k).affine_x());
+    let r = Scalar::from_words(&table.multiple(k).affine_x());
     let s = Scalar::from_words(k).inverse().mul(&e.add(&r.mul(d)));
     Pair { r, s }
 }

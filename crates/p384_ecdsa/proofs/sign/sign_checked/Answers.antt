@@ -7,18 +7,18 @@ use Rattle.p384_ecdsa.proofs.KeyLemmas.{in_range-same, keys-differ, keys-same}
 use Rattle.p384_ecdsa.proofs.sign.sign_checked.Goals as goal
 
 -- what the signature of the hash says of that of the message
-checked : (result : Option (List ℕ)) (d s number : ℕ) (public hash text : List ℕ) → number ≡ d → in_range number ≡ true
-    → public ≡ public_key d → s ≡ number % order → hash ≡ sha384 text
-    → MatchOption result (signature s hash ≡ None) (λ bytes. signature s hash ≡ Some bytes)
+checked : (result : Option (List ℕ)) (d s number : ℕ) (public text : List ℕ) → number ≡ d → in_range number ≡ true
+    → public ≡ public_key d → s ≡ number % order
+    → MatchOption result (signature s (sha384 text) ≡ None) (λ bytes. signature s (sha384 text) ≡ Some bytes)
     → MatchOption result
     ((in_range d ≡ false) ⊎ ((public ≢ public_key d) ⊎ (signature d (sha384 text) ≡ None)))
     (λ bytes. (in_range d ≡ true) × (public ≡ public_key d) × (signature d (sha384 text) ≡ Some bytes))
-checked None d s number public hash text d_is within same s_is hash_is is =
+checked None d s number public text d_is within same s_is is =
     let scalar : s ≡ d = s_is ∙ in_range-same number within ∙ d_is in
-    inr (inr (rw (scalar, hash_is) at is))
-checked (Some bytes) d s number public hash text d_is within same s_is hash_is is =
+    inr (inr (rw scalar at is))
+checked (Some bytes) d s number public text d_is within same s_is is =
     let scalar : s ≡ d = s_is ∙ in_range-same number within ∙ d_is in
-    (ap in_range (sym d_is) ∙ within, same, rw (scalar, hash_is) at is)
+    (ap in_range (sym d_is) ∙ within, same, rw scalar at is)
 
 pub returns-then-not-is_in_range : goal.returns-then-not-is_in_range
 returns-then-not-is_in_range c = inl (ap in_range (sym c.from_bytes-d.ensures) ∙ sym c.if-not-is_in_range.ensures)
@@ -29,6 +29,6 @@ returns-then-ne c =
 
 pub returns : goal.returns
 returns c =
-    checked _ _ _ _ _ _ _ c.from_bytes-d.ensures (sym c.if-not-is_in_range.ensures)
+    checked _ _ _ _ _ _ c.from_bytes-d.ensures (sym c.if-not-is_in_range.ensures)
     (keys-same c.key_of.result c.args.public.now _ (c.key_of.ensures ∙ ap public_key c.from_bytes-d.ensures) c.if-ne.ensures)
-    c.from_words.ensures c.hash_of.ensures c.sign_hash.ensures
+    c.from_words.ensures c.sign_twice.ensures

@@ -1,5 +1,6 @@
-use Rattle.std.proofs.Common.{sym}
+use Rattle.std.proofs.Common.{sym, ◌∙◌}
 use Rattle.p521_ecdsa.proofs.VerifyingLemmas.{accepts-key, accepts-no_key, accepts-r, accepts-s}
+use Rattle.curve_laws.proofs.P521SameLemmas.{decoded-stands}
 use Rattle.p521_ecdsa.proofs.verification.verify.Goals as goal
 
 pub returns-then-not-is_in_range : goal.returns-then-not-is_in_range
@@ -18,3 +19,6 @@ pub returns-in-None : goal.returns-in-None
 returns-in-None c =
     accepts-no_key _ _ _ _ _ _ c.from_bytes-r.ensures (sym c.if-not-is_in_range.ensures) c.from_bytes-s.ensures
     (sym c.if-not-is_in_range-2.ensures) c.decode.ensures c.in-None.is
+
+pub holds-requires-clause-q : goal.holds-requires-clause-q
+holds-requires-clause-q c = decoded-stands _ _ (sym c.decode.ensures ∙ c.in-Some.is)

@@ -1,0 +1,5 @@
+use Rattle.curve_laws.proofs.P256SameLemmas.{decoded-stands}
+use Rattle.curve_laws.proofs.p256.what_is_decoded_is_a_point.Goals as goal
+
+pub returns : goal.returns
+returns c = decoded-stands
