@@ -45,7 +45,7 @@ SCALAR = model.octets(model.expanded(SEED)[0])
 MAKES = {
     "ed25519::keys::public_key": {"$rdx": SEED},
     "ed25519::keys::encoded_multiple": {"$rdx": SCALAR},
-    "curve25519::doublings::Doublings::multiple": {"$rdx": SCALAR},
+    "curve25519_multiples::table::BaseTable::multiple": {"$rdx": SCALAR},
 }
 # What signs, and the seed that it takes; and what gives the bytes of the seed's public key there.
 SIGNS, TAKEN, GIVES = "ed25519::erase::sign_with_copy", {"$rdx": SEED}, "curve25519::point::Point::encode"
@@ -53,7 +53,7 @@ SIGNS, TAKEN, GIVES = "ed25519::erase::sign_with_copy", {"$rdx": SEED}, "curve25
 # The jumps that a function may have: one at the end of each of its loops.
 JUMPS = {
     "ed25519::sign::sign_expanded": 1,
-    "curve25519::doublings::Doublings::multiple_by_bits": 1,
+    "curve25519_multiples::table::BaseTable::multiple": 1,
     "curve25519::point::Point::add": 0,
     "curve25519::point::Point::encode": 0,
     "field25519::element::Element::mul": 0,
@@ -71,7 +71,7 @@ ECDSA_JUMPS = {
     function: most
     for curve, (words, _) in CURVES.items()
     for function, most in (
-        (f"{curve}_curve::doublings::Doublings::multiple_by_bits", 1),
+        (f"{curve}_multiples::table::BaseTable::multiple", 1),
         (f"{curve}_curve::point::Point::add", 0),
         (f"{curve}_field::{'element::Element::mul' if curve == 'p521' else 'residue::Residue::product'}", 0),
         (f"{curve}_order::residue::{'rows' if curve == 'p521' else 'Residue::product'}", 0),
@@ -140,13 +140,13 @@ def a_public_key_is_made_alike_for_each_seed(folder):
 
 @check
 def a_multiple_of_a_base_point_is_made_alike_for_each_number(folder):
-    """The number is the third word that the function is passed, behind the room for the point and the doublings: in words,
+    """The number is the third word that the function is passed, behind the room for the point and the table: in words,
     the lowest first."""
     for curve, (words, size) in CURVES.items():
         # Over P-521 the first byte has one bit.
         private = (b"\0" * (size % 8 > 0) + 3 * SEED)[:size]
         taken = {"$rdx": private[::-1].ljust(8 * words, b"\0")}
-        multiple = f"{curve}_curve::doublings::Doublings::multiple_by_bits"
+        multiple = f"{curve}_multiples::table::BaseTable::multiple"
         holds(folder, on_a_line(rig.there(ECDSA), f"key {curve} {private.hex()}"), ECDSA, multiple, taken)
 
 
@@ -158,7 +158,7 @@ def an_ecdsa_signature_turns_but_where_the_standard_asks(folder):
         private = int.from_bytes((3 * SEED)[: curve.size], "big") % curve.n
         line = f"sign {curve.name} {curve.octets(private).hex()} {curve.public_key(private).hex()} {MESSAGE.hex()}"
         function, start = f"{curve.name}_ecdsa::sign::sign_hash", on_a_line(rig.there(ECDSA), line)
-        # Behind the room for what it gives and the doublings it takes the number.
+        # Behind the room for what it gives and the table it takes the number.
         marks = [memcheck.undefined("$rdx", 8 * CURVES[curve.name][0])]
         found = memcheck.watched(folder, start, ECDSA, function, marks, most=100)
         assert found.returned and found.before == 4, f"{function}: {found.places}"

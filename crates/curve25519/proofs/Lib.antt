@@ -1,3 +1,2 @@
 pub mod PointLemmas
-pub mod MultipleLemmas
 pub mod DecodingLemmas

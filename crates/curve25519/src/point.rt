@@ -41,6 +41,20 @@ impl Addend {
             t_scaled: point.t.mul(&constants::twice_curve_constant()),
         }
     }
+
+    /// `other` where the bit is 1, this one where it is 0, with no branch.
+    #[inline(always)]
+    pub fn choice(&self, other: &Addend, bit: u64) -> Addend
+        requires { bit ≤ 1 }
+        ensures { result ≡ choose bit self.now other.now }
+    {
+        Addend {
+            y_minus_x: self.y_minus_x.select(&other.y_minus_x, bit),
+            y_plus_x: self.y_plus_x.select(&other.y_plus_x, bit),
+            z_twice: self.z_twice.select(&other.z_twice, bit),
+            t_scaled: self.t_scaled.select(&other.t_scaled, bit),
+        }
+    }
 }
 
 impl Point {
@@ -94,18 +108,6 @@ impl Point {
             z: f.mul(&g),
             t: e.mul(&h),
         }
-    }
-
-    /// Becomes `other` where the bit is 1 and stays where it is 0, with no branch.
-    #[inline(always)]
-    pub fn replace_if(&mut self, other: &Point, bit: u64)
-        requires { bit ≤ 1 }
-        ensures { self.new ≡ choose bit self.old other.now }
-    {
-        self.x = self.x.select(&other.x, bit);
-        self.y = self.y.select(&other.y, bit);
-        self.z = self.z.select(&other.z, bit);
-        self.t = self.t.select(&other.t, bit);
     }
 
     /// -P.

@@ -1,2 +1,3 @@
 pub mod SigningLemmas
+pub mod SumLemmas
 pub mod VerifyingLemmas

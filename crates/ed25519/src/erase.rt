@@ -5,8 +5,8 @@ ghost use Rattle.ed25519.specs.Keys.{public_key};
 ghost use Rattle.ed25519.specs.Signatures.{signature};
 
 use crate::sign::sign_checked;
-use curve25519::Doublings;
-use words64::Words;
+use curve25519::{Addend, Point};
+use curve25519_multiples::BaseTable;
 
 // Several times what the calls below `sign_checked` take of the stack, in bytes.
 const DEPTH: usize = 16384;
@@ -19,7 +19,7 @@ const NO_FILE: i32 = -1;
 /// public numbers into the registers. It takes no memory. That nothing stays isn't proved.
 #[inline(never)]
 pub fn sign_erased(
-    doublings: &Doublings,
+    table: &BaseTable,
     seed: &[u8],
     public: &[u8; 32],
     message: &[u8],
@@ -31,11 +31,11 @@ pub fn sign_erased(
     // It is called at two places: Rattle's own compiler inlines a function that is called at one, and
     // what this one leaves would lie in a frame that is in use while the stack is cleared.
     let signature = if message.is_empty() {
-        sign_with_copy(doublings, seed, public, &[])
+        sign_with_copy(table, seed, public, &[])
     } else {
-        sign_with_copy(doublings, seed, public, message)
+        sign_with_copy(table, seed, public, message)
     };
-    use_registers(doublings);
+    use_registers();
     clear_stack();
     signature
 }
@@ -44,7 +44,7 @@ pub fn sign_erased(
 // system, which reads it for all that the compiler knows, so that the zeros are written.
 #[inline(never)]
 fn sign_with_copy(
-    doublings: &Doublings,
+    table: &BaseTable,
     seed: &[u8],
     public: &[u8; 32],
     message: &[u8],
@@ -55,22 +55,17 @@ fn sign_with_copy(
 {
     let mut key = [0u8; 32];
     key.copy_from_slice(seed);
-    let signature = sign_checked(doublings, &key, public, message);
+    let signature = sign_checked(table, &key, public, message);
     key.fill(0);
     libc::write(NO_FILE, &key);
     signature
 }
 
-// Puts numbers that are public into the registers that multiplications use: one step of a multiple.
+// Puts numbers that are public into the registers that multiplications use: a sum of points.
 #[inline(never)]
-fn use_registers(doublings: &Doublings) -> isize {
-    let one = Words {
-        w0: 1,
-        w1: 0,
-        w2: 0,
-        w3: 0,
-    };
-    let point = doublings.multiple_by_bits(&one, 1);
+fn use_registers() -> isize {
+    let base = Point::base();
+    let point = base.add(&Addend::of(&base));
     libc::write(NO_FILE, &point.encode().to_bytes())
 }
 

@@ -9,16 +9,16 @@ ghost use Rattle.curve25519.specs.Encoding.{encoded};
 ghost use Rattle.ed25519.specs.Keys.{public_key};
 
 use crate::hash::hash_of;
-use curve25519::Doublings;
+use curve25519_multiples::BaseTable;
 use words64::Words;
 
 /// The public key of a seed, 32 bytes each (RFC 8032, section 5.1.5). It takes no memory and can't
 /// fail.
 #[inline(never)]
-pub fn public_key(doublings: &Doublings, seed: &[u8; 32]) -> [u8; 32]
+pub fn public_key(table: &BaseTable, seed: &[u8; 32]) -> [u8; 32]
     ensures { result ≡ public_key seed.now }
 {
-    encoded_multiple(doublings, &secret_scalar_of(&hash_of(seed)))
+    encoded_multiple(table, &secret_scalar_of(&hash_of(seed)))
 }
 
 // The secret scalar of the hash of a seed.
@@ -29,8 +29,8 @@ pub(crate) fn secret_scalar_of(hash: &[u8; 64]) -> Words
 }
 
 // The encoding of [s]B.
-pub(crate) fn encoded_multiple(doublings: &Doublings, s: &Words) -> [u8; 32]
+pub(crate) fn encoded_multiple(table: &BaseTable, s: &Words) -> [u8; 32]
     ensures { result ≡ octets (encoded (multiply s.now base)) }
 {
-    doublings.multiple(s).encode().to_bytes()
+    table.multiple(s).encode().to_bytes()
 }

@@ -8,7 +8,7 @@ mod keys;
 mod sign;
 mod verification;
 
-pub use curve25519::Doublings;
+pub use curve25519_multiples::BaseTable;
 pub use erase::sign_erased;
 pub use keys::public_key;
 pub use sign::sign_checked;

@@ -7,7 +7,7 @@ ghost use Rattle.ed25519.specs.Signatures.{signature};
 
 use crate::hash::{hash_of, hash_of_three, hash_of_two};
 use crate::keys::{encoded_multiple, secret_scalar_of};
-use curve25519::Doublings;
+use curve25519_multiples::BaseTable;
 use scalar25519::Scalar;
 use words64::Words;
 
@@ -17,7 +17,7 @@ use words64::Words;
 /// The public key is made anew from the seed, so that no key that was stored wrongly, and none that
 /// another chose, gets into a signature.
 pub fn sign_checked(
-    doublings: &Doublings,
+    table: &BaseTable,
     seed: &[u8; 32],
     public: &[u8; 32],
     message: &[u8],
@@ -27,17 +27,37 @@ pub fn sign_checked(
 {
     let hash = hash_of(seed);
     let scalar = secret_scalar_of(&hash);
-    let made = encoded_multiple(doublings, &scalar);
+    let made = encoded_multiple(table, &scalar);
     if made != *public {
         return None;
     }
-    Some(sign_expanded(doublings, &hash, &scalar, &made, message))
+    sign_twice(table, &hash, &scalar, &made, message)
+}
+
+// The signature of a message, made twice. Nonces don't change, so one in which the machine made a fault would give the
+// secret scalar away beside a right one: where both aren't the same, none leaves.
+fn sign_twice(
+    table: &BaseTable,
+    hash: &[u8; 64],
+    scalar: &Words,
+    public: &[u8; 32],
+    message: &[u8],
+) -> Option<[u8; 64]>
+    ensures { (seed : List ℕ) → hash.now ≡ sha512 seed → scalar.now ≡ secret_scalar seed
+        → public.now ≡ public_key seed → MatchOption result ⊥ (λ s. s ≡ signature seed message.now) }
+{
+    let signature = sign_expanded(table, hash, scalar, public, message);
+    let again = sign_expanded(table, hash, scalar, public, message);
+    if again != signature {
+        return None;
+    }
+    Some(signature)
 }
 
 // The signature of a message, of a seed's hash, secret scalar and public key.
 #[inline(never)]
 fn sign_expanded(
-    doublings: &Doublings,
+    table: &BaseTable,
     hash: &[u8; 64],
     scalar: &Words,
     public: &[u8; 32],
@@ -47,7 +67,7 @@ fn sign_expanded(
         → public.now ≡ public_key seed → result ≡ signature seed message.now }
 {
     let nonce = Scalar::from_bytes(&hash_of_two(&hash[32..], message));
-    let commitment = encoded_multiple(doublings, nonce.as_words());
+    let commitment = encoded_multiple(table, nonce.as_words());
     let challenge = Scalar::from_bytes(&hash_of_three(&commitment, public, message));
     let response = challenge.mul_add(scalar, &nonce);
     joined(&commitment, &response.as_words().to_bytes())

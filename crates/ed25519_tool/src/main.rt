@@ -2,7 +2,7 @@
 //! measure `ed25519` as it is built.
 #![tactic(auto)]
 
-use ed25519::{Doublings, public_key, sign_checked, verify};
+use ed25519::{BaseTable, public_key, sign_checked, verify};
 use hex::FromHex;
 use std::rt::Files;
 use std::{env, fs, io};
@@ -27,10 +27,10 @@ fn main(rt: HostRuntime) -> io::Result<()> {
 
 /// A line of answer for each line of the file.
 fn answer_lines(rt: &(impl Files + AllocGlobal + Print), file: &str) -> io::Result<()> {
-    let doublings = Doublings::new(rt.alloc())?;
+    let table = BaseTable::new(rt.alloc())?;
     let text = fs::read_to_string(rt, file)?;
     for line in text.lines() {
-        let answer = answer_of(rt, &doublings, line)?;
+        let answer = answer_of(rt, &table, line)?;
         say(rt, &answer)?;
     }
     Ok(())
@@ -49,7 +49,7 @@ fn say(rt: &(impl AllocGlobal + Print), answer: &Answer) -> io::Result<()> {
 
 /// The answer to one line: `key SEED`, `sign SEED PUBLIC MESSAGE` or `verify PUBLIC SIGNATURE
 /// MESSAGE`, in hexadecimal, where an empty message is left out.
-fn answer_of(rt: &impl AllocGlobal, doublings: &Doublings, line: &str) -> io::Result<Answer> {
+fn answer_of(rt: &impl AllocGlobal, table: &BaseTable, line: &str) -> io::Result<Answer> {
     let mut words = line.split_whitespace();
     let verb = words.next().unwrap_or("");
     let first = words.next().unwrap_or("");
@@ -58,25 +58,25 @@ fn answer_of(rt: &impl AllocGlobal, doublings: &Doublings, line: &str) -> io::Re
         return Ok(Answer::NotALine);
     };
     Ok(match verb {
-        "key" => key_answer(doublings, first),
-        "sign" => sign_answer(doublings, first, second, &message),
-        "verify" => verify_answer(doublings, first, second, &message),
+        "key" => key_answer(table, first),
+        "sign" => sign_answer(table, first, second, &message),
+        "verify" => verify_answer(table, first, second, &message),
         _ => Answer::NotALine,
     })
 }
 
 /// The public key of a seed.
-fn key_answer(doublings: &Doublings, seed: &str) -> Answer {
+fn key_answer(table: &BaseTable, seed: &str) -> Answer {
     match key_of(seed) {
-        Some(seed) => Answer::Key(public_key(doublings, &seed)),
+        Some(seed) => Answer::Key(public_key(table, &seed)),
         None => Answer::NotALine,
     }
 }
 
 /// The signature of a message under a seed.
-fn sign_answer(doublings: &Doublings, seed: &str, public: &str, message: &[u8]) -> Answer {
+fn sign_answer(table: &BaseTable, seed: &str, public: &str, message: &[u8]) -> Answer {
     match (key_of(seed), key_of(public)) {
-        (Some(seed), Some(public)) => match sign_checked(doublings, &seed, &public, message) {
+        (Some(seed), Some(public)) => match sign_checked(table, &seed, &public, message) {
             Some(signature) => Answer::Signature(signature),
             None => Answer::Refused,
         },
@@ -85,10 +85,10 @@ fn sign_answer(doublings: &Doublings, seed: &str, public: &str, message: &[u8]) 
 }
 
 /// Whether a signature is right.
-fn verify_answer(doublings: &Doublings, public: &str, signature: &str, message: &[u8]) -> Answer {
+fn verify_answer(table: &BaseTable, public: &str, signature: &str, message: &[u8]) -> Answer {
     match (key_of(public), signature_of(signature)) {
         (Some(public), Some(signature)) => {
-            Answer::Verdict(verify(doublings, &public, message, &signature))
+            Answer::Verdict(verify(table, &public, message, &signature))
         }
         _ => Answer::NotALine,
     }

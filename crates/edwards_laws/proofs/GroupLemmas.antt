@@ -31,7 +31,7 @@ to-on p on =
     record { x_below = on.x_below; y_below = on.y_below; on = equation-of prime curve_d p.x p.y some on.on_curve }
 
 -- and back
-from-on : (p : Affine) → IsOn prime curve_d p.x p.y → IsPoint p
+pub from-on : (p : Affine) → IsOn prime curve_d p.x p.y → IsPoint p
 unfolding field_add field_mul field_sub
 from-on p on =
     record { x_below = on.x_below; y_below = on.y_below; on_curve = equation-to prime curve_d p.x p.y some on.on }

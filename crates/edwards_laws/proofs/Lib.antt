@@ -12,3 +12,6 @@ pub mod CurveLemmas
 pub mod GroupLemmas
 pub mod FormulaLemmas
 pub mod MultipleLemmas
+pub mod EncodedLemmas
+pub mod RootLemmas
+pub mod DecodedLemmas

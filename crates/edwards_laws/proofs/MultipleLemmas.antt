@@ -96,7 +96,7 @@ loop-same (suc bits) s p sum =
     ∙ ap (λ t. multiply_from bits (s / 2) (point_add p p) t) (choose-same (s % 2) sum (point_add sum p))
 
 -- [1]P is P
-once : (x : Affine) → IsPoint x → IsMultiple IsPointSum neutral_point x 1 x
+pub once : (x : Affine) → IsPoint x → IsMultiple IsPointSum neutral_point x 1 x
 once x on = once_more 0 neutral_point x no_times (group.neutral_adds_nothing x on)
 
 -- and 0 + 1 k is k

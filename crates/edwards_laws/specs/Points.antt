@@ -42,3 +42,8 @@ pub record StandsFor (point : Point) (p : Affine) : Type 0 where
   pub t_is : point.t ≡ field_mul (field_mul p.x p.y) point.z
   pub z_some : 0 < point.z
   pub z_below : point.z < prime
+
+-- a point for which the coordinates stand
+pub record HasPoint (point : Point) : Type 0 where
+  pub p : Affine
+  pub is : StandsFor point p

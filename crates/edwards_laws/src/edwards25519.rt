@@ -1,14 +1,15 @@
 //! The group of the points of edwards25519.
 
-ghost use Rattle.std.specs.Prelude.{◌≡◌, ◌≢◌, ◌<◌, ◌+◌, ◌*◌, ◌^◌, ℕ};
+ghost use Rattle.std.specs.Prelude.{◌≡◌, ◌≢◌, ◌<◌, ◌+◌, ◌*◌, ◌%◌, ◌^◌, ℕ, Some};
 ghost use Rattle.field25519.specs.Field.{field_mul, prime};
 ghost use Rattle.scalar25519.specs.Scalars.{order};
 ghost use Rattle.curve25519.specs.declared.point.Point.{Point as APoint};
+ghost use Rattle.curve25519.specs.Encoding.{decoded, encoded};
 ghost use Rattle.curve25519.specs.Multiples.{multiply};
-ghost use Rattle.curve25519.specs.Points.{base, curve_d, neutral, point_add};
+ghost use Rattle.curve25519.specs.Points.{base, curve_d, negated, neutral, point_add};
 ghost use Rattle.prime_laws.specs.Primes.{IsPrime};
 ghost use Rattle.group_laws.specs.Groups.{HasMultiple, IsGroup, IsMultiple};
-ghost use Rattle.edwards_laws.specs.Points.{Affine, IsPoint, IsPointSum, StandsFor, base_point, neutral_point};
+ghost use Rattle.edwards_laws.specs.Points.{Affine, HasPoint, IsPoint, IsPointSum, StandsFor, base_point, neutral_point};
 
 /// p, which is 2^255 - 19, is prime.
 pub fn p_is_prime()
@@ -32,6 +33,17 @@ pub fn the_formula_adds()
         → StandsFor (point_add p q) third }
     ensures neutral { StandsFor neutral neutral_point }
     ensures base { StandsFor base base_point }
+{}
+
+/// What is encoded of coordinates is the encoding of the point for which they stand: y, and the lowest bit of x.
+pub fn what_is_encoded_is_the_point()
+    ensures { (p : APoint) (z : Affine) → StandsFor p z → encoded p ≡ z.y + 2 ^ 255 * (z.x % 2) }
+{}
+
+/// What is decoded stands for a point of the curve, and so does its opposite.
+pub fn what_is_decoded_is_a_point()
+    ensures point { (n : ℕ) (p : APoint) → decoded n ≡ Some p → HasPoint p }
+    ensures opposite { (p : APoint) (z : Affine) → StandsFor p z → HasPoint (negated p) }
 {}
 
 /// Each number has a multiple of each point, one alone, which is a point.

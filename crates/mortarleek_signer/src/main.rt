@@ -29,7 +29,7 @@ fn run<W: Wait>(rt: &HostRuntime, wait: &W) -> IoResult<HelperStatus> {
     let alloc = rt.alloc();
     let mut words: Vec<String> = env::args(rt)?.skip(1).collect(alloc)?;
     put_ticket(rt, words.as_mut_slice())?;
-    let keys = SignerKeys::new(alloc)?;
+    let keys = SignerKeys::new(alloc);
     let job = word(alloc, &words, 1)?.unwrap_or(String::new(alloc));
     let mut behind = ProgramBehind::new(rt, word(alloc, &words, 3)?, job);
     if let Some(path) = words.first() {

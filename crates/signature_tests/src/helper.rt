@@ -68,7 +68,7 @@ fn words(alloc: Global) -> Result<Vec<String>, AllocError> {
 #[test]
 fn a_known_key_signs_here_and_another_behind(rt: HostRuntime) -> Result<(), Fail> {
     let alloc = rt.alloc();
-    let keys = SignerKeys::new(alloc)?;
+    let keys = SignerKeys::new(alloc);
     let words = words(alloc)?;
     let stream = bytes(alloc, &[SIGN, LENGTH_OF_OTHER, SIGN_OTHER, VERIFY])?;
     let request = bytes(alloc, &[SIGN_OTHER])?;

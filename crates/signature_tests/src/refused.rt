@@ -1,7 +1,7 @@
 //! What RFC 8032, sections 5.1.3 and 5.1.7, refuses. The signature of 64 bytes below is right under the key
 //! of the neutral point for each message, since R is then [S]B: B itself, and S = 1.
 
-use ed25519::{Doublings, public_key, sign_checked, verify};
+use ed25519::{BaseTable, public_key, sign_checked, verify};
 
 // The encoding of the base point: y = 4/5 (RFC 8032, section 5.1).
 const BASE: [u8; 32] = [
@@ -36,25 +36,25 @@ fn signature_of(more: u8) -> [u8; 64] {
 
 #[test]
 fn a_response_that_is_not_below_the_order_is_refused(rt: HostRuntime) {
-    let doublings = Doublings::new(rt.alloc()).expect(&rt, "memory");
+    let table = BaseTable::new(rt.alloc()).expect(&rt, "memory");
     let neutral = key_of(1, 0, 0);
-    assert!(rt; verify(&doublings, &neutral, b"any", &signature_of(0)));
-    assert!(rt; !verify(&doublings, &neutral, b"any", &signature_of(1)));
+    assert!(rt; verify(&table, &neutral, b"any", &signature_of(0)));
+    assert!(rt; !verify(&table, &neutral, b"any", &signature_of(1)));
 }
 
 #[test]
 fn keys_that_are_no_encodings_are_refused(rt: HostRuntime) {
-    let doublings = Doublings::new(rt.alloc()).expect(&rt, "memory");
+    let table = BaseTable::new(rt.alloc()).expect(&rt, "memory");
     let right = signature_of(0);
     // The neutral point with the sign of x set, and with y = p + 1; and y = 2, to which no x belongs.
-    assert!(rt; !verify(&doublings, &key_of(1, 0, 0x80), b"any", &right));
-    assert!(rt; !verify(&doublings, &key_of(0xee, 0xff, 0x7f), b"any", &right));
-    assert!(rt; !verify(&doublings, &key_of(2, 0, 0), b"any", &right));
+    assert!(rt; !verify(&table, &key_of(1, 0, 0x80), b"any", &right));
+    assert!(rt; !verify(&table, &key_of(0xee, 0xff, 0x7f), b"any", &right));
+    assert!(rt; !verify(&table, &key_of(2, 0, 0), b"any", &right));
 }
 
 #[test]
 fn nothing_is_signed_under_the_public_key_of_another(rt: HostRuntime) {
-    let doublings = Doublings::new(rt.alloc()).expect(&rt, "memory");
-    let other = public_key(&doublings, &[2; 32]);
-    assert!(rt; sign_checked(&doublings, &[1; 32], &other, b"any").is_none());
+    let table = BaseTable::new(rt.alloc()).expect(&rt, "memory");
+    let other = public_key(&table, &[2; 32]);
+    assert!(rt; sign_checked(&table, &[1; 32], &other, b"any").is_none());
 }

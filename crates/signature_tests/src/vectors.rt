@@ -1,6 +1,6 @@
 //! Tests of Ed25519's keys, signatures and verification by the vectors of RFC 8032.
 
-use ed25519::{Doublings, public_key, sign_checked, verify};
+use ed25519::{BaseTable, public_key, sign_checked, verify};
 use hex::FromHex;
 
 // Seed, public key, message and signature.
@@ -32,7 +32,7 @@ const ROWS: [(&str, &str, &str, &str); 4] = [
 ];
 
 // Whether the three calls give what a row says.
-fn agrees(rt: &impl AllocGlobal, doublings: &Doublings, row: (&str, &str, &str, &str)) -> bool {
+fn agrees(rt: &impl AllocGlobal, table: &BaseTable, row: (&str, &str, &str, &str)) -> bool {
     let Ok(seed) = <[u8; 32] as FromHex>::from_hex(row.0) else {
         return false;
     };
@@ -45,16 +45,16 @@ fn agrees(rt: &impl AllocGlobal, doublings: &Doublings, row: (&str, &str, &str, 
     let Ok(signature) = <[u8; 64] as FromHex>::from_hex(row.3) else {
         return false;
     };
-    let signed = sign_checked(doublings, &seed, &public, &message);
-    public_key(doublings, &seed) == public
+    let signed = sign_checked(table, &seed, &public, &message);
+    public_key(table, &seed) == public
         && signed == Some(signature)
-        && verify(doublings, &public, &message, &signature)
+        && verify(table, &public, &message, &signature)
 }
 
 #[test]
 fn the_vectors_of_rfc_8032_come_out(rt: HostRuntime) {
-    let doublings = Doublings::new(rt.alloc()).expect(&rt, "memory");
+    let table = BaseTable::new(rt.alloc()).expect(&rt, "memory");
     for row in ROWS {
-        assert!(rt; agrees(&rt, &doublings, row), "{}", row.0);
+        assert!(rt; agrees(&rt, &table, row), "{}", row.0);
     }
 }

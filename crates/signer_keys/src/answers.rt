@@ -141,12 +141,8 @@ fn ed25519_signature(
         (λ t. signature_by Kind.Ed25519 (signing_of request.now) ≡ Ok t.items)) }
     ensures sized { IfOk result (λ text. IfSome text (λ t. length t.items ≤ 1064)) }
 {
-    match ed25519_signatures::sign(
-        &keys.ed25519,
-        request.private,
-        request.blob,
-        request.message,
-    ) {
+    let table = keys.ed25519()?;
+    match ed25519_signatures::sign(table, request.private, request.blob, request.message) {
         Ok(bytes) => Ok(Some(ed25519_signatures::text(keys.alloc, &bytes)?)),
         Err(_) => Ok(None),
     }
@@ -158,7 +154,8 @@ fn p256_signature(keys: &SignerKeys, request: &Request<'_>) -> Result<Option<Vec
         (λ t. signature_by Kind.EcdsaP256 (signing_of request.now) ≡ Ok t.items)) }
     ensures sized { IfOk result (λ text. IfSome text (λ t. length t.items ≤ 1064)) }
 {
-    match p256_signatures::sign(&keys.p256, request.private, request.blob, request.message) {
+    let table = keys.p256()?;
+    match p256_signatures::sign(table, request.private, request.blob, request.message) {
         Ok(bytes) => Ok(Some(p256_signatures::text(keys.alloc, &bytes)?)),
         Err(_) => Ok(None),
     }
@@ -170,7 +167,8 @@ fn p384_signature(keys: &SignerKeys, request: &Request<'_>) -> Result<Option<Vec
         (λ t. signature_by Kind.EcdsaP384 (signing_of request.now) ≡ Ok t.items)) }
     ensures sized { IfOk result (λ text. IfSome text (λ t. length t.items ≤ 1064)) }
 {
-    match p384_signatures::sign(&keys.p384, request.private, request.blob, request.message) {
+    let table = keys.p384()?;
+    match p384_signatures::sign(table, request.private, request.blob, request.message) {
         Ok(bytes) => Ok(Some(p384_signatures::text(keys.alloc, &bytes)?)),
         Err(_) => Ok(None),
     }
@@ -182,7 +180,8 @@ fn p521_signature(keys: &SignerKeys, request: &Request<'_>) -> Result<Option<Vec
         (λ t. signature_by Kind.EcdsaP521 (signing_of request.now) ≡ Ok t.items)) }
     ensures sized { IfOk result (λ text. IfSome text (λ t. length t.items ≤ 1064)) }
 {
-    match p521_signatures::sign(&keys.p521, request.private, request.blob, request.message) {
+    let table = keys.p521()?;
+    match p521_signatures::sign(table, request.private, request.blob, request.message) {
         Ok(bytes) => Ok(Some(p521_signatures::text(keys.alloc, &bytes)?)),
         Err(_) => Ok(None),
     }

@@ -8,9 +8,9 @@ ghost use Rattle.wire_text.specs.Wire.{string};
 use crate::answers::put_signature;
 use crate::keys::SignerKeys;
 use crate::request::Request;
+use p256_curve::Point;
 use secret_buf::ScrubBuf;
 use std::alloc::AllocError;
-use wide_words::U256;
 
 /// Several times what a signature takes of the stack, in bytes.
 const DEPTH: usize = 65536;
@@ -36,15 +36,15 @@ pub fn put_erased(
     } else {
         put_signature(keys, request, out)
     };
-    use_registers(keys);
+    use_registers();
     clear_stack();
     put
 }
 
-// Puts numbers that are public into the registers that multiplications use: one step of a multiple.
+// Puts numbers that are public into the registers that multiplications use: a sum of points.
 #[inline(never)]
-fn use_registers(keys: &SignerKeys) -> isize {
-    let point = keys.p256.multiple_by_bits(&U256::zero(), 1);
+fn use_registers() -> isize {
+    let point = Point::base().add(&Point::base());
     libc::write(NO_FILE, &point.affine_x().to_bytes())
 }
 

@@ -9,13 +9,13 @@ ghost use Rattle.wire_core.specs.Readings.{IsAnswer};
 use crate::numbers::{in_48_bytes, put_mpint, signature_text};
 use ecdsa_wire::{Curve, read_pair, read_signature};
 use key_wire::KeyFault;
-use p384_ecdsa::{Doublings, sign_checked, verify};
+use p384_ecdsa::{BaseTable, sign_checked, verify};
 use std::alloc::{AllocError, Global};
 
 /// r and s in 48 bytes each, where the private string and the blob are one key's over P-384.
 #[tactic(auto, unfolding(crate::specs::Ecdsa::ecdsa_signature))]
 pub fn sign(
-    doublings: &Doublings,
+    table: &BaseTable,
     private: &[u8],
     blob: &[u8],
     message: &[u8],
@@ -25,7 +25,7 @@ pub fn sign(
     let pair = read_pair(private, blob)?;
     let point = point_of(pair.curve, pair.point)?;
     let number = in_48_bytes(pair.secret)?;
-    sign_by(doublings, &number, &point, message).ok_or(KeyFault::Unfit)
+    sign_by(table, &number, &point, message).ok_or(KeyFault::Unfit)
 }
 
 /// The bytes of a point, where the curve is P-384.
@@ -51,14 +51,14 @@ pub fn as_point(bytes: &[u8]) -> [u8; 97]
 
 // r and s, where the number gives the point.
 fn sign_by(
-    doublings: &Doublings,
+    table: &BaseTable,
     number: &[u8; 48],
     point: &[u8; 97],
     message: &[u8],
 ) -> Option<[u8; 96]>
     ensures { option_map (λ bytes. bytes) result ≡ p384_signed (big_endian number.now) point.now message.now }
 {
-    sign_checked(doublings, number, point, message)
+    sign_checked(table, number, point, message)
 }
 
 /// A signature as SSH carries it.
@@ -76,7 +76,7 @@ pub fn text(alloc: Global, bytes: &[u8; 96]) -> Result<Vec<u8>, AllocError>
 /// Whether the point accepts the signature of the message, where this is one.
 #[tactic(auto, unfolding(crate::specs::Ecdsa::ecdsa_judged))]
 pub fn judge(
-    doublings: &Doublings,
+    table: &BaseTable,
     point: &[u8; 97],
     message: &[u8],
     text: &[u8],
@@ -86,7 +86,7 @@ pub fn judge(
     let numbers = read_signature(text, Curve::P384)?;
     let r = in_48_bytes(numbers.r)?;
     let s = in_48_bytes(numbers.s)?;
-    Ok(verify(doublings, point, message, &joined(&r, &s)))
+    Ok(verify(table, point, message, &joined(&r, &s)))
 }
 
 // r and s, one after the other.

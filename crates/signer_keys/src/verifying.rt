@@ -171,18 +171,18 @@ fn signs(
 {
     match key {
         Public::Ed25519(public) => {
-            Ok(ed25519_signatures::judge(&keys.ed25519, public, message, signature).unwrap_or(
+            Ok(ed25519_signatures::judge(keys.ed25519()?, public, message, signature).unwrap_or(
                 false,
             ))
         }
         Public::EcdsaP256(point) => {
-            Ok(p256_signatures::judge(&keys.p256, point, message, signature).unwrap_or(false))
+            Ok(p256_signatures::judge(keys.p256()?, point, message, signature).unwrap_or(false))
         }
         Public::EcdsaP384(point) => {
-            Ok(p384_signatures::judge(&keys.p384, point, message, signature).unwrap_or(false))
+            Ok(p384_signatures::judge(keys.p384()?, point, message, signature).unwrap_or(false))
         }
         Public::EcdsaP521(point) => {
-            Ok(p521_signatures::judge(&keys.p521, point, message, signature).unwrap_or(false))
+            Ok(p521_signatures::judge(keys.p521()?, point, message, signature).unwrap_or(false))
         }
         Public::Rsa(key) => rsa_signatures::signs(keys.alloc, key, message, signature),
     }

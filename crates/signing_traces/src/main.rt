@@ -4,7 +4,7 @@
 
 ghost use Rattle.std.specs.Prelude.{◌≡◌, length};
 
-use ed25519::{Doublings, sign_checked, sign_erased};
+use ed25519::{BaseTable, sign_checked, sign_erased};
 use std::io::Read;
 use std::{env, io};
 
@@ -17,7 +17,7 @@ fn main(rt: HostRuntime) -> io::Result<()> {
         Some(word) => word.as_str() == "erased",
         None => false,
     };
-    let doublings = Doublings::new(rt.alloc())?;
+    let table = BaseTable::new(rt.alloc())?;
     let mut input = rt.stdin();
     let mut seed = Vec::from_slice(rt.alloc(), &[0u8; 32])?;
     let mut public = [0u8; 32];
@@ -28,9 +28,9 @@ fn main(rt: HostRuntime) -> io::Result<()> {
         return Err(io::ErrorKind::InvalidInput.into());
     }
     let signature = if erases {
-        sign_erased(&doublings, seed.as_slice(), &public, &MESSAGE)
+        sign_erased(&table, seed.as_slice(), &public, &MESSAGE)
     } else {
-        sign_plainly(&doublings, seed.as_slice(), &public)
+        sign_plainly(&table, seed.as_slice(), &public)
     };
     seed.as_mut_slice().fill(0);
     // Nothing else runs before the other process has looked.
@@ -44,10 +44,10 @@ fn main(rt: HostRuntime) -> io::Result<()> {
 
 /// Signs, and leaves what that leaves.
 #[inline(never)]
-fn sign_plainly(doublings: &Doublings, seed: &[u8], public: &[u8; 32]) -> Option<[u8; 64]>
+fn sign_plainly(table: &BaseTable, seed: &[u8], public: &[u8; 32]) -> Option<[u8; 64]>
     requires { length seed.now ≡ 32 }
 {
     let mut key = [0u8; 32];
     key.copy_from_slice(seed);
-    sign_checked(doublings, &key, public, &MESSAGE)
+    sign_checked(table, &key, public, &MESSAGE)
 }

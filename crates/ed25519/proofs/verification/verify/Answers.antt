@@ -3,6 +3,7 @@ use Rattle.words64.specs.Numbers.{little_endian}
 use Rattle.scalar25519.specs.Scalars.{order}
 use Rattle.curve25519.specs.Encoding.{decoded}
 use Rattle.ed25519.specs.Signatures.{challenge}
+use Rattle.edwards_laws.proofs.DecodedLemmas.{decoded-stands}
 use Rattle.ed25519.proofs.VerifyingLemmas.{accepts-meets, accepts-refused, meets-none, meets-some}
 use Rattle.ed25519.proofs.verification.verify.Goals as goal
 
@@ -27,3 +28,6 @@ returns-in-None c =
     c.decode.result _ c.from_bytes-s.ensures (sym c.if-not-is_below_order.ensures) c.from_bytes-r.ensures refl
     (c.decode.ensures ∙ ap decoded c.from_bytes.ensures)
     (meets-none _ _ _ _ c.in-None.is)
+
+pub holds-requires : goal.holds-requires
+holds-requires c = decoded-stands _ _ (sym c.decode.ensures ∙ c.in-Some.is)

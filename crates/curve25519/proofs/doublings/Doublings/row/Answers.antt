@@ -1,5 +1,0 @@
-use Rattle.std.proofs.Common.{◌∙◌}
-use Rattle.curve25519.proofs.doublings.Doublings.row.Goals as goal
-
-pub returns : goal.returns
-returns c = c.index.ensures ∙ c.args.self.now.prepared.row c.args.place c.index.result.now c.requires

@@ -1,0 +1,24 @@
+use Rattle.std.proofs.Common.{◌∙◌, ap, sym, arith, refl, length-set}
+use Rattle.curve25519.specs.Points.{addend_of, neutral, point_add}
+use Rattle.group_laws.proofs.DigitLemmas.{row-set, times-next, times-none}
+use Rattle.curve25519_multiples.proofs.windows.row_of.Goals as goal
+
+pub loop-place-init : goal.loop-place-init
+loop-place-init c = record {
+  next = c.neutral-entry.ensures ∙ sym (times-none point_add neutral _);
+  size = refl;
+  entry = λ place other below. absurd (omega arith);
+}
+
+pub loop-place-preserved : goal.loop-place-preserved
+loop-place-preserved c =
+    let l = c.loop-place in
+    record {
+      next = times-next point_add neutral l.place _ _ _ l.invariant.next (c.add-entry.ensures _ c.of-addend.ensures);
+      size = simp length-set l.invariant.size;
+      entry = row-set addend_of point_add neutral _ _ l.place _ c.loop-place-test.true l.invariant.size l.invariant.entry
+          (c.of-in-loop-place.ensures ∙ ap addend_of l.invariant.next);
+    }
+
+pub returns : goal.returns
+returns c = record { entry = λ place other below. c.loop-place.invariant.entry place other (omega arith) }

@@ -1,0 +1,136 @@
+//! The multiples of the base point in a table, so that any multiple of it is a sum of few.
+
+ghost use Rattle.std.specs.Prelude.{◌≡◌, ◌<◌, ◌≤◌, ◌+◌, ◌*◌, ◌^◌};
+ghost use Rattle.curve25519.specs.Encoding.{encoded};
+ghost use Rattle.curve25519.specs.Multiples.{multiply};
+ghost use Rattle.curve25519.specs.Points.{addend_of, base, neutral, point_add};
+ghost use Rattle.edwards_laws.specs.Points.{Affine, IsPointSum, StandsFor, base_point, neutral_point};
+ghost use Rattle.group_laws.specs.Digits.{by_digits, step_of, times, IsTable};
+ghost use Rattle.group_laws.specs.Groups.{IsMultiple};
+
+use crate::digits::{Digit, copied, low_digit, without_digit};
+use crate::rows::{WIDTH, push_row};
+use curve25519::{Addend, Point};
+use std::alloc::{AllocError, Global};
+use words64::Words;
+
+// One for each digit of a number.
+const ROWS: usize = 64;
+
+/// [j 16^i]B for i from 0 to 63 and j from 0 to 15, prepared for additions: 160 KiB on the heap. With it a multiple of the
+/// base point takes an addition for each four bits, and no doubling.
+#[derive(Drop)]
+pub struct BaseTable {
+    entries: Vec<Addend>,
+    ghost prepared: { IsTable addend_of point_add neutral base 64 entries.items },
+}
+
+impl BaseTable {
+    /// The table. Fails for want of memory alone.
+    pub fn new(alloc: Global) -> Result<BaseTable, AllocError> {
+        let mut entries = Vec::new(alloc);
+        let mut step = Point::base();
+        for _row in 0..ROWS {
+            step = push_row(&mut entries, &step)?;
+        }
+        Ok(BaseTable { entries })
+    }
+
+    /// [s]B: coordinates that stand for it, with its encoding. The steps, and the places that are read, are the same for
+    /// each s.
+    #[inline(never)]
+    pub fn multiple(&self, s: &Words) -> Point
+        ensures stands { (z : Affine) → IsMultiple IsPointSum neutral_point base_point s.now z → StandsFor result z }
+        ensures encoded { encoded result ≡ encoded (multiply s.now base) }
+        ensures fits { s.now < 2 ^ 256 }
+    {
+        self.sum_of_entries(s)
+    }
+
+    // The sum of one entry of each row.
+    #[inline(always)]
+    fn sum_of_entries(&self, s: &Words) -> Point
+        ensures value { result ≡ by_digits point_add neutral 64 0 s.now base neutral }
+        ensures fits { s.now < 2 ^ 256 }
+    {
+        let mut sum = Point::neutral();
+        let mut rest = copied(s);
+        for row in 0..ROWS {
+            sum = sum.add(&self.entry(row, low_digit(&rest)));
+            rest = without_digit(&rest);
+        }
+        sum
+    }
+
+    // The entry of a row for a digit. All of the row are read, and one is kept by four choices, each under a mask that is made
+    // of a bit of the number: of whether two digits are the same a compiler makes a branch.
+    #[inline(always)]
+    fn entry(&self, row: usize, digit: Digit) -> Addend
+        requires row { row < 64 }
+        requires ones { digit.ones ≤ 1 }
+        requires twos { digit.twos ≤ 1 }
+        requires fours { digit.fours ≤ 1 }
+        requires eights { digit.eights ≤ 1 }
+        ensures { result ≡ addend_of (times point_add neutral
+            (digit.ones + 2 * digit.twos + 4 * digit.fours + 8 * digit.eights)
+            (step_of point_add neutral row base)) }
+    {
+        let low = self.of_eight(row, 0, digit);
+        let high = self.of_eight(row, 8, digit);
+        low.choice(&high, digit.eights)
+    }
+
+    // One of eight entries of a row from a place on.
+    #[inline(always)]
+    fn of_eight(&self, row: usize, place: usize, digit: Digit) -> Addend
+        requires row { row < 64 }
+        requires place { place + 7 < 16 }
+        requires ones { digit.ones ≤ 1 }
+        requires twos { digit.twos ≤ 1 }
+        requires fours { digit.fours ≤ 1 }
+        ensures { result ≡ addend_of (times point_add neutral (place + digit.ones + 2 * digit.twos + 4 * digit.fours)
+            (step_of point_add neutral row base)) }
+    {
+        let low = self.of_four(row, place, digit);
+        let high = self.of_four(row, place + 4, digit);
+        low.choice(&high, digit.fours)
+    }
+
+    // One of four.
+    #[inline(always)]
+    fn of_four(&self, row: usize, place: usize, digit: Digit) -> Addend
+        requires row { row < 64 }
+        requires place { place + 3 < 16 }
+        requires ones { digit.ones ≤ 1 }
+        requires twos { digit.twos ≤ 1 }
+        ensures { result ≡ addend_of (times point_add neutral (place + digit.ones + 2 * digit.twos)
+            (step_of point_add neutral row base)) }
+    {
+        let low = self.of_two(row, place, digit.ones);
+        let high = self.of_two(row, place + 2, digit.ones);
+        low.choice(&high, digit.twos)
+    }
+
+    // One of two.
+    #[inline(always)]
+    fn of_two(&self, row: usize, place: usize, ones: u64) -> Addend
+        requires row { row < 64 }
+        requires place { place + 1 < 16 }
+        requires ones { ones ≤ 1 }
+        ensures { result ≡ addend_of (times point_add neutral (place + ones) (step_of point_add neutral row base)) }
+    {
+        let low = self.at(row, place);
+        let high = self.at(row, place + 1);
+        low.choice(high, ones)
+    }
+
+    // The entry at a place of a row.
+    #[inline(always)]
+    fn at(&self, row: usize, place: usize) -> &Addend
+        requires row { row < 64 }
+        requires place { place < 16 }
+        ensures { result.now ≡ addend_of (times point_add neutral place (step_of point_add neutral row base)) }
+    {
+        &self.entries[WIDTH * row + place]
+    }
+}
