@@ -95,6 +95,15 @@ delete
 IN_MEMORY = 'eval "monitor make_memory defined 0x%lx 32", $made'
 IN_REGISTERS = "\n".join(f"set ${register}s1 = 0" for register in ("rax", "rdx", "rcx", "rsi"))
 
+# What is watched ends where a signature was made for the second time: behind that both are compared.
+IS_MADE_TWICE = """
+break ed25519::sign::sign_expanded
+continue
+continue
+set $back = *(unsigned long*)$rsp
+delete
+"""
+
 
 def present(program, functions):
     """The first of these that the program has code of: what Rattle's own compiler inlined has a name, and no length."""
@@ -168,9 +177,11 @@ def an_ecdsa_signature_turns_but_where_the_standard_asks(folder):
 
 @check
 def the_helper_signs_alike_for_each_seed(folder):
-    """From the seed to the signature; behind it that is copied and written, which memcheck tells."""
+    """From the seed to the second signature; behind it both are compared, and one is copied and written, which memcheck
+    tells."""
     marks = IN_REGISTERS if rig.is_rattle_s(rig.there(HELPER)) else IN_MEMORY
-    holds(folder, of_helper, HELPER, SIGNS, TAKEN, IS_PUBLIC.format(function=GIVES, marks=marks))
+    public = IS_PUBLIC.format(function=GIVES, marks=marks) + IS_MADE_TWICE
+    holds(folder, of_helper, HELPER, SIGNS, TAKEN, public)
 
 
 @check
