@@ -36,21 +36,21 @@ chosen-is (suc (suc more)) place step other whole first second found p within fi
 -- ---- multiples of the base point
 
 -- the sum of the entries stands for the multiple
-sum-stands : (s : ℕ) → s < 2 ^ 256 → Stands base_point (by_digits point_add neutral 64 0 s base neutral) s
+sum-stands : (s : ℕ) → s < 2 ^ 256 → Stands base_point (by_digits point_add neutral 52 0 s base neutral) s
 sum-stands s below =
     let on = base-stands.is_point in
     all-digits-stand formula base_point on neutral neutral-stands base
-    (record { x = base_point; stands = base-stands; is = once base_point on }) 64 s below
+    (record { x = base_point; stands = base-stands; is = once base_point on }) 52 s (omega arith)
 
 -- the one that there is
-pub multiple-stands : (s : ℕ) (sum : Point) → s < 2 ^ 256 → sum ≡ by_digits point_add neutral 64 0 s base neutral
+pub multiple-stands : (s : ℕ) (sum : Point) → s < 2 ^ 256 → sum ≡ by_digits point_add neutral 52 0 s base neutral
     → (z : Affine) → IsMultiple IsPointSum neutral_point base_point s z → StandsFor sum z
 multiple-stands s sum below sum_is z z_is =
     let made = sum-stands s below in
     rw (sym sum_is) at (rw (multiple-unique group base_point base-stands.is_point s made.x z made.is z_is) at made.stands)
 
 -- encoded as `multiply` has it
-pub multiple-encoded : (s : ℕ) (sum : Point) → s < 2 ^ 256 → sum ≡ by_digits point_add neutral 64 0 s base neutral
+pub multiple-encoded : (s : ℕ) (sum : Point) → s < 2 ^ 256 → sum ≡ by_digits point_add neutral 52 0 s base neutral
     → encoded sum ≡ encoded (multiply s base)
 multiple-encoded s sum below sum_is =
     let made = sum-stands s below in

@@ -1,4 +1,4 @@
-//! Multiples of the points of edwards25519 by digits of four bits: of the base point by a table, of others by a row.
+//! Multiples of the points of edwards25519 by digits: of the base point by a table, of others by a row.
 //! Stands on `curve25519` and `words64`, its laws on `edwards_laws` and `group_laws`.
 #![tactic(auto)]
 

@@ -9,15 +9,15 @@ use curve25519::{Addend, Point};
 use std::alloc::AllocError;
 
 /// Entries of a row: one for each digit.
-pub const WIDTH: usize = 16;
+pub const WIDTH: usize = 32;
 
-/// Appends the multiples of a point by 0 to 15, and gives that by 16.
+/// Appends the multiples of a point by 0 to 31, and gives that by 32.
 pub fn push_row(entries: &mut Vec<Addend>, step: &Point) -> Result<Point, AllocError>
-    ensures next { IfOk result (λ next. next ≡ times point_add neutral 16 step.now) }
-    ensures size { OnOk result (length entries.new.items ≡ length entries.old.items + 16) }
+    ensures next { IfOk result (λ next. next ≡ times point_add neutral 32 step.now) }
+    ensures size { OnOk result (length entries.new.items ≡ length entries.old.items + 32) }
     ensures kept { OnOk result ((place : ℕ) (other : AnAddend) → place < length entries.old.items
         → slice_index_or entries.new.items place other ≡ slice_index_or entries.old.items place other) }
-    ensures row { OnOk result ((place : ℕ) (other : AnAddend) → place < 16
+    ensures row { OnOk result ((place : ℕ) (other : AnAddend) → place < 32
         → slice_index_or entries.new.items (length entries.old.items + place) other
         ≡ addend_of (times point_add neutral place step.now)) }
 {

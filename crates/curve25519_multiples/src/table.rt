@@ -8,21 +8,21 @@ ghost use Rattle.edwards_laws.specs.Points.{Affine, IsPointSum, StandsFor, base_
 ghost use Rattle.group_laws.specs.Digits.{by_digits, step_of, times, IsTable};
 ghost use Rattle.group_laws.specs.Groups.{IsMultiple};
 
-use crate::digits::{Digit, copied, low_digit, without_digit};
+use crate::digits::{Digit, low_digit, without_digit};
 use crate::rows::{WIDTH, push_row};
 use curve25519::{Addend, Point};
 use std::alloc::{AllocError, Global};
 use words64::Words;
 
 // One for each digit of a number.
-const ROWS: usize = 64;
+const ROWS: usize = 52;
 
-/// [j 16^i]B for i from 0 to 63 and j from 0 to 15, prepared for additions: 160 KiB on the heap. With it a multiple of the
-/// base point takes an addition for each four bits, and no doubling.
+/// [j 32^i]B for i from 0 to 51 and j from 0 to 31, prepared for additions: 260 KiB on the heap. With it a multiple of the
+/// base point takes an addition for each five bits, and no doubling.
 #[derive(Drop)]
 pub struct BaseTable {
     entries: Vec<Addend>,
-    ghost prepared: { IsTable addend_of point_add neutral base 64 entries.items },
+    ghost prepared: { IsTable addend_of point_add neutral base 52 entries.items },
 }
 
 impl BaseTable {
@@ -50,11 +50,11 @@ impl BaseTable {
     // The sum of one entry of each row.
     #[inline(always)]
     fn sum_of_entries(&self, s: &Words) -> Point
-        ensures value { result ≡ by_digits point_add neutral 64 0 s.now base neutral }
+        ensures value { result ≡ by_digits point_add neutral 52 0 s.now base neutral }
         ensures fits { s.now < 2 ^ 256 }
     {
         let mut sum = Point::neutral();
-        let mut rest = copied(s);
+        let mut rest = s.copied();
         for row in 0..ROWS {
             sum = sum.add(&self.entry(row, low_digit(&rest)));
             rest = without_digit(&rest);
@@ -62,29 +62,47 @@ impl BaseTable {
         sum
     }
 
-    // The entry of a row for a digit. All of the row are read, and one is kept by four choices, each under a mask that is made
+    // The entry of a row for a digit. All of the row are read, and one is kept by five choices, each under a mask that is made
     // of a bit of the number: of whether two digits are the same a compiler makes a branch.
     #[inline(always)]
     fn entry(&self, row: usize, digit: Digit) -> Addend
-        requires row { row < 64 }
+        requires row { row < 52 }
         requires ones { digit.ones ≤ 1 }
         requires twos { digit.twos ≤ 1 }
         requires fours { digit.fours ≤ 1 }
         requires eights { digit.eights ≤ 1 }
+        requires sixteens { digit.sixteens ≤ 1 }
         ensures { result ≡ addend_of (times point_add neutral
-            (digit.ones + 2 * digit.twos + 4 * digit.fours + 8 * digit.eights)
+            (digit.ones + 2 * digit.twos + 4 * digit.fours + 8 * digit.eights + 16 * digit.sixteens)
             (step_of point_add neutral row base)) }
     {
-        let low = self.of_eight(row, 0, digit);
-        let high = self.of_eight(row, 8, digit);
+        let low = self.of_sixteen(row, 0, digit);
+        let high = self.of_sixteen(row, 16, digit);
+        low.choice(&high, digit.sixteens)
+    }
+
+    // One of sixteen entries of a row from a place on.
+    #[inline(always)]
+    fn of_sixteen(&self, row: usize, place: usize, digit: Digit) -> Addend
+        requires row { row < 52 }
+        requires place { place + 15 < 32 }
+        requires ones { digit.ones ≤ 1 }
+        requires twos { digit.twos ≤ 1 }
+        requires fours { digit.fours ≤ 1 }
+        requires eights { digit.eights ≤ 1 }
+        ensures { result ≡ addend_of (times point_add neutral (place + digit.ones + 2 * digit.twos + 4 * digit.fours + 8 * digit.eights)
+            (step_of point_add neutral row base)) }
+    {
+        let low = self.of_eight(row, place, digit);
+        let high = self.of_eight(row, place + 8, digit);
         low.choice(&high, digit.eights)
     }
 
-    // One of eight entries of a row from a place on.
+    // One of eight.
     #[inline(always)]
     fn of_eight(&self, row: usize, place: usize, digit: Digit) -> Addend
-        requires row { row < 64 }
-        requires place { place + 7 < 16 }
+        requires row { row < 52 }
+        requires place { place + 7 < 32 }
         requires ones { digit.ones ≤ 1 }
         requires twos { digit.twos ≤ 1 }
         requires fours { digit.fours ≤ 1 }
@@ -99,8 +117,8 @@ impl BaseTable {
     // One of four.
     #[inline(always)]
     fn of_four(&self, row: usize, place: usize, digit: Digit) -> Addend
-        requires row { row < 64 }
-        requires place { place + 3 < 16 }
+        requires row { row < 52 }
+        requires place { place + 3 < 32 }
         requires ones { digit.ones ≤ 1 }
         requires twos { digit.twos ≤ 1 }
         ensures { result ≡ addend_of (times point_add neutral (place + digit.ones + 2 * digit.twos)
@@ -114,8 +132,8 @@ impl BaseTable {
     // One of two.
     #[inline(always)]
     fn of_two(&self, row: usize, place: usize, ones: u64) -> Addend
-        requires row { row < 64 }
-        requires place { place + 1 < 16 }
+        requires row { row < 52 }
+        requires place { place + 1 < 32 }
         requires ones { ones ≤ 1 }
         ensures { result ≡ addend_of (times point_add neutral (place + ones) (step_of point_add neutral row base)) }
     {
@@ -127,8 +145,8 @@ impl BaseTable {
     // The entry at a place of a row.
     #[inline(always)]
     fn at(&self, row: usize, place: usize) -> &Addend
-        requires row { row < 64 }
-        requires place { place < 16 }
+        requires row { row < 52 }
+        requires place { place < 32 }
         ensures { result.now ≡ addend_of (times point_add neutral place (step_of point_add neutral row base)) }
     {
         &self.entries[WIDTH * row + place]

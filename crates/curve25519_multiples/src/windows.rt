@@ -7,7 +7,6 @@ ghost use Rattle.edwards_laws.specs.Points.{Affine, IsPointSum, StandsFor, neutr
 ghost use Rattle.group_laws.specs.Digits.{IsRow, sixteenfold, times};
 ghost use Rattle.group_laws.specs.Groups.{IsMultiple};
 
-use crate::digits::copied;
 use curve25519::{Addend, Point};
 use words64::Words;
 
@@ -21,7 +20,7 @@ pub fn multiple(point: &Point, s: &Words) -> Point
         → StandsFor result z }
 {
     let row = row_of(point);
-    let bytes = copied(s).to_bytes();
+    let bytes = s.copied().to_bytes();
     let mut sum = Point::neutral();
     for turn in 0..BYTES {
         // The lowest byte comes first.

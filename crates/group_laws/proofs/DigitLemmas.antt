@@ -24,14 +24,14 @@ unfolding times
 times-none add neutral p = refl
 
 step_of-suc : {P : Type 0} (add : P → P → P) (neutral : P) (row : ℕ) (p : P)
-    → step_of add neutral (suc row) p ≡ times add neutral 16 (step_of add neutral row p)
+    → step_of add neutral (suc row) p ≡ times add neutral 32 (step_of add neutral row p)
 unfolding step_of
 step_of-suc add neutral row p = refl
 
 pub step_of-next : {P : Type 0} (add : P → P → P) (neutral : P) (row : ℕ) (p step next : P)
-    → step ≡ step_of add neutral row p → next ≡ times add neutral 16 step → next ≡ step_of add neutral (row + 1) p
+    → step ≡ step_of add neutral row p → next ≡ times add neutral 32 step → next ≡ step_of add neutral (row + 1) p
 step_of-next add neutral row p step next step_is next_is =
-    next_is ∙ ap (λ q. times add neutral 16 q) step_is ∙ sym (step_of-suc add neutral row p)
+    next_is ∙ ap (λ q. times add neutral 32 q) step_is ∙ sym (step_of-suc add neutral row p)
     ∙ ap (λ n. step_of add neutral n p) (sym (add-one row))
 
 pub step_of-none : {P : Type 0} (add : P → P → P) (neutral p : P) → step_of add neutral 0 p ≡ p
@@ -42,7 +42,7 @@ step_of-none add neutral p = refl
 
 by_digits-suc : {P : Type 0} (add : P → P → P) (neutral : P) (rows row s : ℕ) (p sum : P)
     → by_digits add neutral (suc rows) row s p sum
-    ≡ by_digits add neutral rows (suc row) (s / 16) p (add sum (times add neutral (s % 16) (step_of add neutral row p)))
+    ≡ by_digits add neutral rows (suc row) (s / 32) p (add sum (times add neutral (s % 32) (step_of add neutral row p)))
 unfolding by_digits
 by_digits-suc add neutral rows row s p sum = refl
 
@@ -53,7 +53,7 @@ by_digits-zero add neutral row s p sum = refl
 
 -- one turn: what is left to be added gives the same sum
 pub by_digits-turn : {P : Type 0} (add : P → P → P) (neutral p : P) (rows row s rest digit : ℕ) (sum entry after whole : P)
-    → row < rows → digit ≡ s % 16 → rest ≡ s / 16 → entry ≡ times add neutral digit (step_of add neutral row p)
+    → row < rows → digit ≡ s % 32 → rest ≡ s / 32 → entry ≡ times add neutral digit (step_of add neutral row p)
     → after ≡ add sum entry → by_digits add neutral (rows - row) row s p sum ≡ whole
     → by_digits add neutral (rows - (row + 1)) (row + 1) rest p after ≡ whole
 by_digits-turn add neutral p rows row s rest digit sum entry after whole turn digit_is rest_is entry_is after_is is =
@@ -101,39 +101,33 @@ row-next kept add neutral p old entries now entry place pushed size before entry
 -- ---- the table of all rows
 
 -- a place in the rows before, or in the last one
-is-earlier-or-last : (place row : ℕ) → place < 16 * (row + 1) → (place < 16 * row) ⊎ (16 * row ≤ place)
+is-earlier-or-last : (place row : ℕ) → place < 32 * (row + 1) → (place < 32 * row) ⊎ (32 * row ≤ place)
 is-earlier-or-last place row below = grind arith
 
 -- one row more, of the multiples of its step
 pub rows-next : {P Q : Type 0} (kept : P → Q) (add : P → P → P) (neutral p : P) (old entries : List Q) (row : ℕ) (step : P)
-    → length old ≡ 16 * row → step ≡ step_of add neutral row p
-    → ((place : ℕ) (other : Q) → place < 16 * row
-    → get_or old place other ≡ kept (times add neutral (place % 16) (step_of add neutral (place / 16) p)))
+    → length old ≡ 32 * row → step ≡ step_of add neutral row p
+    → ((place : ℕ) (other : Q) → place < 32 * row
+    → get_or old place other ≡ kept (times add neutral (place % 32) (step_of add neutral (place / 32) p)))
     → ((place : ℕ) (other : Q) → place < length old → get_or entries place other ≡ get_or old place other)
-    → ((place : ℕ) (other : Q) → place < 16
+    → ((place : ℕ) (other : Q) → place < 32
     → get_or entries (length old + place) other ≡ kept (times add neutral place step))
-    → (place : ℕ) (other : Q) → place < 16 * (row + 1)
-    → get_or entries place other ≡ kept (times add neutral (place % 16) (step_of add neutral (place / 16) p))
+    → (place : ℕ) (other : Q) → place < 32 * (row + 1)
+    → get_or entries place other ≡ kept (times add neutral (place % 32) (step_of add neutral (place / 32) p))
 rows-next kept add neutral p old entries row step size step_is before same last place other below =
     elim (is-earlier-or-last place row below) [
       | inl earlier ↦ same place other (omega arith) ∙ before place other earlier
       | inr late ↦
-          let digit : place % 16 ≡ place - 16 * row = omega arith in
-          let its_row : place / 16 ≡ row = omega arith in
-          let at : place ≡ length old + (place - 16 * row) = omega arith in
-          let within : place - 16 * row < 16 = omega arith in
-          ap (λ k. get_or entries k other) at ∙ last (place - 16 * row) other within
-          ∙ ap (λ q. kept (times add neutral (place - 16 * row) q)) (step_is ∙ ap (λ r. step_of add neutral r p) (sym its_row))
-          ∙ ap (λ k. kept (times add neutral k (step_of add neutral (place / 16) p))) (sym digit)
+          let digit : place % 32 ≡ place - 32 * row = omega arith in
+          let its_row : place / 32 ≡ row = omega arith in
+          let at : place ≡ length old + (place - 32 * row) = omega arith in
+          let within : place - 32 * row < 32 = omega arith in
+          ap (λ k. get_or entries k other) at ∙ last (place - 32 * row) other within
+          ∙ ap (λ q. kept (times add neutral (place - 32 * row) q)) (step_is ∙ ap (λ r. step_of add neutral r p) (sym its_row))
+          ∙ ap (λ k. kept (times add neutral k (step_of add neutral (place / 32) p))) (sym digit)
     ]
 
 -- ---- a row of its own
-
--- the first entry
-pub row-first : {P Q : Type 0} (kept : P → Q) (add : P → P → P) (neutral p : P) (first : Q) (others : List Q)
-    → first ≡ kept neutral → (k : ℕ) (other : Q) → k < 1 → get_or (first ∷ others) k other ≡ kept (times add neutral k p)
-row-first kept add neutral p first others first_is zero other below = first_is ∙ ap kept (sym (times-none add neutral p))
-row-first kept add neutral p first others first_is (suc k) other below = absurd (omega arith)
 
 -- one entry more in a row of 16
 pub row-set : {P Q : Type 0} (kept : P → Q) (add : P → P → P) (neutral p : P) (row : List Q) (place : ℕ) (entry : Q)
@@ -147,13 +141,6 @@ row-set kept add neutral p row place entry last size are entry_is k other below 
       | inr same ↦ get_or-set_at row place k entry other same (omega arith) ∙ entry_is
           ∙ ap (λ n. kept (times add neutral n p)) (sym same)
     ]
-
--- the entry behind another
-pub entry-next : {P : Type 0} (add : P → P → P) (neutral p : P) (place : ℕ) (before entry : P) → 1 ≤ place
-    → before ≡ times add neutral (place - 1) p → entry ≡ add before p → entry ≡ times add neutral place p
-entry-next add neutral p place before entry first before_is entry_is =
-    let this : place - 1 + 1 ≡ place = omega arith in
-    times-next add neutral (place - 1) p before entry before_is entry_is ∙ ap (λ n. times add neutral n p) this
 
 -- the parts of 16 times a point
 pub sixteenfold-made : {P : Type 0} (add : P → P → P) (p twice four eight sixteen : P)

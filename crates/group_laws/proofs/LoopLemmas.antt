@@ -2,7 +2,7 @@
 use Rattle.std.proofs.Common.{◌≡◌, ◌<◌, ℕ, zero, suc, ◌+◌, ◌*◌, ◌/◌, ◌%◌, ◌^◌, arith, ap, refl, sym, ◌∙◌}
 use Rattle.std.proofs.Math.Nat.{pow-succ'}
 use Rattle.group_laws.specs.Groups.{IsGroup, IsMultiple}
-use Rattle.group_laws.proofs.MultipleLemmas.{multiple-is-element, sum-of-multiples}
+use Rattle.group_laws.proofs.MultipleLemmas.{has-multiple, multiple-is-element, sum-of-multiples}
 
 -- a formula whose sum stands for the sum
 pub record AddsPoints {P A : Type 0} (IsElement : A → Type 0) (IsSum : A → A → A → Type 0) (neutral : A)
@@ -31,6 +31,30 @@ stands-for-sum formula base on a b p q p_is q_is =
       x = sum.third;
       stands = formula.adds p q p_is.x q_is.x sum.third p_is.stands q_is.stands sum.is;
       is = sum-of-multiples formula.group base on a b p_is.x q_is.x sum.third p_is.is q_is.is sum.is;
+    }
+
+-- p and q stand for one element
+pub record StandAlike {P A : Type 0} (StandsFor : P → A → Type 0) (p q : P) : Type 0 where
+  pub x : A
+  pub first : StandsFor p x
+  pub second : StandsFor q x
+
+-- whatever stands for [a]x and [b]y, its sum stands for one element
+pub sums-stand-alike : {P A : Type 0} {IsElement : A → Type 0} {IsSum : A → A → A → Type 0} {neutral : A} {StandsFor : P → A → Type 0} {add : P → P → P}
+    → AddsPoints IsElement IsSum neutral StandsFor add → (x y : A) → IsElement x → IsElement y → (a b : ℕ) (p q r s : P)
+    → ((z : A) → IsMultiple IsSum neutral x a z → StandsFor p z) → ((z : A) → IsMultiple IsSum neutral y b z → StandsFor q z)
+    → ((z : A) → IsMultiple IsSum neutral x a z → StandsFor r z) → ((z : A) → IsMultiple IsSum neutral y b z → StandsFor s z)
+    → StandAlike StandsFor (add p q) (add r s)
+sums-stand-alike formula x y x_on y_on a b p q r s p_is q_is r_is s_is =
+    let first = has-multiple formula.group x x_on a in
+    let second = has-multiple formula.group y y_on b in
+    let first_on = multiple-is-element formula.group x x_on a first.q first.is in
+    let second_on = multiple-is-element formula.group y y_on b second.q second.is in
+    let sum = formula.group.total first.q second.q first_on second_on in
+    record {
+      x = sum.third;
+      first = formula.adds p q first.q second.q sum.third (p_is first.q first.is) (q_is second.q second.is) sum.is;
+      second = formula.adds r s first.q second.q sum.third (r_is first.q first.is) (s_is second.q second.is) sum.is;
     }
 
 -- ---- the loop: for each bit of s, the lowest first, p is added to the sum where the bit is 1, and doubled

@@ -1,4 +1,5 @@
--- Multiples by the digits of a number in base 16, the lowest first, of a formula that adds points (ours).
+-- Multiples by the digits of a number, of a formula that adds points (ours): in base 32 the lowest first, and in base 16 the
+-- highest first.
 use Rattle.std.specs.Prelude.{◌≡◌, ℕ, zero, suc, ◌/◌, ◌%◌, ◌*◌, ◌<◌, List, length, slice_index_or}
 
 -- p added k times to what stands for the neutral element
@@ -6,10 +7,10 @@ unfoldable pub times : {P : Type 0} → (P → P → P) → P → ℕ → P → 
 times add neutral zero p = neutral
 times add neutral (suc k) p = add (times add neutral k p) p
 
--- what a row of a table has multiples of: p for the first one, and for each later one 16 times that of the row before
+-- what a row of a table has multiples of: p for the first one, and for each later one 32 times that of the row before
 unfoldable pub step_of : {P : Type 0} → (P → P → P) → P → ℕ → P → P
 step_of add neutral zero p = p
-step_of add neutral (suc row) p = times add neutral 16 (step_of add neutral row p)
+step_of add neutral (suc row) p = times add neutral 32 (step_of add neutral row p)
 
 -- 16 times p, by doubling it
 unfoldable pub sixteenfold : {P : Type 0} → (P → P → P) → P → P
@@ -23,14 +24,14 @@ sixteenfold add p =
 unfoldable pub by_digits : {P : Type 0} → (P → P → P) → P → ℕ → ℕ → ℕ → P → P → P
 by_digits add neutral zero row s p sum = sum
 by_digits add neutral (suc rows) row s p sum =
-    by_digits add neutral rows (suc row) (s / 16) p (add sum (times add neutral (s % 16) (step_of add neutral row p)))
+    by_digits add neutral rows (suc row) (s / 32) p (add sum (times add neutral (s % 32) (step_of add neutral row p)))
 
--- the multiples of p by 0 to 15 times 16 ^ i, as they are kept, in so many rows one after the other
+-- the multiples of p by 0 to 31 times 32 ^ i, as they are kept, in so many rows one after the other
 pub record IsTable {P Q : Type 0} (kept : P → Q) (add : P → P → P) (neutral p : P) (rows : ℕ) (entries : List Q) : Type 0 where
-  pub size : length entries ≡ 16 * rows
-  pub entry : (place : ℕ) (other : Q) → place < 16 * rows
+  pub size : length entries ≡ 32 * rows
+  pub entry : (place : ℕ) (other : Q) → place < 32 * rows
       → slice_index_or entries place other
-      ≡ kept (times add neutral (place % 16) (step_of add neutral (place / 16) p))
+      ≡ kept (times add neutral (place % 32) (step_of add neutral (place / 32) p))
 
 -- the multiples of p by 0 to 15, as they are kept
 pub record IsRow {P Q : Type 0} (kept : P → Q) (add : P → P → P) (neutral p : P) (entries : List Q) : Type 0 where

@@ -1,8 +1,7 @@
-//! Multiples of the points of P-256 by digits of four bits: of the base point by a table, of others by a row.
+//! Multiples of the points of P-256 by digits: of the base point by a table, of others by a row.
 //! Stands on `p256_curve` and `wide_words`, its laws on `curve_laws` and `group_laws`.
 #![tactic(auto)]
 
-mod digits;
 mod rows;
 mod table;
 mod windows;

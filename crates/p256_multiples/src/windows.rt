@@ -63,8 +63,11 @@ fn row_of(point: &Point) -> [Point; 16]
         Point::neutral(),
         Point::neutral(),
     ];
-    for place in 1..16usize {
-        row[place] = row[place - 1].add(point);
+    let mut entry = Point::neutral();
+    for place in 0..16usize {
+        let next = entry.add(point);
+        row[place] = entry;
+        entry = next;
     }
     row
 }

@@ -38,14 +38,14 @@ abbrev g : Affine
 g = At base_x base_y
 
 -- the sum of the entries stands for the multiple
-sum-stands : (s : ℕ) → s < 2 ^ 384 → Stands g (by_digits point_add neutral 96 0 s base neutral) s
+sum-stands : (s : ℕ) → s < 2 ^ 384 → Stands g (by_digits point_add neutral 77 0 s base neutral) s
 sum-stands s below =
     let on = stands-for-point base g base-stands in
     all-digits-stand formula g on neutral neutral-stands base (record { x = g; stands = base-stands; is = once g on })
-    96 s below
+    77 s (omega arith)
 
 -- the one that there is
-pub multiple-stands : (s : ℕ) (sum : Point) → s < 2 ^ 384 → sum ≡ by_digits point_add neutral 96 0 s base neutral
+pub multiple-stands : (s : ℕ) (sum : Point) → s < 2 ^ 384 → sum ≡ by_digits point_add neutral 77 0 s base neutral
     → (z : Affine) → IsMultiple IsGroupSum Infinity g s z → StandsFor sum z
 multiple-stands s sum below sum_is z z_is =
     let made = sum-stands s below in
@@ -53,14 +53,14 @@ multiple-stands s sum below sum_is z z_is =
     rw (sym sum_is) at (rw (multiple-unique group g on s made.x z made.is z_is) at made.stands)
 
 -- as `multiply` has it
-pub multiple-x : (s : ℕ) (sum : Point) → s < 2 ^ 384 → sum ≡ by_digits point_add neutral 96 0 s base neutral
+pub multiple-x : (s : ℕ) (sum : Point) → s < 2 ^ 384 → sum ≡ by_digits point_add neutral 77 0 s base neutral
     → affine_x sum ≡ affine_x (multiply s base)
 multiple-x s sum below sum_is =
     let made = sum-stands s below in
     same-x sum (multiply s base) made.x (multiple-stands s sum below sum_is made.x made.is)
     (multiply-makes s base g made.x below base-stands made.is)
 
-pub multiple-encoded : (s : ℕ) (sum : Point) → s < 2 ^ 384 → sum ≡ by_digits point_add neutral 96 0 s base neutral
+pub multiple-encoded : (s : ℕ) (sum : Point) → s < 2 ^ 384 → sum ≡ by_digits point_add neutral 77 0 s base neutral
     → encoded sum ≡ encoded (multiply s base)
 multiple-encoded s sum below sum_is =
     let made = sum-stands s below in

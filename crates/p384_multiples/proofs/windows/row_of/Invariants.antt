@@ -6,6 +6,7 @@ use Rattle.p384_multiples.proofs.windows.row_of.Given as goal
 
 abbrev pub invariant-loop-place : goal.invariant-loop-place
 invariant-loop-place l = record {
+  next : l.entry ≡ times point_add neutral l.place l.point;
   size : length l.row ≡ 16;
   entry : (place : ℕ) (other : Point) → place < l.place → get_or l.row place other ≡ times point_add neutral place l.point;
 }

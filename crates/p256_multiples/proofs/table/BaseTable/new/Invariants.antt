@@ -6,9 +6,9 @@ use Rattle.p256_multiples.proofs.table.BaseTable.new.Given as goal
 
 abbrev pub invariant-loop-row : goal.invariant-loop-row
 invariant-loop-row l = record {
-  size : length l.entries.items ≡ 16 * l._row;
+  size : length l.entries.items ≡ 32 * l._row;
   next : l.step ≡ step_of point_add neutral l._row base;
-  entry : (place : ℕ) (other : Point) → place < 16 * l._row
+  entry : (place : ℕ) (other : Point) → place < 32 * l._row
       → get_or l.entries.items place other
-      ≡ times point_add neutral (place % 16) (step_of point_add neutral (place / 16) base);
+      ≡ times point_add neutral (place % 32) (step_of point_add neutral (place / 32) base);
 }

@@ -5,4 +5,4 @@ use Rattle.p256_multiples.proofs.table.BaseTable.sum_of_entries.Given as goal
 
 abbrev pub invariant-loop-row : goal.invariant-loop-row
 invariant-loop-row l =
-    by_digits point_add neutral (64 - l.row) l.row l.rest base l.sum ≡ by_digits point_add neutral 64 0 l.s base neutral
+    by_digits point_add neutral (52 - l.row) l.row l.rest base l.sum ≡ by_digits point_add neutral 52 0 l.s base neutral

@@ -4,5 +4,5 @@ use Rattle.p521_multiples.proofs.table.BaseTable.entry.Goals as goal
 
 pub returns : goal.returns
 returns c =
-    chosen-is c.args.digit.eights _ 8 _ _ _ _ _ _ c.requires.eights c.of_eight-low.ensures c.of_eight-high.ensures c.chosen.ensures
+    chosen-is c.args.digit.sixteens _ 16 _ _ _ _ _ _ c.requires.sixteens c.of_sixteen-low.ensures c.of_sixteen-high.ensures c.chosen.ensures
     (omega arith) (omega arith)

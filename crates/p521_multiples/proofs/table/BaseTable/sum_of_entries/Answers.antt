@@ -6,14 +6,14 @@ use Rattle.p521_multiples.proofs.table.BaseTable.sum_of_entries.Goals as goal
 
 pub loop-row-init : goal.loop-row-init
 loop-row-init c =
-    ap (λ p. by_digits point_add neutral 131 0 c.copied-rest.result base p) c.neutral-sum.ensures
-    ∙ ap (λ s. by_digits point_add neutral 131 0 s base neutral) c.copied-rest.ensures.same
+    ap (λ p. by_digits point_add neutral 105 0 c.copied-rest.result base p) c.neutral-sum.ensures
+    ∙ ap (λ s. by_digits point_add neutral 105 0 s base neutral) c.copied-rest.ensures.same
 
 pub loop-row-preserved : goal.loop-row-preserved
 loop-row-preserved c =
     let l = c.loop-row in
-    by_digits-turn point_add neutral base 131 l.row _ _ _ _ _ _ _ c.loop-row-test.true c.low_digit.ensures.value
+    by_digits-turn point_add neutral base 105 l.row _ _ _ _ _ _ _ c.loop-row-test.true c.low_digit.ensures.value
     c.without_digit-rest.ensures c.entry.ensures c.add-sum.ensures l.invariant
 
 pub returns : goal.returns
-returns c = by_digits-end point_add neutral base 131 _ _ _ _ c.loop-row-test.false c.loop-row.invariant
+returns c = by_digits-end point_add neutral base 105 _ _ _ _ c.loop-row-test.false c.loop-row.invariant
