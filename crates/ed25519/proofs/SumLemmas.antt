@@ -7,10 +7,9 @@ use Rattle.curve25519.specs.Points.{base, negated, point_add}
 use Rattle.edwards_laws.specs.Points.{Affine, HasPoint, IsPointSum, StandsFor, base_point, neutral_point}
 use Rattle.edwards_laws.proofs.DecodedLemmas.{negated-stands}
 use Rattle.edwards_laws.proofs.EncodedLemmas.{same-encoding}
-use Rattle.edwards_laws.proofs.GroupLemmas.{group}
-use Rattle.edwards_laws.proofs.MultipleLemmas.{base-stands, formula-adds, multiply-makes}
+use Rattle.edwards_laws.proofs.MultipleLemmas.{base-stands, formula, multiply-makes}
 use Rattle.group_laws.specs.Groups.{IsMultiple}
-use Rattle.group_laws.proofs.MultipleLemmas.{has-multiple, multiple-is-element}
+use Rattle.group_laws.proofs.LoopLemmas.{sums-stand-alike}
 
 -- these coordinates stand for [k]B
 abbrev pub IsMultipleOfBase : ℕ → Point → Type 0
@@ -26,18 +25,11 @@ pub sum-encoded : (q left right : Point) (a b : ℕ) → HasPoint q → a < 2 ^ 
     → IsMultipleOfBase a left → IsMultipleOf q b right
     → encoded (point_add left right) ≡ encoded (point_add (multiply a base) (multiply b q))
 sum-encoded q left right a b q_is a_below b_below left_is right_is =
-    let base_on = base-stands.is_point in
-    let q_on = q_is.is.is_point in
-    let first = has-multiple group base_point base_on a in
-    let second = has-multiple group q_is.p q_on b in
-    let first_on = multiple-is-element group base_point base_on a first.q first.is in
-    let second_on = multiple-is-element group q_is.p q_on b second.q second.is in
-    let sum = group.total first.q second.q first_on second_on in
-    same-encoding (point_add left right) (point_add (multiply a base) (multiply b q)) sum.third
-    (formula-adds left right first.q second.q sum.third (left_is first.q first.is) (right_is q_is.p second.q q_is.is second.is) sum.is)
-    (formula-adds (multiply a base) (multiply b q) first.q second.q sum.third
-    (multiply-makes a base base_point first.q a_below base-stands first.is)
-    (multiply-makes b q q_is.p second.q b_below q_is.is second.is) sum.is)
+    let sums =
+    sums-stand-alike formula base_point q_is.p base-stands.is_point q_is.is.is_point a b
+    left right (multiply a base) (multiply b q) left_is (λ z z_is. right_is q_is.p z q_is.is z_is)
+    (λ z z_is. multiply-makes a base base_point z a_below base-stands z_is) (λ z z_is. multiply-makes b q q_is.p z b_below q_is.is z_is) in
+    same-encoding (point_add left right) (point_add (multiply a base) (multiply b q)) sums.x sums.first sums.second
 
 -- the same of the opposite of a point
 pub sum-opposite : (a opposite left right sum : Point) (s k : ℕ) → HasPoint a → opposite ≡ negated a

@@ -7,12 +7,10 @@ use Rattle.p521_curve.specs.Points.{base, base_x, base_y, point_add}
 use Rattle.p521_curve.specs.Multiples.{multiply}
 use Rattle.p521_curve.specs.Encoding.{affine_x}
 use Rattle.curve_laws.specs.P521.{Affine, At, HasPoint, Infinity, IsGroupSum, StandsFor}
-use Rattle.curve_laws.proofs.P521GroupLemmas.{group-sum}
 use Rattle.curve_laws.proofs.P521SameLemmas.{same-x}
 use Rattle.group_laws.specs.Groups.{IsMultiple}
-use Rattle.group_laws.proofs.MultipleLemmas.{has-multiple, multiple-is-element}
-use Rattle.group_laws.proofs.P521GroupLemmas.{group}
-use Rattle.group_laws.proofs.P521MultipleLemmas.{base-stands, multiply-makes, stands-for-point}
+use Rattle.group_laws.proofs.LoopLemmas.{sums-stand-alike}
+use Rattle.group_laws.proofs.P521MultipleLemmas.{base-stands, formula, multiply-makes, stands-for-point}
 
 -- these coordinates stand for [k]G
 abbrev pub IsMultipleOfBase : ℕ → Point → Type 0
@@ -38,15 +36,8 @@ pub sum-x : (q left right : Point) (a b : ℕ) → HasPoint q → a < 2 ^ 521 �
 sum-x q left right a b q_is a_below b_below left_is right_is =
     let g = At base_x base_y in
     let at = At q_is.x q_is.y in
-    let g_on = stands-for-point base g base-stands in
-    let q_on = stands-for-point q at q_is.is in
-    let first = has-multiple group g g_on a in
-    let second = has-multiple group at q_on b in
-    let first_on = multiple-is-element group g g_on a first.q first.is in
-    let second_on = multiple-is-element group at q_on b second.q second.is in
-    let sum = group.total first.q second.q first_on second_on in
-    same-x (point_add left right) (point_add (multiply a base) (multiply b q)) sum.third
-    (group-sum left right first.q second.q sum.third (left_is first.q first.is) (right_is at second.q q_is.is second.is) sum.is)
-    (group-sum (multiply a base) (multiply b q) first.q second.q sum.third
-    (multiply-makes a base g first.q a_below base-stands first.is)
-    (multiply-makes b q at second.q b_below q_is.is second.is) sum.is)
+    let sums =
+    sums-stand-alike formula g at (stands-for-point base g base-stands) (stands-for-point q at q_is.is) a b
+    left right (multiply a base) (multiply b q) left_is (λ z z_is. right_is at z q_is.is z_is)
+    (λ z z_is. multiply-makes a base g z a_below base-stands z_is) (λ z z_is. multiply-makes b q at z b_below q_is.is z_is) in
+    same-x (point_add left right) (point_add (multiply a base) (multiply b q)) sums.x sums.first sums.second
