@@ -65,16 +65,21 @@ JUMPS = {
 # The curves of ecdsa_tool, and the words of 64 bits and the bytes of a number.
 CURVES = {"p256": (4, 32), "p384": (6, 48), "p521": (9, 66)}
 
-# The same of ecdsa_tool. Over P-521 the product modulo p has a form of its own, and that modulo n stands where it is used,
-# over rows that don't.
+# The same of ecdsa_tool, where products stand as they do in LLVM's build: over P-521 that modulo p has a form of its own, and
+# that modulo n its two parts.
+PRODUCTS = {
+    "p256": ("p256_field::residue::Residue::product", "p256_order::residue::Residue::product"),
+    "p384": ("p384_field::residue::product_of", "p384_order::residue::product_of"),
+    "p521": ("p521_field::element::Element::mul", "wide_words::u576::U576::widening_mul", "p521_order::residue::reduced"),
+}
 ECDSA_JUMPS = {
     function: most
     for curve, (words, _) in CURVES.items()
     for function, most in (
         (f"{curve}_multiples::table::BaseTable::multiple", 1),
+        (f"{curve}_multiples::table::BaseTable::of_sixteen", 0),
         (f"{curve}_curve::point::Point::add", 0),
-        (f"{curve}_field::{'element::Element::mul' if curve == 'p521' else 'residue::Residue::product'}", 0),
-        (f"{curve}_order::residue::{'rows' if curve == 'p521' else 'Residue::product'}", 0),
+        *((product, 0) for product in PRODUCTS[curve]),
         (f"wide_words::u{64 * words}::U{64 * words}::is_below", 0),
     )
 }
