@@ -57,7 +57,7 @@ same-encoding p q z p_is q_is =
 -- ---- what is decoded
 
 -- (x : y : 1) of a point of the curve
-point-stands : (x y : ℕ) → IsFinite x y → StandsFor (point_at x y) (At x y)
+pub point-stands : (x y : ℕ) → IsFinite x y → StandsFor (point_at x y) (At x y)
 unfolding point_at field_mul
 point-stands x y on =
     let x_below = on.x_below in

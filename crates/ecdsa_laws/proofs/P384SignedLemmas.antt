@@ -41,7 +41,7 @@ remainder : (u : ℕ) → IsCongruent order (u % order) u
 remainder u = record { is = mod-mod u order }
 
 -- n is prime, and so `scalar_inv` is the inverse
-inverse-is : (x : ℕ) → 0 < x → x < order → IsCongruent order (x * scalar_inv x) 1
+pub inverse-is : (x : ℕ) → 0 < x → x < order → IsCongruent order (x * scalar_inv x) 1
 unfolding scalar_inv scalar_pow
 inverse-is x x_some below =
     record {

@@ -1,11 +1,12 @@
-//! What is signed with ECDSA over P-384 verifies, in numbers.
+//! What is signed with ECDSA over P-384 verifies, in numbers and in bytes.
 
-ghost use Rattle.std.specs.Prelude.{◌≡◌, ℕ, Some, true};
+ghost use Rattle.std.specs.Prelude.{◌≡◌, ℕ, List, Some, true};
+ghost use Rattle.sha2.specs.Sha512.{sha384};
 ghost use Rattle.p384_curve.specs.declared.point.Point.{Point as APoint};
 ghost use Rattle.p384_curve.specs.Points.{base_x, base_y};
-ghost use Rattle.p384_ecdsa.specs.Keys.{in_range};
-ghost use Rattle.p384_ecdsa.specs.Signatures.{is_usable, signed_with};
-ghost use Rattle.p384_ecdsa.specs.Verification.{meets};
+ghost use Rattle.p384_ecdsa.specs.Keys.{in_range, public_key};
+ghost use Rattle.p384_ecdsa.specs.Signatures.{is_usable, signature, signed_with};
+ghost use Rattle.p384_ecdsa.specs.Verification.{accepts, meets};
 ghost use Rattle.curve_laws.specs.P384.{Affine, At, Infinity, IsGroupSum, StandsFor};
 ghost use Rattle.group_laws.specs.Groups.{IsMultiple};
 
@@ -18,4 +19,10 @@ pub fn what_is_signed_verifies()
         → IsMultiple IsGroupSum Infinity (At base_x base_y) d z → StandsFor public_key z
         → in_range k ≡ true → is_usable (signed_with d e k) ≡ true
         → meets (Some public_key) e (signed_with d e k).r (signed_with d e k).s ≡ true }
+{}
+
+/// A signature by the private key d of a message's hash is accepted as one of this message, of the public key of d.
+pub fn what_is_signed_is_accepted()
+    ensures { (d : ℕ) (message bytes : List ℕ) → in_range d ≡ true
+        → signature d (sha384 message) ≡ Some bytes → accepts (public_key d) message bytes ≡ true }
 {}

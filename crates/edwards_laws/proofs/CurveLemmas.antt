@@ -32,7 +32,7 @@ even-power x h n n_is more =
     ∙ times-turned (x ^ (n - 2)) x
 
 -- modulo n = 2 h + 1, a prime, a square that isn't 0 has the power 1 to the h
-power-of-square : (n h d x : ℕ) → IsPrime n → h + h + 1 ≡ n → 0 < x → x < n → (x * x) % n ≡ d % n → d ^ h % n ≡ 1
+pub power-of-square : (n h d x : ℕ) → IsPrime n → h + h + 1 ≡ n → 0 < x → x < n → (x * x) % n ≡ d % n → d ^ h % n ≡ 1
 power-of-square n h d x n_prime n_is x_some below is =
     sym (pow-mod d h n) ∙ ap (λ k. k ^ h % n) (sym is) ∙ pow-mod (x * x) h n
     ∙ ap (λ k. k % n) (even-power x h n n_is n_prime.more) ∙ power-inverts n x n_prime x_some below

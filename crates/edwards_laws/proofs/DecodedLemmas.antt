@@ -8,9 +8,9 @@ use Rattle.curve25519.specs.Encoding.{decoded, point_of, recovered_x, root_candi
 use Rattle.curve25519.specs.Points.{curve_d, negated, point_at}
 use Rattle.curve_laws.proofs.DifferenceLemmas.{IsCongruent, equal}
 use Rattle.curve_laws.proofs.FieldLemmas.{opposite, sub}
-use Rattle.edwards_laws.specs.Points.{Affine, HasPoint, IsPoint, StandsFor}
+use Rattle.edwards_laws.specs.Points.{Affine, HasPoint, IsPoint, IsPointSum, StandsFor, neutral_point}
 use Rattle.edwards_laws.proofs.CurveLemmas.{some}
-use Rattle.edwards_laws.proofs.GroupLemmas.{from-on, to-on}
+use Rattle.edwards_laws.proofs.GroupLemmas.{from-on, opposite-gives, to-on}
 use Rattle.edwards_laws.proofs.SumLemmas.{opposite-on}
 use Rattle.edwards_laws.proofs.RootLemmas.{less-one, negated-product, on-curve, one-more, opposite-square, root-of-first, second-root, squares, within}
 
@@ -31,12 +31,12 @@ by-sign r o x false true is = inl (grind arith)
 by-sign r o x false false is = inr (grind arith)
 
 -- a product is below p
-candidate-below : (u v : ℕ) → root_candidate u v < prime
+pub candidate-below : (u v : ℕ) → root_candidate u v < prime
 unfolding root_candidate field_mul
 candidate-below u v = mod_below _ prime some
 
 -- the root that was found is one, and below p
-root-is : (u v r : ℕ) → u < prime → square_root u v ≡ Some r → IsCongruent prime (v * (r * r)) u × (r < prime)
+pub root-is : (u v r : ℕ) → u < prime → square_root u v ≡ Some r → IsCongruent prime (v * (r * r)) u × (r < prime)
 unfolding square_root field_mul field_sub
 root-is u v r below is =
     go (by-root c ((c * root_of_minus_one) % prime) r w u ((0 + (prime - u)) % prime) (nat_eq w u) (nat_eq w ((0 + (prime - u)) % prime)) refl refl is)
@@ -79,7 +79,7 @@ x-is sign u v x (Some r) below found is =
 -- ---- points
 
 -- y y - 1 is below p
-difference-below : (k : ℕ) → field_sub k 1 < prime
+pub difference-below : (k : ℕ) → field_sub k 1 < prime
 unfolding field_sub
 difference-below k = mod_below _ prime some
 
@@ -101,7 +101,7 @@ times-one : (k : ℕ) → k < prime → k ≡ (k * 1) % prime
 times-one k below = omega arith
 
 -- (x, y, 1, x y) of a point
-point-stands : (x y : ℕ) → IsPoint (record { x = x; y = y }) → StandsFor (point_at x y) (record { x = x; y = y })
+pub point-stands : (x y : ℕ) → IsPoint (record { x = x; y = y }) → StandsFor (point_at x y) (record { x = x; y = y })
 unfolding point_at field_mul
 point-stands x y on = record {
   is_point = on;
@@ -134,6 +134,12 @@ negated-stands p z is =
         z_below = is.z_below;
       };
     }
+
+-- which with P gives (0, 1)
+pub negated-sum : (p : Point) (z : Affine) → (is : StandsFor p z)
+    → IsPointSum z (negated-stands p z is).p neutral_point
+unfolding negated-stands
+negated-sum p z is = opposite-gives z is.is_point
 
 -- ---- what is decoded
 

@@ -155,6 +155,11 @@ opposites p on =
           (opposite-sum prime curve_d p.x p.y q.x (under-y p q) (under-x p q) (omega arith) (to-on p on) w_is (under p q));
     }
 
+-- by coordinates
+pub opposite-gives : (p : Affine) → IsPoint p → IsPointSum p (record { x = sub prime 0 p.x; y = p.y }) neutral_point
+unfolding opposites
+opposite-gives p on = let other = opposites p on in other.is
+
 -- all of this
 pub group : IsGroup IsPoint IsPointSum neutral_point
 group =

@@ -1,3 +1,4 @@
+pub mod AgainLemmas
 pub mod PolynomialLemmas
 pub mod CongruenceLemmas
 pub mod CrossXLemmas

@@ -55,7 +55,7 @@ pub within : (x : ℕ) → x < prime → x ≤ prime
 within x below = omega arith
 
 -- a remainder is congruent to its number
-remainder : (m a r : ℕ) → a % m ≡ r → 0 < m → IsCongruent m r a
+pub remainder : (m a r : ℕ) → a % m ≡ r → 0 < m → IsCongruent m r a
 remainder m a r is more = record { is = ap (λ k. k % m) (sym is) ∙ mod-mod a m }
 
 -- the second root

@@ -6,7 +6,7 @@ ghost use Rattle.scalar25519.specs.Scalars.{order};
 ghost use Rattle.curve25519.specs.declared.point.Point.{Point as APoint};
 ghost use Rattle.curve25519.specs.Encoding.{decoded, encoded};
 ghost use Rattle.curve25519.specs.Multiples.{multiply};
-ghost use Rattle.curve25519.specs.Points.{base, curve_d, negated, neutral, point_add};
+ghost use Rattle.curve25519.specs.Points.{base, curve_d, negated, neutral, point_add, point_at};
 ghost use Rattle.prime_laws.specs.Primes.{IsPrime};
 ghost use Rattle.group_laws.specs.Groups.{HasMultiple, IsGroup, IsMultiple};
 ghost use Rattle.edwards_laws.specs.Points.{Affine, HasPoint, IsPoint, IsPointSum, StandsFor, base_point, neutral_point};
@@ -44,6 +44,11 @@ pub fn what_is_encoded_is_the_point()
 pub fn what_is_decoded_is_a_point()
     ensures point { (n : ℕ) (p : APoint) → decoded n ≡ Some p → HasPoint p }
     ensures opposite { (p : APoint) (z : Affine) → StandsFor p z → HasPoint (negated p) }
+{}
+
+/// What is encoded of coordinates is decoded as the point for which they stand.
+pub fn what_is_encoded_is_decoded()
+    ensures { (p : APoint) (z : Affine) → StandsFor p z → decoded (encoded p) ≡ Some (point_at z.x z.y) }
 {}
 
 /// Each number has a multiple of each point, one alone, which is a point.

@@ -77,7 +77,7 @@ multiple-of-multiple group p on a x x_is _ _ (once_more b y y' y_is sum) =
 -- ---- multiples of an element of which [n]p is the neutral one
 
 -- each multiple of the neutral element is the neutral one
-neutral-alone : {A : Type 0} {IsElement : A → Type 0} {IsSum : A → A → A → Type 0} {neutral : A}
+pub neutral-alone : {A : Type 0} {IsElement : A → Type 0} {IsSum : A → A → A → Type 0} {neutral : A}
     → IsGroup IsElement IsSum neutral → (k : ℕ) (q : A) → IsMultiple IsSum neutral neutral k q
     → q ≡ neutral
 neutral-alone group _ _ no_times = refl

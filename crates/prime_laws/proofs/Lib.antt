@@ -9,3 +9,4 @@ pub mod P384Chain
 pub mod P256OrderChain
 pub mod P384OrderChain
 pub mod P521Chain
+pub mod P521OrderChain
