@@ -11,7 +11,7 @@ sys.dont_write_bytecode = True
 from installed import PROGRAM, check
 
 # Each module adds its checks, in this order.
-for part in ("words", "edges", "start", "places", "life", "use", "add", "messages", "setup", "recipes", "units", "install"):
+for part in ("words", "edges", "start", "places", "life", "use", "add", "messages", "setup", "recipes", "kept", "units", "install"):
     importlib.import_module(f"front_{part}")
 
 if __name__ == "__main__":

@@ -292,7 +292,9 @@ def known_hosts_are_looked_up_where_ssh_add_does(folder):
         add("host.example", 255)
         (home / ".ssh/known_hosts2").write_text(line)
         assert "Identity added" in add("host.example", 0)
-        add("other.example", 255)
+        said = add("other.example", 255)
+        remedy = "mortarleek-add: -h: each host has to stand by this name in known_hosts: connect to it once (ssh), or name a file"
+        assert said.startswith("No host keys") and f"\n{remedy} that has it by -H\n" in said, said
         assert run(["ssh-add", "-h", "other.example", key], 255, env=daemon.environment).startswith("No host keys")
 
 

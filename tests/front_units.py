@@ -48,7 +48,7 @@ def a_unit_for_an_own_installation_makes_no_user_namespace(folder):
     for word in ("BindReadOnlyPaths", "CapabilityBoundingSet", "ReadOnlyPaths", "InaccessiblePaths"):
         assert not re.search(rf"(?m)^{word}", own), word
     # Both say the same of all else.
-    for word in ("Type", "NotifyAccess", "ExecStart", "RuntimeDirectory", "StateDirectory", "MemoryMax", "TasksMax", "LimitNOFILE"):
+    for word in ("Type", "NotifyAccess", "ExecStart", "RuntimeDirectory", "StateDirectory", "Environment", "MemoryMax", "TasksMax", "LimitNOFILE"):
         lines = [re.findall(rf"(?m)^{word}=.*$", (PLACE / name).read_text()) for name in UNITS]
         assert lines[0] == lines[1] and len(lines[0]) == 1, (word, lines)
 
@@ -110,7 +110,7 @@ def installed_for(folder, home, own):
     parts = ("Makefile", "front/", "man/", "contrib/", "scripts/", "tests/packages", "helper/build", "crates.txt", "CHANGELOG.md")
     run(["cp", "--parents", *(name for name in files if name.startswith(parts)), source], cwd=rig.TOP)
     (source / "bin").mkdir()
-    for name in ("agent_prog", "mortarleek_signer", "add_tool", "confirm_relay"):
+    for name in ("agent_prog", "mortarleek_signer", "add_tool", "confirm_relay", "log_prog"):
         shutil.copy(rig.built(name), source / "bin")
     make = ["make", "--no-print-directory", "-C", source, "-o", "bin/agent_prog", "UNPROVED=yes", "install"]
     if own:
@@ -160,17 +160,24 @@ def at_work(manager, prefix, own, enable):
     status = f"SSH_AUTH_SOCK={socket} {prefix}/bin/mortarleek status"
     said = manager.run(status)
     assert "agent: mortarleek " in said and "record: none" in said, said
+    folder = pathlib.Path(re.search(r"(?m)^log: (/.*), of 30 days$", said)[1])
     behind = "systemd-run --user --wait --pipe -q -p After=mortarleek-agent.service ssh-add -l"
     for _ in range(3):
         manager.run("systemctl --user stop mortarleek-agent")
         assert manager.run(f"systemctl --user --no-block start mortarleek-agent; {behind}", 1) == "The agent has no identities.\n"
     limits = manager.run("systemctl --user show mortarleek-agent -p Type,MemoryMax,TasksMax,LimitNOFILE,LimitCORE")
-    for line in ("Type=notify", "MemoryMax=268435456", "TasksMax=256", "LimitNOFILE=512", "LimitCORE=0"):
+    for line in ("Type=notify", "MemoryMax=402653184", "TasksMax=256", "LimitNOFILE=512", "LimitCORE=0"):
         assert line in limits.splitlines(), limits
     # A key is held and signs.
     key = f"{manager.home}/key"
     manager.run(f"umask 077; ssh-keygen -q -t ed25519 -N '' -f {key} && SSH_AUTH_SOCK={socket} {prefix}/bin/mortarleek add -q {key}")
     manager.run(f"SSH_AUTH_SOCK={socket} ssh-add -T {key}.pub")
+    # The log tells it, in a file of the day that nobody else reads; the record that it is made of stands nowhere.
+    (day,) = until(lambda: manager.run(f"find {folder} -name 'log-*' -size +0").split(), what="a day of the log")
+    assert manager.run(f"stat -c %a {day}") == "600\n"
+    said = manager.run(f"{prefix}/bin/mortarleek log {folder}")
+    assert re.fullmatch(r"(?:[0-9: -]{19}  other data, \d+ bytes  key \"[^\"]*\" SHA256:\S+  signed\n)+", said), (said, manager.run(f"cat {day}"), manager.run(f"sh -x {prefix}/bin/mortarleek-log {folder}", None)[-3000:])
+    assert sorted(path.name for path in folder.iterdir()) == [pathlib.Path(day).name]
     # Nobody but root reads the memory of agent and helper.
     (agent,) = manager.run("pgrep -x agent_prog -P $(systemctl --user show -P MainPID mortarleek-agent)").split()
     (helper,) = manager.run(f"pgrep -P {agent}").split()
@@ -186,6 +193,7 @@ def at_work(manager, prefix, own, enable):
         record = re.search(r"(?m)^record: (/.*)$", manager.run(status))[1]
         assert pathlib.Path(record).read_text().startswith("schedule 2\n"), record
         assert len(list(pathlib.Path(record).parent.glob("record-*"))) == number
+    assert "log:" not in manager.run(status)
     manager.run("systemctl --user stop mortarleek-agent")
     assert manager.run(f"ls -A {manager.runtime}/mortarleek 2> /dev/null || :") == ""
     assert "inactive" in manager.run("systemctl --user is-active mortarleek-agent", None)

@@ -11,7 +11,9 @@ _mortarleek_agent() {
     -O:*) _mortarleek_offer -W 'allow-remote-pkcs11 no-restrict-websafe' -- "$2" ;;
     -t:*) _mortarleek_offer -W '30m 1h 8h 1d' -- "$2" ;;
     --confirm-limit:*) _mortarleek_offer -W '30 1m 5m' -- "$2" ;;
-    *:-*) _mortarleek_offer -W '--reuse --restart --stand-in --record --record-or-stop --confirm-limit -a -c -D -d -E -k -O -P -s -T -t -U -u' -- "$2" ;;
+    --log:*) _mortarleek_offer -d -- "$2" ;;
+    --log-days:*) _mortarleek_offer -W '0 7 30' -- "$2" ;;
+    *:-*) _mortarleek_offer -W '--reuse --restart --stand-in --record --record-or-stop --log --log-days --confirm-limit -a -c -D -d -E -k -O -P -s -T -t -U -u' -- "$2" ;;
     *) _mortarleek_offer -c -- "$2" ;;
     esac
 }

@@ -26,6 +26,8 @@ function __mortarleek_agent
     complete $argv -l stand-in -d 'Start the helper for tests'
     complete $argv -l record -r -F -d 'Write what happens to a new file'
     complete $argv -l record-or-stop -d 'Sign nothing of which the record can tell nothing'
+    complete $argv -l log -x -a '(__fish_complete_directories)' -d 'Keep what is signed, a file a day'
+    complete $argv -l log-days -x -a '0 7 30' -d 'Keep so many days of the log'
     complete $argv -l confirm-limit -x -a '30 1m 5m' -d 'End a question to the user after this time'
     complete $argv -s a -r -F -d 'Listen at this path'
     complete $argv -s c -d 'Print lines for csh'
