@@ -137,7 +137,9 @@ install: $(patsubst %,bin/%,$(filter-out $(QUICK),$(INSTALLED)))
 
 uninstall:
 	@if [ -z '$(DESTDIR)' ] && [ -e $(LIBEXEC)/agent_prog ]; then \
-	    echo 'An agent that runs goes on with its keys: kill "$$SSH_AGENT_PID" ends it. The line that starts one is yours to take out of ~/.profile.'; \
+	    number=$$($(BIN)/mortarleek status 2> /dev/null < /dev/null | sed -n 's/^agent: mortarleek .*, number //p'); \
+	    if [ -n "$$number" ] && kill "$$number" 2> /dev/null; then echo "The agent of number $$number has ended, with its keys."; fi; \
+	    echo 'Another agent that runs goes on with its keys: kill "$$SSH_AGENT_PID", or systemctl --user disable --now mortarleek-agent, ends it. A line of ~/.profile that mortarleek setup wrote does nothing from now on.'; \
 	fi
 	rm -f $(SCRIPTS:%=$(BIN)/%) $(INSTALLED:%=$(LIBEXEC)/%) $(HELPERS:%=$(LIBEXEC)/%) $(PARTS:%=$(LIBEXEC)/%)
 	rm -f $(patsubst man/%,$(SHARE)/man/man1/%,$(wildcard man/*.1))

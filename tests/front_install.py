@@ -10,11 +10,12 @@ import shutil
 import signal
 import subprocess
 import tempfile
+import time
 
 import rig
 from front_add import typed_at
 from hosts import Hosts
-from installed import call_proved, check, keygen
+from installed import Installed, call_proved, check, keygen
 from provenance import sum_of_sources
 from rig import Skip, is_alive, needs, run, until
 
@@ -39,7 +40,10 @@ def manuals_are_clean_and_name_every_option(folder):
         "mortarleek-status.1",
         "filter_proxy.8",
     }
+    # Of the day of the release.
+    day, month, year = re.search(r"(?m)^## [0-9.]+, (\d+) (\w+) (\d+)$", (rig.TOP / "CHANGELOG.md").read_text()).groups()
     for page in pages:
+        assert f".Dd {month} {day}, {year}\n" in page.read_text(), page
         said = run(["mandoc", "-T", "lint", "-W", "style", page], None)
         said = "".join(
             line
@@ -300,6 +304,20 @@ def the_package_has_the_very_bytes_that_were_proved_or_says_not(folder):
         assert set(others.split(", ")) == {"mortarleek-helper", *(["add_tool"] if status else [])}, others
 
 
+def is_at_work_from(release, number, home, proved):
+    """Who has a release's folder and nothing else has a key that signs within two minutes, and learns what of it is proved."""
+    begun = time.monotonic()
+    home.mkdir()
+    run(["tar", "-xzf", release / f"mortarleek-{number}-x86_64.tar.gz", "-C", home])
+    script = """mortarleek --version && ssh-keygen -q -t ed25519 -N '' -f key && eval "$(mortarleek agent)" > /dev/null &&
+        mortarleek add key && ssh-add -T key.pub && mortarleek status && mortarleek agent -k"""
+    path = f"{home}/usr/local/bin:{os.environ['PATH']}"
+    said = run(["sh", "-c", script], env={"PATH": path, "HOME": str(home), "TMPDIR": str(home)}, cwd=home)
+    assert said.count(proved) == 1 and said.startswith(f"mortarleek {number}\n"), said
+    assert re.search(r"(?m)^Identity added: key ", said) and "NOT proved" not in said.partition("agent: ")[2], said
+    assert time.monotonic() - begun < 120, time.monotonic() - begun
+
+
 @check
 def a_release_is_made_of_what_the_gate_proved_alone_and_is_checked(folder):
     source = folder / "source"
@@ -311,7 +329,7 @@ def a_release_is_made_of_what_the_gate_proved_alone_and_is_checked(folder):
     commit = run([*git, "rev-parse", "HEAD"], cwd=source).strip()
     names = ("agent_prog", "mortarleek_signer", "add_tool")
     for name in names:
-        rig.script(source / "bin" / name, "exit 2")
+        shutil.copy(rig.built(name), source / "bin")
     quick = {"DPKG_DEB_COMPRESSOR_TYPE": "gzip", "DPKG_DEB_COMPRESSOR_LEVEL": "1"}
     kit = rig.script(folder / "rt", "echo a-kit of this test")
     make = ["make", "--no-print-directory", "-C", source]
@@ -340,6 +358,7 @@ def a_release_is_made_of_what_the_gate_proved_alone_and_is_checked(folder):
     assert "MIO contributors" in notices and "TERMS AND CONDITIONS FOR USE" in notices, notices
     linked = json.loads((made / "sbom.cdx.json").read_text())["dependencies"][0]["dependsOn"]
     assert sorted(linked) == sorted(names), linked
+    is_at_work_from(made, number, folder / "alone", f"proved: agent_prog, mortarleek_signer, add_tool: commit {commit}, a kit\n")
     looks = [*make, "check-release"]
     told = run([*looks, f"FOLDER={made}"]).splitlines()
     assert len(told) == 5 and told[-1] == f"proved at commit {commit} by a kit: 9 passed, 0 failed", told
@@ -451,3 +470,13 @@ cd upper && echo left: && find . -path '*mortarleek*' ! -type c ! -path './var/*
         raise Skip("no overlay of the system can be mounted here")
     assert done.returncode == 0 and "installed: works" in done.stdout, done.stdout[-1500:] + done.stderr[-1500:]
     assert done.stdout.endswith("left:\n"), done.stdout[-500:]
+
+
+@check
+def an_uninstallation_ends_the_agent_and_says_how_others_end(folder):
+    installed = Installed(folder)
+    with installed.start("-a", folder / "s") as daemon:
+        said = daemon.run("make", "-s", "-C", rig.TOP, "uninstall", f"PREFIX={installed.prefix}")
+        assert said.startswith(f"The agent of number {daemon.pid} has ended, with its keys.\nAnother agent "), said
+        until(lambda: not is_alive(daemon.pid), what="the end of the agent")
+        assert not (folder / "s").exists() and not (installed.prefix / "bin").exists() or os.listdir(installed.prefix / "bin") == []
