@@ -113,17 +113,16 @@ impl<R: Files<File = File> + Net + Clock> UnixPairs<'_, R> {
         let upstream = String::from_str(self.alloc, upstream)?;
         let path = String::from_str(self.alloc, path)?;
         let lock = format!(in self.alloc; "{}.lock", path.as_str())?;
-        let (made, device, inode) = listen_at(self.rt, path.as_str(), lock.as_str())?;
+        let (listener, made) = listen_at(self.rt, path.as_str(), lock.as_str())?;
         self.file = Some(BoundFile {
             path,
             lock,
             // A filter asks nobody: no relay of it takes turns.
             questions: String::new(self.alloc),
-            device,
-            inode,
+            made: Some(made),
         });
         self.upstream = upstream;
-        self.watch(made)
+        self.watch(listener)
     }
 
     // epoll tells of who connects.

@@ -1,11 +1,13 @@
-//! Listeners at socket files: makes the files, takes a bounded number a round, removes them.
+//! Listeners at socket files: makes the files or takes sockets that are open, gives a bounded number a round, removes
+//! the files.
 
 ghost use Rattle.std.specs.Prelude.{IsTrue};
 
 use crate::lock::hold;
+use libc::geteuid;
 use libc::net::listen;
 use mio::net::{UnixListener, UnixStream};
-use std::fs::{File, Files, Permissions};
+use std::fs::{File, Files, Metadata, Permissions};
 use std::io::{Error, ErrorKind};
 use std::net::Net;
 use std::os::fd::{AsFd, AsRawFd, OwnedFd};
@@ -14,6 +16,9 @@ use std::os::unix::net;
 use std::os::unix::net::SocketAddr;
 use std::time::Clock;
 use std::{fs, io};
+
+// What others than the owner may do.
+const OF_OTHERS: u32 = 0o077;
 
 // How many connections a listener gives between two polls: whoever else waits isn't kept out by a flood of them.
 const MOST_A_ROUND: u32 = 16;
@@ -76,25 +81,46 @@ impl Listener {
     }
 }
 
-/// A file that was made, and which file of its system it is.
+/// Which file of the system one is, whatever its path.
+#[derive(Clone, Copy, PartialEq, Eq)]
+pub struct FileId {
+    device: u64,
+    inode: u64,
+}
+
+impl FileId {
+    /// That of a file.
+    pub fn of(metadata: &Metadata) -> FileId {
+        FileId {
+            device: metadata.dev(),
+            inode: metadata.ino(),
+        }
+    }
+}
+
+/// The file of a listener.
 #[derive(Drop)]
 pub struct BoundFile {
     pub path: String,
     pub lock: String,
     // What relays lock, so that one question at a time is shown. The first of them makes it.
     pub questions: String,
-    pub device: u64,
-    pub inode: u64,
+    /// Which file this process made. None where whoever started it had made the file, whose it stays.
+    pub made: Option<FileId>,
 }
 
 /// Removes a file that was made, where it is still the one that was made. Where its lock can't be had it stays: nobody
 /// listens there, so the next that comes replaces it.
 pub fn remove_bound<R: Files<File = File> + Clock>(rt: &R, file: &BoundFile) {
+    let Some(made) = file.made else {
+        let _ = fs::remove_file(rt, file.questions.as_str());
+        return;
+    };
     let Ok(held) = hold(rt, file.lock.as_str()) else {
         return;
     };
     if let Ok(metadata) = fs::symlink_metadata(rt, file.path.as_str()) {
-        if metadata.dev() == file.device && metadata.ino() == file.inode {
+        if FileId::of(&metadata) == made {
             let _ = fs::remove_file(rt, file.path.as_str());
             let _ = fs::remove_file(rt, file.questions.as_str());
         }
@@ -102,18 +128,51 @@ pub fn remove_bound<R: Files<File = File> + Clock>(rt: &R, file: &BoundFile) {
     drop(held);
 }
 
-/// A listener at a path whose file only the user may open, and that file's device and inode. A file that nobody listens
-/// at any more is replaced. All of it is done while the lock is held, so no other agent finds the file half made.
+/// A listener at a path whose file only the user may open, and which file that is. A file that nobody listens at any more
+/// is replaced. All of it is done while the lock is held, so no other agent finds the file half made.
 pub fn listen_at<R: Files<File = File> + Net + Clock>(
     rt: &R,
     path: &str,
     lock: &str,
-) -> io::Result<(Listener, u64, u64)> {
+) -> io::Result<(Listener, FileId)> {
     let held = hold(rt, lock)?;
     let made = replace_at(rt, path)?;
     let metadata = fs::symlink_metadata(rt, path)?;
     drop(held);
-    Ok((made, metadata.dev(), metadata.ino()))
+    Ok((made, FileId::of(&metadata)))
+}
+
+/// The listener of a socket that is open already, at a path whose file only this user may open. The lock is held, so that
+/// who waits for it finds the listener whole.
+pub fn listen_by<R: Files<File = File> + Clock>(
+    rt: &R,
+    fd: OwnedFd,
+    path: &str,
+    lock: &str,
+) -> io::Result<Listener> {
+    let held = hold(rt, lock)?;
+    let listener = net::UnixListener::from(fd);
+    if !is_named(rt, &listener.local_addr()?, path)? {
+        return Err(Error::from(ErrorKind::PermissionDenied));
+    }
+    let made = begin_listening(listener)?;
+    drop(held);
+    Ok(made)
+}
+
+// The socket's own name and the path are one file: a socket of this user's that no other may open.
+fn is_named<R: Files>(rt: &R, name: &SocketAddr, path: &str) -> io::Result<bool> {
+    let Some(name) = name.as_pathname() else {
+        return Ok(false);
+    };
+    let named = fs::symlink_metadata(rt, name)?;
+    let found = fs::symlink_metadata(rt, path)?;
+    Ok(
+        FileId::of(&named) == FileId::of(&found)
+            && found.file_type().is_socket()
+            && found.uid() == geteuid()
+            && found.mode() & OF_OTHERS == 0,
+    )
 }
 
 fn replace_at<R: Files + Net>(rt: &R, path: &str) -> io::Result<Listener> {
@@ -145,10 +204,14 @@ fn bind_at<R: Files + Net>(rt: &R, path: &str) -> io::Result<Listener> {
 // The file has its mode before anybody can connect.
 fn listen_on<R: Files + Net>(rt: &R, fd: OwnedFd, path: &str) -> io::Result<Listener> {
     fs::set_permissions(rt, path, Permissions::from_mode(0o600))?;
-    if listen(fd.as_raw_fd(), -1) < 0 {
+    begin_listening(net::UnixListener::from(fd))
+}
+
+// It listens from now on, if it didn't.
+fn begin_listening(listener: net::UnixListener) -> io::Result<Listener> {
+    if listen(listener.as_raw_fd(), -1) < 0 {
         return Err(Error::from(ErrorKind::Other));
     }
-    let listener = net::UnixListener::from(fd);
     listener.set_nonblocking(true)?;
     Ok(Listener {
         listener: UnixListener::from_std(listener),

@@ -21,7 +21,7 @@ mod sockets;
 mod started;
 mod unix;
 
-pub use doors::{BoundFile, Listener, listen_at, remove_bound};
+pub use doors::{BoundFile, FileId, Listener, listen_at, remove_bound};
 pub use port::Port;
 pub use programs::Programs;
 pub use unix::{UnixWorld, is_memory};

@@ -7,7 +7,7 @@ ghost use Rattle.world_ports.specs.Worlds.{OnFailed};
 mod starts;
 
 use crate::clocks::Clocks;
-use crate::doors::{BoundFile, listen_at, remove_bound};
+use crate::doors::{BoundFile, Listener, listen_at, listen_by, remove_bound};
 use crate::owed::Owed;
 use crate::programs::Programs;
 use crate::sockets::Sockets;
@@ -18,6 +18,7 @@ use std::fs::{File, Files};
 use std::io;
 use std::io::{Error, ErrorKind};
 use std::net::Net;
+use std::os::fd::OwnedFd;
 use std::process::Processes;
 use std::random::RandomSource;
 use std::time::Clock;
@@ -42,6 +43,8 @@ pub struct UnixWorld<'a, R: Processes> {
     // Relative paths at which it listens are those of this folder, where there is one.
     folder: Option<String>,
     file: Option<BoundFile>,
+    // The listener's socket, where whoever started this process opened it.
+    given: Option<OwnedFd>,
     starter: Starter,
     sockets: Sockets<R::Started>,
     owed: Owed,
@@ -61,6 +64,7 @@ impl<'a, R: Files + Net + Processes + Env + AllocGlobal> UnixWorld<'a, R> {
             alloc,
             folder: None,
             file: None,
+            given: None,
             starter,
             sockets: Sockets::new(rt, alloc)?,
             owed: Owed::new(alloc),
@@ -76,10 +80,19 @@ impl<'a, R: Files + Net + Processes + Env + AllocGlobal> UnixWorld<'a, R> {
     {
         self.folder = Some(folder);
     }
+
+    /// It is to listen by this socket, which is open already, and to make no file: at the path to which the socket is
+    /// bound, under that or another name, whose file is this user's and no other's to open. Else its bind fails.
+    pub fn set_listener(&mut self, fd: OwnedFd)
+        ensures ports { self.new.last_port ≡ self.old.last_port }
+    {
+        self.given = Some(fd);
+    }
 }
 
 impl<R: Files<File = File> + Processes + Clock> UnixWorld<'_, R> {
-    /// Removes the file that this world made, where it is still the same. One that is gone already is no matter.
+    /// Removes the file that this world made, where it is still the same. One that is gone already is no matter, and one
+    /// of a socket that it was given stays.
     pub fn remove_file(&self) {
         if let Some(file) = &self.file {
             remove_bound(self.rt, file);
@@ -114,25 +127,43 @@ fn path_in(alloc: Global, folder: &Option<String>, path: &str) -> Result<String,
     }
 }
 
-// Listens at a path, and keeps which file that made.
-fn listen<R: Files<File = File> + Net + Processes + Clock>(
+// Listens at a path, by the socket that was given or by one that it makes, and keeps which file that made.
+fn listen<R: Files<File = File> + Net + Clock>(
     rt: &R,
     alloc: Global,
     path: String,
+    given: Option<OwnedFd>,
     file: &mut Option<BoundFile>,
-    sockets: &mut Sockets<R::Started>,
-) -> io::Result<()> {
+) -> io::Result<Listener> {
     let lock = format!(in alloc; "{}.lock", path.as_str())?;
     let questions = format!(in alloc; "{}.questions", path.as_str())?;
-    let (made, device, inode) = listen_at(rt, path.as_str(), lock.as_str())?;
+    let (listener, made) = match given {
+        Some(fd) => (listen_by(rt, fd, path.as_str(), lock.as_str())?, None),
+        None => {
+            let (listener, made) = listen_at(rt, path.as_str(), lock.as_str())?;
+            (listener, Some(made))
+        }
+    };
     *file = Some(BoundFile {
         path,
         lock,
         questions,
-        device,
-        inode,
+        made,
     });
-    sockets.watch(made)
+    Ok(listener)
+}
+
+// Listens at a path, and has epoll tell of who connects there.
+fn open<R: Files<File = File> + Net + Processes + Clock>(
+    rt: &R,
+    alloc: Global,
+    path: String,
+    given: Option<OwnedFd>,
+    file: &mut Option<BoundFile>,
+    sockets: &mut Sockets<R::Started>,
+) -> io::Result<()> {
+    let listener = listen(rt, alloc, path, given, file)?;
+    sockets.watch(listener)
 }
 
 impl<R: Files<File = File> + Net + Processes + RandomSource + Clock + Eprint> World
@@ -166,7 +197,15 @@ impl<R: Files<File = File> + Net + Processes + RandomSource + Clock + Eprint> Wo
             return Ok(());
         }
         let path = path_in(self.alloc, &self.folder, path)?;
-        match listen(self.rt, self.alloc, path, &mut self.file, &mut self.sockets) {
+        let given = self.given.take();
+        match open(
+            self.rt,
+            self.alloc,
+            path,
+            given,
+            &mut self.file,
+            &mut self.sockets,
+        ) {
             Ok(()) => Ok(()),
             Err(error) => Err(fault_of(&mut self.faults, &error)),
         }
