@@ -37,7 +37,7 @@ pub kept_rising : (slots : List Slot) (closed : List ℕ) (room last : ℕ) → 
 kept_rising slots closed room last kept = rising_higher 0 last (2 ^ 64) (ports_of slots) (omega (arith, kept.fits)) kept.rising
 
 -- a port at its place
-within_place : (slots : List Slot) (number place : ℕ) → IsPlace number (ports_of slots) place → place < length slots
+pub within_place : (slots : List Slot) (number place : ℕ) → IsPlace number (ports_of slots) place → place < length slots
 within_place slots number place is =
     let same : length (ports_of slots) ≡ length slots = length-ports_of slots in
     omega (arith, is.within)
@@ -77,7 +77,7 @@ same_port slot old number door =
     ap (λ n. let p : Port = record (port_of slot) { number = n } in p) number
     ∙ ap (λ d. let p : Port = record (port_of slot) { number = old.number; door = d } in p) door
 
-set_bytes : (slots : List Slot) (number place : ℕ) (slot old : Slot) → IsPlace number (ports_of slots) place → find_port number (ports_of slots) ≡ Some (port_of old) → slot.number ≡ old.number → slot.door ≡ old.door → ports_of (set slots place slot) ≡ change_port number (with_bytes slot) (ports_of slots)
+pub set_bytes : (slots : List Slot) (number place : ℕ) (slot old : Slot) → IsPlace number (ports_of slots) place → find_port number (ports_of slots) ≡ Some (port_of old) → slot.number ≡ old.number → slot.door ≡ old.door → ports_of (set slots place slot) ≡ change_port number (with_bytes slot) (ports_of slots)
 set_bytes slots number place slot old is found same door =
     set_changed slots number place slot (port_of old) (with_bytes slot) is found (same_port slot old same door)
 
@@ -89,11 +89,11 @@ found_set slots number place slot old is found same door =
     ∙ ap (option_map (with_bytes slot)) found
     ∙ ap Some (sym (same_port slot old same door))
 
-length-set_slots : (slots : List Slot) (number place : ℕ) (slot : Slot) (ports : List Port) → ports_of (set slots place slot) ≡ ports → length (set slots place slot) ≡ length ports
+pub length-set_slots : (slots : List Slot) (number place : ℕ) (slot : Slot) (ports : List Port) → ports_of (set slots place slot) ≡ ports → length (set slots place slot) ≡ length ports
 length-set_slots slots number place slot ports same =
     sym (length-ports_of (set slots place slot)) ∙ ap length same
 
-length-change_port : (number : ℕ) (f : Port → Port) (ports : List Port) → length (change_port number f ports) ≡ length ports
+pub length-change_port : (number : ℕ) (f : Port → Port) (ports : List Port) → length (change_port number f ports) ≡ length ports
 length-change_port number f ports = length-change (has_key number_of number) f ports
 
 -- one port is changed under its number and its door
@@ -112,7 +112,7 @@ kept-changed slots closed room last number place slot old kept is found same doo
 
 -- ---- ports that go and come
 
-length-remove_slot : (slots : List Slot) (place : ℕ) → place < length slots → length (remove slots place) + 1 ≡ length slots
+pub length-remove_slot : (slots : List Slot) (place : ℕ) → place < length slots → length (remove slots place) + 1 ≡ length slots
 length-remove_slot [] place within = absurd (omega arith)
 length-remove_slot (slot ∷ slots) zero within = grind (arith, length-append {A = Slot})
 length-remove_slot (slot ∷ slots) (suc place) within =

@@ -1,4 +1,5 @@
 pub mod AgentLemmas
+pub mod AlikeLemmas
 pub mod BoundLemmas
 pub mod ChildLemmas
 pub mod ConfirmerLemmas
@@ -15,9 +16,11 @@ pub mod NextChildLemmas
 pub mod NextConfirmerLemmas
 pub mod NextLemmas
 pub mod OwingLemmas
+pub mod OwingNewsLemmas
 pub mod PaceLemmas
 pub mod PlaceLemmas
 pub mod RoleLemmas
 pub mod SeenLemmas
 pub mod SettingsLemmas
 pub mod ShortLemmas
+pub mod TouchedLemmas

@@ -1,12 +1,12 @@
 -- The storage of the open ports as the abstract agent sees it.
-use Rattle.std.specs.Prelude.{ℕ, ◌+◌, ◌^◌, ◌<◌, ◌≤◌, List, [], ◌∷◌, length, map, Option, Some, None, Bool, nat_lt, ◌&&◌, if◌then◌else◌}
+use Rattle.std.specs.Prelude.{◌≡◌, ℕ, ◌+◌, ◌^◌, ◌<◌, ◌≤◌, List, [], ◌∷◌, length, map, Option, Some, None, is_some, Bool, true, false, nat_lt, ◌&&◌, ◌||◌, if◌then◌else◌}
 use Rattle.dest_rule.specs.Chains.{ChainState}
 use Rattle.agent_core.specs.declared.slot.Slot.{Slot}
 use Rattle.agent_core.specs.declared.waits.Waits.{Waits as CoreWaits}
 use Rattle.agent_core.specs.declared.waits.Waits.TheVariants as waits
-use Rattle.lists.specs.Rising.{IsRisingList}
+use Rattle.lists.specs.Rising.{IsRisingList, is_among}
 use Rattle.agent_model.specs.Sound.{IsRising}
-use Rattle.agent_model.specs.State.{Nothing, OnAsk, OnConfirmation, Port, Waits, is_client, is_some_bytes}
+use Rattle.agent_model.specs.State.{Nothing, OnAsk, OnConfirmation, Port, Waits, find_port, is_client, is_some_bytes}
 
 -- what a client waits for
 abbrev pub waits_of : CoreWaits → Waits
@@ -59,9 +59,41 @@ pub record OpenPorts : Type 0 where
   pub last : ℕ
   pub closed : List ℕ
 
+-- and those that were touched since then beside: rising too
+pub record MarkedPorts : Type 0 where
+  pub ports : List Port
+  pub last : ℕ
+  pub closed : List ℕ
+  pub touched : List ℕ
+
+-- the open ports without those that were touched
+abbrev pub open_of : MarkedPorts → OpenPorts
+open_of marked = record { ports = marked.ports; last = marked.last; closed = marked.closed }
+
+-- the port is neither among those that were closed nor among those that were touched
+abbrev pub IsUntouched : ℕ → (closed touched : List ℕ) → Type 0
+IsUntouched port closed touched = (is_among port closed ≡ false) × (is_among port touched ≡ false)
+
+-- a port that is neither then was neither before, and is found as it was
+abbrev pub Spares : MarkedPorts → MarkedPorts → Type 0
+Spares old new = (port : ℕ) → IsUntouched port new.closed new.touched
+    → IsUntouched port old.closed old.touched × (find_port port new.ports ≡ find_port port old.ports)
+
 -- the numbers rise up to the last one; those that were closed are listed, in a list with room for all that are open
 pub record IsKept (slots : List Slot) (closed : List ℕ) (closed_room last : ℕ) : Type 0 where
   pub rising : IsRising 0 last (ports_of slots)
   pub closed_rising : IsRisingList closed
   pub closed_fits : length slots + length closed ≤ closed_room
   pub fits : last < 2 ^ 64
+
+-- those that were touched are listed, each of which is open or was closed, in a list with room for all of them
+pub record IsMarked (ports : List Port) (count : ℕ) (closed touched : List ℕ) (touched_room : ℕ) : Type 0 where
+  pub rising : IsRisingList touched
+  pub known : (port : ℕ) → is_among port touched ≡ true
+      → (is_some (find_port port ports) || is_among port closed) ≡ true
+  pub fits : count + length closed ≤ touched_room
+
+-- both
+pub record IsListed (slots : List Slot) (closed : List ℕ) (closed_room : ℕ) (touched : List ℕ) (touched_room last : ℕ) : Type 0 where
+  pub kept : IsKept slots closed closed_room last
+  pub marked : IsMarked (ports_of slots) (length slots) closed touched touched_room

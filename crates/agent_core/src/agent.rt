@@ -12,7 +12,7 @@ ghost use Rattle.agent_model.specs.Time.{at_moment};
 ghost use Rattle.agent_core.specs.Bound.{WantsNoMemory};
 ghost use Rattle.agent_core.specs.Happenings.{happening};
 ghost use Rattle.agent_core.specs.Owing.{is_client_at, next_child_owed};
-ghost use Rattle.agent_core.specs.Parts.{opening, settings_in, settings_of};
+ghost use Rattle.agent_core.specs.Parts.{IsSpared, opening, settings_in, settings_of, stepped_of};
 ghost use Rattle.under_way.specs.Times.{limits_of};
 
 use crate::keys::Keys;
@@ -39,11 +39,10 @@ pub struct Agent {
 }
 
 impl Model for Agent {
-    ghost use Rattle.agent_model.specs.Actions.{Stepped};
     ghost use Rattle.agent_core.specs.Bound.{IsCurrent};
-    ghost use Rattle.agent_core.specs.Parts.{settings_of};
+    ghost use Rattle.agent_core.specs.Parts.{Moved, settings_of};
 
-    ghost Value = { Stepped };
+    ghost Value = { Moved };
 
     ghost view = { λ a. a.parts };
 
@@ -95,7 +94,8 @@ impl Agent {
     pub fn step(&mut self, moment: Moment, event: &Event<'_>) -> Result<(), AllocError>
         requires { Fits (happening event.now) self.old.state }
         ensures stepped { OnOk result
-            (self.new ≡ stepped (step self.old.state moment (happening event.now))) }
+            (stepped_of self.new ≡ stepped (step self.old.state moment (happening event.now))) }
+        ensures spared { OnOk result (IsSpared self.old.state self.new) }
         ensures succeeds { WantsNoMemory (at_moment moment self.old.state) (happening event.now) → IsOk result }
         ensures wiped { OnErr result (self.new ≡ opening (settings_in self.old.state)) }
     {
@@ -169,6 +169,13 @@ impl Agent {
         ensures { result.now ≡ self.now.closes }
     {
         self.parts.ports.closed()
+    }
+
+    /// The ports that the last step touched, rising: any other that it didn't close is as it was before it.
+    pub fn touched(&self) -> &[u64]
+        ensures { result.now ≡ self.now.touched }
+    {
+        self.parts.ports.touched()
     }
 
     /// The first second from which an identity is dead, or something has been waited for as long as it may be: `None`

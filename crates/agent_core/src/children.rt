@@ -1,15 +1,15 @@
 //! Child processes that haven't named themselves.
 
-ghost use Rattle.std.specs.Prelude.{◌≡◌, None, Some, IfSome, IsSome, OnOk};
+ghost use Rattle.std.specs.Prelude.{◌≡◌, None, Some, IfSome, IsSome, OnOk, List};
 ghost use Rattle.child_msg.specs.Reading.{from_child_of};
 ghost use Rattle.frame_core.specs.Looks.{front_of};
 ghost use Rattle.wire_text.specs.Bounds.{longest_body};
 ghost use Rattle.wire_text.specs.Frames.{Whole, after_front, front, front_body};
 ghost use Rattle.agent_model.specs.Children.{first_message, unnamed_heard};
-ghost use Rattle.agent_model.specs.State.{Port, find_port};
+ghost use Rattle.agent_model.specs.State.{Port, State, find_port};
 ghost use Rattle.confirm_desk.specs.Confirmations.{find_linked};
 ghost use Rattle.agent_core.specs.Bound.{AreHeldFor, IsBound};
-ghost use Rattle.agent_core.specs.Parts.{after};
+ghost use Rattle.agent_core.specs.Parts.{IsSpared, after, stepped_of};
 ghost use Rattle.agent_core.specs.Settlings.{IsNamed, named_job};
 ghost use Rattle.agent_core.specs.Slots.{heard_in};
 
@@ -31,8 +31,9 @@ impl Parts {
         requires bound { IsBound self.old.state.ports self.old.state.under_way }
         requires held { AreHeldFor self.old.state.under_way.confirmations self.old.state.ports }
 
-        ensures { (port : Port) → find_port number self.old.state.ports ≡ Some port → OnOk result
-            (self.new ≡ after self.old.closes (unnamed_heard port.heard piece.now number self.old.state)) }
+        ensures parts { (port : Port) → find_port number self.old.state.ports ≡ Some port → OnOk result
+            (stepped_of self.new ≡ after self.old.closes (unnamed_heard port.heard piece.now number self.old.state)) }
+        ensures spared { (was : State) → IsSpared was self.old → OnOk result (IsSpared was self.new) }
     {
         self.ports.push(number, piece)?;
         match first_frame(&self.ports, number) {
@@ -54,9 +55,10 @@ impl Parts {
         requires bound { IsBound self.old.state.ports self.old.state.under_way }
         requires held { AreHeldFor self.old.state.under_way.confirmations self.old.state.ports }
 
-        ensures { (port : Port) → find_port number self.old.state.ports ≡ Some port → OnOk result
-            (self.new ≡ after self.old.closes (first_message (from_child_of (front_body body_len port.heard)) number
+        ensures parts { (port : Port) → find_port number self.old.state.ports ≡ Some port → OnOk result
+            (stepped_of self.new ≡ after self.old.closes (first_message (from_child_of (front_body body_len port.heard)) number
             (after_front body_len port.heard) self.old.state)) }
+        ensures spared { (was : State) → IsSpared was self.old → OnOk result (IsSpared was self.new) }
     {
         let Some(job) = job_named(
             &self.under_way,

@@ -1,6 +1,6 @@
 //! What is tested again when the user consents.
 
-ghost use Rattle.std.specs.Prelude.{◌≡◌, ◌≤◌, ℕ, [], IfOk, IfSome, IsSome, OnOk, Some, is_none, length};
+ghost use Rattle.std.specs.Prelude.{◌≡◌, ◌≤◌, ℕ, [], IfOk, IfSome, IsSome, OnOk, None, Some, is_none, length, List};
 ghost use Rattle.std.specs.Option.{option_copied};
 ghost use Rattle.dest_rule.specs.Rules.{denial_under};
 ghost use Rattle.identity_table.specs.Identities.{find_number};
@@ -10,11 +10,14 @@ ghost use Rattle.agent_model.specs.Consents.{close_confirmer, confirmer_closes};
 ghost use Rattle.agent_model.specs.NumberLists.{put_all};
 ghost use Rattle.agent_model.specs.Objections.{objection};
 ghost use Rattle.wire_text.specs.Bounds.{longest_body};
-ghost use Rattle.agent_model.specs.State.{Port, change_port, find_port};
+ghost use Rattle.agent_model.specs.State.{Port, State, change_port, find_port};
 ghost use Rattle.agent_model.specs.Verdicts.{Verdict, tell};
 ghost use Rattle.under_way.specs.Parts.{TellsOf};
 ghost use Rattle.agent_core.specs.Confirmers.{IsGrant, IsGrantedTo, IsShortKey, grant_in, grant_of, granted_by};
+ghost use Rattle.agent_core.specs.Slots.{IsUntouched, Spares, open_of};
+ghost use Rattle.agent_core.specs.Parts.{IsSpared, stepped_of};
 
+use crate::helper::touch_asked;
 use crate::keys::Keys;
 use crate::parts::Parts;
 use crate::ports::Ports;
@@ -92,8 +95,11 @@ impl Parts {
         ensures ports { OnOk result (self.new.state.ports ≡ self.old.state.ports) }
         ensures put { (port : Port) (one : Confirmation) → find_port held.now.asker self.old.state.ports ≡ Some port
             → given_back one ≡ held.now
-            → IfOk result (λ asked. IsGrantedTo asked self.new (grant_in port.chain one self.old.state) self.old) }
+            → IfOk result (λ asked. IsGrantedTo asked (stepped_of self.new)
+            (grant_in port.chain one self.old.state) (stepped_of self.old)) }
+        ensures spared { (was : State) → IsSpared was self.old → OnOk result (IsSpared was self.new) }
     {
+        let asks = self.under_way.asks();
         let asked = ask_granted(
             &self.ports,
             &mut self.under_way,
@@ -101,6 +107,7 @@ impl Parts {
             self.wall,
             held,
         )?;
+        touch_asked(&mut self.ports, &self.under_way, asks);
         match asked {
             Some(ask) => {
                 self.keys.spend(held.addition);
@@ -143,10 +150,13 @@ fn ask_granted(
 pub fn conclude(ports: &mut Ports, confirmer: Option<u64>, asker: u64, asked: Option<u64>)
     requires silent { (port : Port) → find_port asker ports.old.ports ≡ Some port → port.owed ≡ [] }
 
-    ensures { (verdict : Verdict) → TellsOf verdict asked → ports.new ≡ record ports.old {
+    ensures ports { (verdict : Verdict) → TellsOf verdict asked → open_of ports.new ≡ record (open_of ports.old) {
       ports = change_port asker (tell verdict) (close_confirmer confirmer ports.old.ports);
       closed = put_all ports.old.closed (confirmer_closes confirmer ports.old.ports);
     } }
+    ensures spared { Spares ports.old ports.new }
+    ensures gone { (number : ℕ) → confirmer ≡ Some number
+        → IsUntouched number ports.new.closed ports.new.touched → find_port number ports.new.ports ≡ None }
 {
     close_confirmer(ports, confirmer);
     ports.conclude(asker, asked);
@@ -154,12 +164,14 @@ pub fn conclude(ports: &mut Ports, confirmer: Option<u64>, asker: u64, asked: Op
 
 // Closes the port of a confirmer, where that came and is open.
 fn close_confirmer(ports: &mut Ports, confirmer: Option<u64>)
-    ensures ports { ports.new ≡ record ports.old {
+    ensures ports { open_of ports.new ≡ record (open_of ports.old) {
       ports = close_confirmer confirmer ports.old.ports;
       closed = put_all ports.old.closed (confirmer_closes confirmer ports.old.ports);
     } }
     ensures left { (number : ℕ) (port : Port) → find_port number ports.new.ports ≡ Some port
         → find_port number ports.old.ports ≡ Some port }
+    ensures spared { Spares ports.old ports.new }
+    ensures gone { (number : ℕ) → confirmer ≡ Some number → find_port number ports.new.ports ≡ None }
 {
     match confirmer {
         Some(number) => ports.close_open(number),

@@ -1,17 +1,18 @@
 //! What comes of the helper: its answers, and its loss.
 
-ghost use Rattle.std.specs.Prelude.{◌≡◌, ◌≢◌, ℕ, List, [], OnOk, Some};
+ghost use Rattle.std.specs.Prelude.{◌≡◌, ◌≢◌, ◌⊎◌, ℕ, List, [], OnOk, None, Some, false, true};
 ghost use Rattle.helper_link.specs.HelperLink.{IsLinked, askers};
 ghost use Rattle.helper_link.specs.declared.ask.Ask.{Ask as AnAsk};
 ghost use Rattle.agent_model.specs.Answers.{close_helper, find_verification, helper_closes, helper_heard, lose, remove_verification, tell_each};
 ghost use Rattle.agent_model.specs.KeyStates.{KeyState};
 ghost use Rattle.agent_model.specs.NumberLists.{put_all};
 ghost use Rattle.agent_model.specs.Sound.{AreTied};
-ghost use Rattle.agent_model.specs.State.{Port, change_port, find_port};
+ghost use Rattle.agent_model.specs.State.{Port, State, change_port, find_port, is_linked_to};
 ghost use Rattle.agent_model.specs.Verdicts.{HelperLost, Refuses, tell};
 ghost use Rattle.agent_core.specs.Bound.{AreSilent, IsBound};
-ghost use Rattle.agent_core.specs.Parts.{after, parts_of, state_of};
+ghost use Rattle.agent_core.specs.Parts.{AreSpared, after, parts_of, state_of};
 ghost use Rattle.agent_core.specs.Settlings.{AreProvable, AreShortAnswers, IsProvable, IsShortAnswer, answered, told_with, unanswered};
+ghost use Rattle.agent_core.specs.Slots.{IsUntouched, Spares, open_of};
 
 use crate::ports::Ports;
 use helper_link::{Answer, Ask, LinkState, Settled};
@@ -27,8 +28,10 @@ pub fn hear_helper(
     requires linked { IsLinked under_way.old.link.state }
     requires bound { IsBound ports.old.ports under_way.old }
 
-    ensures { (wall : ℕ) (keys : KeyState) → OnOk result (parts_of wall keys under_way.new ports.new
-        ≡ after ports.old.closed (helper_heard piece.now (state_of wall keys under_way.old ports.old))) }
+    ensures parts { (wall : ℕ) (keys : KeyState) → OnOk result (parts_of wall keys under_way.new (open_of ports.new)
+        ≡ after ports.old.closed (helper_heard piece.now (state_of wall keys under_way.old (open_of ports.old)))) }
+    ensures spared { (was : State)
+        → AreSpared was under_way.old ports.old → OnOk result (AreSpared was under_way.new ports.new) }
 {
     let told = under_way.helper_told(piece)?;
     answer_all(ports, under_way, told.settled.as_slice())?;
@@ -47,8 +50,10 @@ pub fn lose_helper(ports: &mut Ports, under_way: &mut UnderWay)
     requires some { under_way.old.link.state ≢ LinkState.None }
     requires bound { IsBound ports.old.ports under_way.old }
 
-    ensures { (wall : ℕ) (keys : KeyState) → parts_of wall keys under_way.new ports.new
-        ≡ after ports.old.closed (lose (state_of wall keys under_way.old ports.old)) }
+    ensures parts { (wall : ℕ) (keys : KeyState) → parts_of wall keys under_way.new (open_of ports.new)
+        ≡ after ports.old.closed (lose (state_of wall keys under_way.old (open_of ports.old))) }
+    ensures spared { (was : State)
+        → AreSpared was under_way.old ports.old → AreSpared was under_way.new ports.new }
 {
     close_helper(ports, under_way.link_state());
     let failed = under_way.lose();
@@ -57,11 +62,13 @@ pub fn lose_helper(ports: &mut Ports, under_way: &mut UnderWay)
 
 // The helper's port is closed, where it came.
 fn close_helper(ports: &mut Ports, state: LinkState)
-    ensures ports { ports.new ≡ record ports.old {
+    ensures ports { open_of ports.new ≡ record (open_of ports.old) {
       ports = close_helper state ports.old.ports;
       closed = put_all ports.old.closed (helper_closes state ports.old.ports);
     } }
     ensures tied { (asks : List AnAsk) → AreTied ports.old.ports asks → AreTied ports.new.ports asks }
+    ensures gone { (number : ℕ) → is_linked_to number state ≡ true → find_port number ports.new.ports ≡ None }
+    ensures spared { Spares ports.old ports.new }
 {
     match state {
         LinkState::Linked { port } => ports.close_open(port),
@@ -69,12 +76,40 @@ fn close_helper(ports: &mut Ports, state: LinkState)
     }
 }
 
+/// The helper's port is touched, where it came and an ask was put since there were so many: it is owed more. Takes no
+/// memory.
+pub fn touch_asked(ports: &mut Ports, under_way: &UnderWay, asks: u64)
+    ensures ports { open_of ports.new ≡ open_of ports.old }
+    ensures spared { Spares ports.old ports.new }
+    ensures touched { (number : ℕ) (at : Port) → IsUntouched number ports.new.closed ports.new.touched
+        → find_port number ports.new.ports ≡ Some at
+        → (under_way.now.link.last ≡ asks) ⊎ (is_linked_to number under_way.now.link.state ≡ false) }
+{
+    if under_way.asks() != asks {
+        touch_helper(ports, under_way.link_state());
+    }
+}
+
+// The helper's port is touched, where it came.
+fn touch_helper(ports: &mut Ports, state: LinkState)
+    ensures ports { open_of ports.new ≡ open_of ports.old }
+    ensures spared { Spares ports.old ports.new }
+    ensures touched { (number : ℕ) → is_linked_to number state ≡ true
+        → IsUntouched number ports.new.closed ports.new.touched → find_port number ports.new.ports ≡ None }
+{
+    match state {
+        LinkState::Linked { port } => ports.touch(port),
+        LinkState::None | LinkState::Starting { .. } => {}
+    }
+}
+
 // Tells who asked that the helper is lost, in the order of the asks. Takes no memory.
 fn refuse_all(ports: &mut Ports, asks: &[Ask])
     requires { AreSilent (askers asks.now) ports.old.ports }
-    ensures { ports.new ≡ record ports.old {
+    ensures ports { open_of ports.new ≡ record (open_of ports.old) {
       ports = tell_each (Refuses HelperLost) (askers asks.now) ports.old.ports;
     } }
+    ensures spared { Spares ports.old ports.new }
 {
     for ask in asks {
         refuse_one(ports, ask);
@@ -84,9 +119,10 @@ fn refuse_all(ports: &mut Ports, asks: &[Ask])
 // Tells who asked that the helper is lost.
 fn refuse_one(ports: &mut Ports, ask: &Ask)
     requires { (port : Port) → find_port ask.now.asker ports.old.ports ≡ Some port → port.owed ≡ [] }
-    ensures { ports.new ≡ record ports.old {
+    ensures ports { open_of ports.new ≡ record (open_of ports.old) {
       ports = change_port ask.now.asker (tell (Refuses HelperLost)) ports.old.ports;
     } }
+    ensures spared { Spares ports.old ports.new }
 {
     ports.conclude(ask.asker, None);
 }
@@ -100,12 +136,13 @@ fn answer_all(
     requires short { AreShortAnswers settled.now }
     requires provable { AreProvable settled.now under_way.old.verifications ports.old.ports }
 
-    ensures ports { OnOk result (ports.new ≡ record ports.old {
+    ensures ports { OnOk result (open_of ports.new ≡ record (open_of ports.old) {
       ports = answered settled.now under_way.old.verifications ports.old.ports;
     }) }
     ensures under_way { OnOk result (under_way.new ≡ record under_way.old {
       verifications = unanswered settled.now under_way.old.verifications;
     }) }
+    ensures spared { Spares ports.old ports.new }
 {
     for one in settled {
         answer_one(ports, under_way, one)?;
@@ -119,13 +156,14 @@ fn answer_one(ports: &mut Ports, under_way: &mut UnderWay, one: &Settled) -> Res
     requires provable { IsProvable (find_verification one.now.ask under_way.old.verifications)
         (find_port one.now.asker ports.old.ports) }
 
-    ensures ports { OnOk result (ports.new ≡ record ports.old {
+    ensures ports { OnOk result (open_of ports.new ≡ record (open_of ports.old) {
       ports = change_port one.now.asker
           (told_with one.now.answer (find_verification one.now.ask under_way.old.verifications)) ports.old.ports;
     }) }
     ensures under_way { under_way.new ≡ record under_way.old {
       verifications = remove_verification one.now.ask under_way.old.verifications;
     } }
+    ensures spared { Spares ports.old ports.new }
 {
     match (&one.answer, under_way.take_verification(one.ask)) {
         (Answer::True, Some(verification)) => ports.prove(one.asker, &verification),

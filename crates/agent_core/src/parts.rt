@@ -1,6 +1,6 @@
 //! The agent's state in storage, and what each event does to it.
 
-ghost use Rattle.std.specs.Prelude.{◌≡◌, ℕ, IfOk, IsFalse, IsOk, IsSome, OnOk};
+ghost use Rattle.std.specs.Prelude.{◌≡◌, ℕ, IfOk, IsFalse, IsOk, IsSome, OnOk, List};
 ghost use Rattle.wire_text.specs.Frames.{Whole};
 ghost use Rattle.frame_core.specs.Looks.{front_of};
 ghost use Rattle.agent_model.specs.Actions.{stepped};
@@ -9,17 +9,17 @@ ghost use Rattle.agent_model.specs.Children.{changed, heard_more, is_started_by}
 ghost use Rattle.agent_model.specs.Looks.{due_by};
 ghost use Rattle.agent_model.specs.Events.{Ended, Heard, Joined, StartFailed, Started, Took};
 ghost use Rattle.agent_model.specs.Sound.{IsSteady, IsTied};
-ghost use Rattle.agent_model.specs.State.{Fits, find_port, next_due, next_owed, owed_of};
+ghost use Rattle.agent_model.specs.State.{Fits, Port, State, find_port, next_due, next_owed, owed_of};
 ghost use Rattle.agent_model.specs.Step.{handle, looked, step};
 ghost use Rattle.agent_model.specs.Time.{at_moment};
 ghost use Rattle.agent_core.specs.Bound.{IsAtRest, IsBound, StillFits, WantsNoMemory};
 ghost use Rattle.agent_core.specs.Happenings.{happening};
 ghost use Rattle.agent_core.specs.Owing.{next_child_owed};
-ghost use Rattle.agent_core.specs.Parts.{after};
+ghost use Rattle.agent_core.specs.Parts.{IsSpared, after, stepped_of};
 
 use crate::Event;
 use crate::confirmer::{end_if, lose_client, lose_confirmer};
-use crate::helper::{hear_helper, lose_helper};
+use crate::helper::{hear_helper, lose_helper, touch_asked};
 use crate::keys::Keys;
 use crate::ports::Ports;
 use crate::role::{Role, child_owed, lesser, owed_helper_above, role_at};
@@ -45,12 +45,11 @@ pub struct Parts {
 }
 
 impl Model for Parts {
-    ghost use Rattle.agent_model.specs.Actions.{Stepped};
-    ghost use Rattle.agent_core.specs.Parts.{parts_of};
+    ghost use Rattle.agent_core.specs.Parts.{Moved, moved_of};
 
-    ghost Value = { Stepped };
+    ghost Value = { Moved };
 
-    ghost view = { λ c. parts_of c.wall c.keys c.under_way c.ports };
+    ghost view = { λ c. moved_of c.wall c.keys c.under_way c.ports };
 }
 
 impl Parts {
@@ -67,9 +66,10 @@ impl Parts {
         requires due { due ≡ next_due self.old.state }
 
         ensures stepped { OnOk result
-            (self.new ≡ stepped (step self.old.state moment (happening event.now))) }
+            (stepped_of self.new ≡ stepped (step self.old.state moment (happening event.now))) }
         ensures same { IfOk result (λ moved. IsFalse moved → next_due self.new.state ≡ next_due self.old.state) }
         ensures succeeds { WantsNoMemory (at_moment moment self.old.state) (happening event.now) → IsOk result }
+        ensures spared { OnOk result (IsSpared self.old.state self.new) }
     {
         let passed = self.pass(moment, due);
         let moved = self.handle(event)?;
@@ -129,9 +129,10 @@ impl Parts {
         requires rest { IsAtRest self.old.state }
 
         ensures handled { OnOk result
-            (self.new ≡ after self.old.closes (handle (happening event.now) self.old.state)) }
+            (stepped_of self.new ≡ after self.old.closes (handle (happening event.now) self.old.state)) }
         ensures same { IfOk result (λ moved. IsFalse moved → next_due self.new.state ≡ next_due self.old.state) }
         ensures succeeds { WantsNoMemory self.old.state (happening event.now) → IsOk result }
+        ensures spared { (was : State) → IsSpared was self.old → OnOk result (IsSpared was self.new) }
     {
         match *event {
             Event::Joined(door) => {
@@ -163,8 +164,9 @@ impl Parts {
     fn join(&mut self, door: Door) -> Result<(), AllocError>
         requires { StillFits (Joined door) self.old.state }
 
-        ensures { OnOk result
-            (self.new ≡ after self.old.closes (handle (Joined door) self.old.state)) }
+        ensures parts { OnOk result
+            (stepped_of self.new ≡ after self.old.closes (handle (Joined door) self.old.state)) }
+        ensures spared { (was : State) → IsSpared was self.old → OnOk result (IsSpared was self.new) }
     {
         let has_room = match door {
             Door::Clients => self.ports.clients() < MOST_CLIENTS,
@@ -177,8 +179,9 @@ impl Parts {
     fn hear(&mut self, port: u64, piece: &[u8]) -> Result<(), AllocError>
         requires rest { IsAtRest self.old.state }
 
-        ensures { OnOk result
-            (self.new ≡ after self.old.closes (handle (Heard port piece.now) self.old.state)) }
+        ensures parts { OnOk result
+            (stepped_of self.new ≡ after self.old.closes (handle (Heard port piece.now) self.old.state)) }
+        ensures spared { (was : State) → IsSpared was self.old → OnOk result (IsSpared was self.new) }
     {
         match role_at(&self.ports, &self.under_way, port) {
             Some(Role::Client) => self.hear_client(port, piece),
@@ -194,8 +197,9 @@ impl Parts {
         requires is_open { IsSome (find_port port self.old.state.ports) }
         requires rest { IsAtRest self.old.state }
 
-        ensures { OnOk result (self.new ≡ after self.old.closes
+        ensures parts { OnOk result (stepped_of self.new ≡ after self.old.closes
             (looked port (changed port (heard_more piece.now) self.old.state))) }
+        ensures spared { (was : State) → IsSpared was self.old → OnOk result (IsSpared was self.new) }
     {
         let front = self.ports.push(port, piece)?;
         self.look(port, front)?;
@@ -208,9 +212,10 @@ impl Parts {
         requires rest { IsAtRest self.old.state }
 
         ensures sent { OnOk result
-            (self.new ≡ after self.old.closes (handle (Took port count) self.old.state)) }
+            (stepped_of self.new ≡ after self.old.closes (handle (Took port count) self.old.state)) }
         ensures same { IfOk result (λ moved. IsFalse moved → next_due self.new.state ≡ next_due self.old.state) }
         ensures succeeds { WantsNoMemory self.old.state (Took port count) → IsOk result }
+        ensures spared { (was : State) → IsSpared was self.old → OnOk result (IsSpared was self.new) }
     {
         match role_at(&self.ports, &self.under_way, port) {
             Some(Role::Client) => {
@@ -219,11 +224,13 @@ impl Parts {
             }
             Some(Role::Helper) => {
                 let count = count.min(self.under_way.owed().len());
+                self.ports.touch(port);
                 self.under_way.helper_took(count);
                 Ok(true)
             }
             Some(Role::Confirmer) => {
                 let count = count.min(self.under_way.confirmer_owed(port).len());
+                self.ports.touch(port);
                 self.under_way.confirmer_took(port, count);
                 Ok(true)
             }
@@ -237,7 +244,8 @@ impl Parts {
     fn end(&mut self, port: u64)
         requires rest { IsAtRest self.old.state }
 
-        ensures { self.new ≡ after self.old.closes (handle (Ended port) self.old.state) }
+        ensures parts { stepped_of self.new ≡ after self.old.closes (handle (Ended port) self.old.state) }
+        ensures spared { (was : State) → IsSpared was self.old → IsSpared was self.new }
     {
         match role_at(&self.ports, &self.under_way, port) {
             Some(Role::Client) => lose_client(&mut self.ports, &mut self.under_way, port),
@@ -252,7 +260,8 @@ impl Parts {
     fn start(&mut self, job: u64, ticket: [u8; 16])
         requires { StillFits (Started job ticket) self.old.state }
 
-        ensures { self.new ≡ after self.old.closes (handle (Started job ticket) self.old.state) }
+        ensures parts { stepped_of self.new ≡ after self.old.closes (handle (Started job ticket) self.old.state) }
+        ensures spared { (was : State) → IsSpared was self.old → IsSpared was self.new }
     {
         self.under_way.job_started(job, ticket);
     }
@@ -262,7 +271,8 @@ impl Parts {
         requires fits { StillFits (StartFailed job) self.old.state }
         requires rest { IsAtRest self.old.state }
 
-        ensures { self.new ≡ after self.old.closes (handle (StartFailed job) self.old.state) }
+        ensures parts { stepped_of self.new ≡ after self.old.closes (handle (StartFailed job) self.old.state) }
+        ensures spared { (was : State) → IsSpared was self.old → IsSpared was self.new }
     {
         match self.under_way.job_failed(job) {
             JobKind::Helper => self.lose_starting(job),
@@ -274,8 +284,9 @@ impl Parts {
     fn lose_starting(&mut self, job: u64)
         requires { IsBound self.old.state.ports self.old.state.under_way }
 
-        ensures { self.new ≡ after self.old.closes
+        ensures parts { stepped_of self.new ≡ after self.old.closes
             (lose_where (is_started_by job self.old.state.under_way.link.state) self.old.state) }
+        ensures spared { (was : State) → IsSpared was self.old → IsSpared was self.new }
     {
         if self.under_way.is_starting(job) {
             lose_helper(&mut self.ports, &mut self.under_way);
@@ -289,15 +300,18 @@ impl Parts {
         requires tied { IsTied self.old.state }
         requires front { front_of front ≡ due_by (find_port port self.old.state.ports) }
 
-        ensures looked { OnOk result (self.new ≡ after self.old.closes (looked port self.old.state)) }
+        ensures looked { OnOk result (stepped_of self.new ≡ after self.old.closes (looked port self.old.state)) }
         ensures same { IfOk result (λ taken. IsFalse taken → next_due self.new.state ≡ next_due self.old.state) }
         ensures succeeds { ((body_len : ℕ) → due_by (find_port port self.old.state.ports) ≡ Whole body_len → ⊥)
             → IsOk result }
+        ensures spared { (was : State) → IsSpared was self.old → OnOk result (IsSpared was self.new) }
     {
         match front {
             Look::Whole { body } => {
+                let asks = self.under_way.asks();
                 self.ports
                     .serve(&mut self.keys, &mut self.under_way, self.wall, port, body)?;
+                touch_asked(&mut self.ports, &self.under_way, asks);
                 Ok(true)
             }
             Look::Bad { .. } => {

@@ -26,28 +26,37 @@ pub struct Ports {
     near: usize,
     // Those that were closed since the event began, rising.
     closed: Vec<u64>,
+    // Those whose slot was written since then, or that joined: rising too, each of them open or closed since.
+    touched: Vec<u64>,
     last: u64,
 }
 
 impl Model for Ports {
     ghost use Rattle.std.specs.Prelude.{vec_capacity};
-    ghost use Rattle.agent_core.specs.Slots.{IsKept, OpenPorts, ports_of};
+    ghost use Rattle.agent_core.specs.Slots.{IsListed, MarkedPorts, ports_of};
 
-    ghost Value = { OpenPorts };
+    ghost Value = { MarkedPorts };
 
-    ghost view = { λ p. record { ports = ports_of p.slots.items; last = p.last; closed = p.closed.items } };
+    ghost view = { λ p. record {
+      ports = ports_of p.slots.items;
+      last = p.last;
+      closed = p.closed.items;
+      touched = p.touched.items;
+    } };
 
-    ghost invariant = { λ p. IsKept p.slots.items p.closed.items (vec_capacity p.closed) p.last };
+    ghost invariant = { λ p. IsListed p.slots.items p.closed.items (vec_capacity p.closed) p.touched.items
+        (vec_capacity p.touched) p.last };
 }
 
 impl Ports {
     pub fn new(alloc: Global) -> Ports
-        ensures { result ≡ record { ports = []; last = 0; closed = [] } }
+        ensures { result ≡ record { ports = []; last = 0; closed = []; touched = [] } }
     {
         Ports {
             slots: Vec::new(alloc),
             near: 0,
             closed: Vec::new(alloc),
+            touched: Vec::new(alloc),
             last: 0,
         }
     }
@@ -113,6 +122,12 @@ impl Ports {
         &self.closed
     }
 
+    pub fn touched(&self) -> &[u64]
+        ensures { result.now ≡ self.now.touched }
+    {
+        &self.touched
+    }
+
     #[inline(always)]
     pub fn is_open(&self, number: u64) -> bool
         ensures { IsTrue result ↔ IsSome (find_port number self.now.ports) }
@@ -168,6 +183,7 @@ impl Drop for Ports {
             mut slots,
             near: _,
             closed: _,
+            touched: _,
             last: _,
         } = self;
         'slots: while let Some(slot) = slots.pop() {

@@ -1,11 +1,11 @@
 //! What a moment brings by itself.
 
-ghost use Rattle.std.specs.Prelude.{◌≡◌, ◌<◌, ◌≤◌, ◌^◌, [], IsFalse, IsTrue};
+ghost use Rattle.std.specs.Prelude.{◌≡◌, ◌<◌, ◌≤◌, ◌^◌, [], IsFalse, IsTrue, List};
 ghost use Rattle.agent_model.specs.Sound.{IsTied};
-ghost use Rattle.agent_model.specs.State.{next_due};
+ghost use Rattle.agent_model.specs.State.{Port, State, next_due};
 ghost use Rattle.agent_model.specs.Time.{IsAhead, end_late, lose_late, taken_in, time_passes};
 ghost use Rattle.agent_core.specs.Bound.{IsAtRest, IsBound};
-ghost use Rattle.agent_core.specs.Parts.{after, begun};
+ghost use Rattle.agent_core.specs.Parts.{IsSpared, after, begun, stepped_of};
 
 use crate::confirmer::end_confirmation;
 use crate::helper::lose_helper;
@@ -18,8 +18,9 @@ impl Parts {
         requires rest { IsAtRest self.old.state }
         requires due { due ≡ next_due self.old.state }
 
-        ensures passed { self.new ≡ after [] (time_passes moment self.old.state) }
+        ensures passed { stepped_of self.new ≡ after [] (time_passes moment self.old.state) }
         ensures same { IsFalse result → next_due self.new.state ≡ next_due self.old.state }
+        ensures spared { IsSpared self.old.state self.new }
     {
         if self.is_still(moment, due) {
             self.begin(moment);
@@ -47,7 +48,8 @@ impl Parts {
 
     // An event begins in the same second.
     fn begin(&mut self, moment: Moment)
-        ensures { self.new ≡ begun moment.wall self.old.state }
+        ensures parts { stepped_of self.new ≡ begun moment.wall self.old.state }
+        ensures spared { IsSpared self.old.state self.new }
     {
         self.wall = moment.wall;
         self.ports.begin();
@@ -57,7 +59,8 @@ impl Parts {
     fn pass_seconds(&mut self, moment: Moment)
         requires { IsAtRest self.old.state }
 
-        ensures { self.new ≡ after [] (time_passes moment self.old.state) }
+        ensures parts { stepped_of self.new ≡ after [] (time_passes moment self.old.state) }
+        ensures spared { IsSpared self.old.state self.new }
     {
         self.take_in(moment);
         self.lose_late();
@@ -68,7 +71,8 @@ impl Parts {
     fn take_in(&mut self, moment: Moment)
         requires { self.old.state.under_way.second ≡ self.old.state.moment.mono }
 
-        ensures { self.new ≡ record { state = taken_in moment self.old.state; closes = [] } }
+        ensures parts { stepped_of self.new ≡ record { state = taken_in moment self.old.state; closes = [] } }
+        ensures spared { IsSpared self.old.state self.new }
     {
         let now = self.keys.second().max(moment.mono);
         self.wall = moment.wall;
@@ -81,7 +85,8 @@ impl Parts {
     fn lose_late(&mut self)
         requires { IsBound self.old.state.ports self.old.state.under_way }
 
-        ensures { self.new ≡ after self.old.closes (lose_late self.old.state) }
+        ensures parts { stepped_of self.new ≡ after self.old.closes (lose_late self.old.state) }
+        ensures spared { (was : State) → IsSpared was self.old → IsSpared was self.new }
     {
         if self.under_way.is_helper_late() {
             lose_helper(&mut self.ports, &mut self.under_way);
@@ -92,7 +97,8 @@ impl Parts {
     fn end_late(&mut self)
         requires { IsTied self.old.state }
 
-        ensures { self.new ≡ after self.old.closes (end_late self.old.state) }
+        ensures parts { stepped_of self.new ≡ after self.old.closes (end_late self.old.state) }
+        ensures spared { (was : State) → IsSpared was self.old → IsSpared was self.new }
     {
         'late: while let Some(job) = self.under_way.late_confirmation() {
             end_confirmation(&mut self.ports, &mut self.under_way, job);

@@ -75,7 +75,6 @@ fn note_since(
 
 // Takes one step of the agent, and notes what it puts at this line: an event puts one ask at most, and where the number
 // of asks rose it is the newest.
-#[tactic(auto, using(crate::proofs::NewestLemmas::noted))]
 fn note_step(
     alloc: Global,
     agent: &mut Agent,

@@ -2,7 +2,7 @@
 use Rattle.std.specs.Prelude.{◌≡◌, ℕ, true, List, ◌++◌, Option, None, Some}
 use Rattle.world_ports.specs.Causes.{Rose}
 use Rattle.world_ports.specs.Streams.{StreamView, WritesPart}
-use Rattle.agent_model.specs.Actions.{Stepped}
+use Rattle.agent_core.specs.Parts.{Moved}
 use Rattle.agent_model.specs.State.{State}
 use Rattle.schedule_text.specs.declared.fault.LineFault.{LineFault}
 use Rattle.replay_run.specs.declared.run_end.RunEnd.{RunEnd}
@@ -55,7 +55,7 @@ Finishes ReadFault old run before after = ⊥
 Finishes WriteFault old run before after = FinishesAtWriteFault old before after
 
 -- the state of an agent, where one is handed back
-abbrev pub state_left : Option Stepped → Option State
+abbrev pub state_left : Option Moved → Option State
 state_left None = None
 state_left (Some agent) = Some agent.state
 

@@ -1,11 +1,12 @@
 //! How ports come and go.
 
-ghost use Rattle.std.specs.Prelude.{◌≡◌, ◌↔◌, ◌-◌, ◌^◌, ◌<◌, [], true, suc, IsSome, IsTrue, OnOk, if◌then◌else◌, ◌∷◌};
+ghost use Rattle.std.specs.Prelude.{◌≡◌, ◌↔◌, ◌-◌, ◌^◌, ◌<◌, [], true, None, suc, IsSome, IsTrue, OnOk, if◌then◌else◌, ◌∷◌};
 ghost use Rattle.agent_model.specs.Actions.{closing};
 ghost use Rattle.agent_model.specs.NumberLists.{put_all};
 ghost use Rattle.agent_model.specs.Sound.{IsRising};
 ghost use Rattle.agent_model.specs.State.{find_port, remove_port};
 ghost use Rattle.agent_model.specs.Step.{admitted};
+ghost use Rattle.agent_core.specs.Slots.{Spares, open_of};
 ghost use Rattle.lists.specs.Rising.{inserted};
 
 use crate::owed::Owed;
@@ -19,27 +20,30 @@ use std::alloc::{AllocError, AllocFailed};
 use world_ports::Door;
 
 impl Ports {
-    /// An event begins: none was closed by it yet.
+    /// An event begins: none was closed or touched by it yet.
     pub fn begin(&mut self)
-        ensures { self.new ≡ record self.old { closed = [] } }
+        ensures { self.new ≡ record self.old { closed = []; touched = [] } }
     {
         self.closed.clear();
+        self.touched.clear();
     }
 
     /// Lets a port join, where there is room for it. Its number is the next in either case.
     pub fn join(&mut self, door: Door, has_room: bool) -> Result<(), AllocError>
         requires { self.old.last < 2 ^ 64 - 1 }
 
-        ensures { OnOk result (self.new ≡ record {
+        ensures ports { OnOk result (open_of self.new ≡ record {
           ports = admitted has_room (suc self.old.last) door self.old.ports;
           last = suc self.old.last;
           closed = put_all self.old.closed (if has_room then [] else suc self.old.last ∷ []);
         }) }
+        ensures spared { Spares self.old self.new }
     {
         if has_room {
             self.admit(door)?;
         } else {
             self.closed.reserve(self.slots.len() + 1)?;
+            self.touched.reserve(self.closed.capacity())?;
             self.last += 1;
             lists::put_in(&mut self.closed, self.last);
         }
@@ -50,10 +54,12 @@ impl Ports {
     pub fn close(&mut self, number: u64)
         requires { IsSome (find_port number self.old.ports) }
 
-        ensures ports { self.new ≡ record self.old {
+        ensures ports { open_of self.new ≡ record (open_of self.old) {
           ports = remove_port number self.old.ports;
           closed = inserted number self.old.closed;
         } }
+        ensures spared { Spares self.old self.new }
+        ensures gone { find_port number self.new.ports ≡ None }
         ensures rising { IsRising 0 self.old.last self.old.ports }
     {
         let Some(place) = place_near(&self.slots, self.near, number) else {
@@ -65,10 +71,12 @@ impl Ports {
 
     /// Closes a port, where it is open. What it was owed and what was heard of it is wiped. Takes no memory.
     pub fn close_open(&mut self, number: u64)
-        ensures ports { self.new ≡ record self.old {
+        ensures ports { open_of self.new ≡ record (open_of self.old) {
           ports = remove_port number self.old.ports;
           closed = put_all self.old.closed (closing number self.old.ports []);
         } }
+        ensures spared { Spares self.old self.new }
+        ensures gone { find_port number self.new.ports ≡ None }
         ensures rising { IsRising 0 self.old.last self.old.ports }
     {
         if self.has(number) {
@@ -78,18 +86,20 @@ impl Ports {
 }
 
 impl Ports {
-    // A port joins; room is taken to list it when it is closed.
+    // A port joins, and is touched by that; room is taken to list it there, and when it is closed.
     fn admit(&mut self, door: Door) -> Result<(), AllocError>
         requires { self.old.last < 2 ^ 64 - 1 }
 
-        ensures ports { OnOk result (self.new ≡ record self.old {
+        ensures ports { OnOk result (open_of self.new ≡ record (open_of self.old) {
           ports = admitted true (suc self.old.last) door self.old.ports;
           last = suc self.old.last;
         }) }
+        ensures spared { Spares self.old self.new }
     {
         let alloc = *self.slots.allocator();
         let owed = Owed::new(alloc)?;
         self.closed.reserve(self.slots.len() + 1)?;
+        self.touched.reserve(self.closed.capacity())?;
         let slot = Slot {
             number: self.last + 1,
             door,
@@ -103,6 +113,7 @@ impl Ports {
             return Err(AllocError);
         }
         self.last += 1;
+        lists::put_in(&mut self.touched, self.last);
         Ok(())
     }
 

@@ -2,5 +2,5 @@ use Rattle.std.proofs.Common.{refl}
 use Rattle.agent_model.specs.Verdicts.{HelperLost, Refuses}
 use Rattle.agent_core.proofs.helper.refuse_one.Goals as goal
 
-pub returns : goal.returns
-returns c = c.conclude.ensures (Refuses HelperLost) (refl, refl)
+pub returns-clause-ports : goal.returns-clause-ports
+returns-clause-ports c = c.conclude.ensures.ports (Refuses HelperLost) (refl, refl)

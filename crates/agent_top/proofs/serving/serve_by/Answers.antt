@@ -4,7 +4,7 @@ use Rattle.agent_top.specs.declared.status.Status.TheVariants.{Memory}
 use Rattle.agent_model.specs.State.{State, first_state}
 use Rattle.loop_model.specs.Orderly.{IsOrderly}
 use Rattle.loop_model.proofs.OwedLemmas.{orderly_first}
-use Rattle.agent_model.specs.Actions.{Stepped}
+use Rattle.agent_core.specs.Parts.{Moved}
 use Rattle.agent_top.proofs.RecordLemmas.{unwritten}
 use Rattle.agent_top.proofs.ServeFairLemmas.{serves_fairly}
 use Rattle.agent_top.proofs.ServeLawLemmas.{serves_lawfully}
@@ -13,19 +13,19 @@ use Rattle.agent_top.proofs.serving.serve_by.Goals as goal
 
 pub serve-requires-clause-orderly : goal.serve-requires-clause-orderly
 serve-requires-clause-orderly g c =
-    subst IsOrderly (sym (ap (λ (seen : Stepped). seen.state) c.new-agent.ensures)) (orderly_first _)
+    subst IsOrderly (sym (ap (λ (seen : Moved). seen.state) c.new-agent.ensures)) (orderly_first _)
 
 pub serve-requires-clause-second : goal.serve-requires-clause-second
 serve-requires-clause-second g c =
     subst (λ (state : State). state.moment.mono ≤ g.W.World.greatest c.args.world.now)
-    (sym (ap (λ (seen : Stepped). seen.state) c.new-agent.ensures)) (omega arith)
+    (sym (ap (λ (seen : Moved). seen.state) c.new-agent.ensures)) (omega arith)
 
 pub returns-clause-serves : goal.returns-clause-serves
 returns-clause-serves g c setting is =
     serves_words _ c.args.words.now setting c.as_str-path.result.now c.in-Ok.served.until_idle c.in-Ok.served.life c.in-Ok.served.confirm_limit c.new-agent.result.state _
     (g.W.World.journal c.args.world.now) (g.W.World.journal c.serve.new.world) is
     (ap Some c.as_str-path.ensures.value ∙ c.in-Ok.ensures.path) c.in-Ok.ensures.until_idle c.in-Ok.ensures.life c.in-Ok.ensures.confirm_limit
-    (ap (λ (seen : Stepped). seen.state) c.new-agent.ensures ∙ ap first_state c.served_settings-settings.ensures)
+    (ap (λ (seen : Moved). seen.state) c.new-agent.ensures ∙ ap first_state c.served_settings-settings.ensures)
     (rw c.status_of_serving.ensures (serves_by _ c.serve.result _ _ _ c.serve.ensures.serves))
 
 pub returns-clause-serves_lawfully : goal.returns-clause-serves_lawfully
@@ -50,7 +50,7 @@ returns-then-served-clause-serves g c setting is =
     (serves_words true c.args.words.now setting c.as_str-path.result.now c.in-Ok.served.until_idle c.in-Ok.served.life c.in-Ok.served.confirm_limit c.new-agent.result.state c.serve_recorded.result
     (g.W.World.journal c.args.world.now) (g.W.World.journal c.serve_recorded.new.world) is
     (ap Some c.as_str-path.ensures.value ∙ c.in-Ok.ensures.path) c.in-Ok.ensures.until_idle c.in-Ok.ensures.life c.in-Ok.ensures.confirm_limit
-    (ap (λ (seen : Stepped). seen.state) c.new-agent.ensures ∙ ap first_state c.served_settings-settings.ensures) c.serve_recorded.ensures.serves)
+    (ap (λ (seen : Moved). seen.state) c.new-agent.ensures ∙ ap first_state c.served_settings-settings.ensures) c.serve_recorded.ensures.serves)
 
 pub returns-then-served-clause-serves_lawfully : goal.returns-then-served-clause-serves_lawfully
 returns-then-served-clause-serves_lawfully g c setting is =

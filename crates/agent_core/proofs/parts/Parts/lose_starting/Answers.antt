@@ -1,6 +1,7 @@
 use Rattle.std.proofs.Common.{◌∙◌, ap, sym}
 use Rattle.agent_model.specs.Answers.{lose_where}
 use Rattle.agent_model.specs.State.{State}
+use Rattle.agent_core.specs.Slots.{open_of}
 use Rattle.agent_core.specs.Parts.{after, state_of}
 use Rattle.agent_core.proofs.HelperLemmas.{starting_some}
 use Rattle.agent_core.proofs.parts.Parts.lose_starting.Goals as goal
@@ -8,18 +9,21 @@ use Rattle.agent_core.proofs.parts.Parts.lose_starting.Goals as goal
 pub lose_helper-requires-clause-bound : goal.lose_helper-requires-clause-bound
 lose_helper-requires-clause-bound c = rw (← c.self.view_is) at c.requires
 
-pub returns-then-is_starting : goal.returns-then-is_starting
-returns-then-is_starting c =
+pub returns-then-is_starting-clause-parts : goal.returns-then-is_starting-clause-parts
+returns-then-is_starting-clause-parts c =
     let parts = c.self.inside in
-    let state : State = state_of parts.wall parts.keys parts.under_way parts.ports in
-    rw (← c.self.view_is) (c.lose_helper.ensures parts.wall parts.keys
+    let state : State = state_of parts.wall parts.keys parts.under_way (open_of parts.ports) in
+    rw (← c.self.view_is) (c.lose_helper.ensures.parts parts.wall parts.keys
     ∙ ap (λ is. after parts.ports.closed (lose_where is state)) (sym c.if-is_starting.true ∙ c.is_starting.ensures))
 
-pub returns-else-is_starting : goal.returns-else-is_starting
-returns-else-is_starting c =
+pub returns-else-is_starting-clause-parts : goal.returns-else-is_starting-clause-parts
+returns-else-is_starting-clause-parts c =
     let parts = c.self.inside in
-    let state : State = state_of parts.wall parts.keys parts.under_way parts.ports in
+    let state : State = state_of parts.wall parts.keys parts.under_way (open_of parts.ports) in
     rw (← c.self.view_is) (ap (λ is. after parts.ports.closed (lose_where is state)) (sym c.if-is_starting.false ∙ c.is_starting.ensures))
 
 pub lose_helper-requires-clause-some : goal.lose_helper-requires-clause-some
 lose_helper-requires-clause-some c = starting_some c.args.job c.self.inside.under_way.link.state (sym c.is_starting.ensures ∙ c.if-is_starting.true)
+
+pub returns-then-is_starting-clause-spared : goal.returns-then-is_starting-clause-spared
+returns-then-is_starting-clause-spared c = rw (← c.self.view_is) c.lose_helper.ensures.spared

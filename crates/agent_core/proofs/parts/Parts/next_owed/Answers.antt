@@ -1,13 +1,14 @@
 use Rattle.std.proofs.Common.{◌∙◌, ap, sym}
 use Rattle.confirm_desk.specs.Calls.{lesser}
 use Rattle.agent_core.proofs.NextChildLemmas.{next-client-child}
+use Rattle.agent_core.specs.Slots.{open_of}
 use Rattle.agent_core.proofs.parts.Parts.next_owed.Goals as goal
 
 pub returns-clause-next : goal.returns-clause-next
 returns-clause-next c =
     let rest = rw (← c.self.view_is) at c.requires in
     let child = rw (← c.self.view_is) at c.next_child_owed-child.ensures.next in
-    let ports = c.self.inside.ports in
+    let ports = (open_of c.self.inside.ports) in
     rw (← c.self.view_is) (c.lesser.ensures
     ∙ ap (λ n. lesser n c.next_child_owed-child.result) c.next_owed-client.ensures.next
     ∙ ap (lesser _) child

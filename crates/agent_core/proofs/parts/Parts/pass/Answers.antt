@@ -10,9 +10,9 @@ pub returns-then-is_still-clause-passed : goal.returns-then-is_still-clause-pass
 returns-then-is_still-clause-passed c =
     let still = c.is_still.ensures.still c.if-is_still.true in
     let state = c.args.self.now.state in
-    c.begin.ensures
+    c.begin.ensures.parts
     ∙ sym (ap (after []) (still-passes c.args.moment state c.is_still.ensures.known c.requires.rest.second still.0 c.is_still.ensures.clock
     (subst (IsAhead state.moment.mono) c.requires.due still.1)))
 
 pub returns-then-is_still-clause-same : goal.returns-then-is_still-clause-same
-returns-then-is_still-clause-same c = λ still. ap (λ (s : Stepped). next_due s.state) c.begin.ensures
+returns-then-is_still-clause-same c = λ still. ap (λ (s : Stepped). next_due s.state) c.begin.ensures.parts

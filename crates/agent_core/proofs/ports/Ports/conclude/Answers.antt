@@ -3,11 +3,12 @@ use Rattle.agent_model.specs.Verdicts.{Verdict, tell}
 use Rattle.agent_model.proofs.PortsLemmas.{found_number}
 use Rattle.agent_core.specs.Slots.{OpenPorts, port_of, ports_of}
 use Rattle.agent_core.proofs.HelperLemmas.{change_port-absent}
-use Rattle.agent_core.proofs.KeptLemmas.{found_slot, kept-changed, kept_rising, set_changed}
+use Rattle.agent_core.proofs.KeptLemmas.{found_slot, kept_rising, set_changed}
+use Rattle.agent_core.proofs.TouchedLemmas.{listed-changed, spared-set, touched_room}
 use Rattle.agent_core.proofs.ports.Ports.conclude.Goals as goal
 
 pub place_near-requires : goal.place_near-requires
-place_near-requires c = rw c.deref.ensures.value (kept_rising _ _ _ _ c.self.invariant)
+place_near-requires c = rw c.deref.ensures.value (kept_rising _ _ _ _ c.self.invariant.kept)
 
 pub conclude-requires : goal.conclude-requires
 conclude-requires c =
@@ -20,17 +21,29 @@ invariant_of-self c =
     let is = rw c.deref.ensures.value at c.in-Some.ensures in
     let found = found_slot _ _ _ _ is c.index_mut.ensures.value in
     let same = found_number c.args.number (ports_of c.self.inside.slots.items) (port_of c.index_mut.result.now) found in
-    kept-changed _ _ _ _ c.args.number c.in-Some.place c.conclude.new.slot c.index_mut.result.now c.self.invariant is found c.conclude.ensures.number c.conclude.ensures.door
+    rw c.put_in.ensures.items (listed-changed _ _ _ _ _ _ c.args.number c.in-Some.place c.conclude.new.slot c.index_mut.result.now _ c.self.invariant is found c.conclude.ensures.number c.conclude.ensures.door c.put_in.ensures.room)
 
-pub returns-in-Some : goal.returns-in-Some
-returns-in-Some c =
+pub returns-in-Some-clause-ports : goal.returns-in-Some-clause-ports
+returns-in-Some-clause-ports c =
     let is = rw c.deref.ensures.value at c.in-Some.ensures in
     let found = found_slot _ _ _ _ is c.index_mut.ensures.value in
     rw (← c.self.view_is) (λ (verdict : Verdict) told. ap (λ ports. let v : OpenPorts = record { ports = ports; last = c.self.inside.last; closed = c.self.inside.closed.items } in v)
     (set_changed c.self.inside.slots.items c.args.number c.in-Some.place c.conclude.new.slot (port_of c.index_mut.result.now) (tell verdict) is found (c.conclude.ensures.port verdict told)))
 
-pub returns-in-None : goal.returns-in-None
-returns-in-None c =
+pub returns-in-None-clause-ports : goal.returns-in-None-clause-ports
+returns-in-None-clause-ports c =
     let absent = rw c.deref.ensures.value at c.in-None.ensures in
     rw (← c.self.view_is) (λ (verdict : Verdict) told. ap (λ ports. let v : OpenPorts = record { ports = ports; last = c.self.inside.last; closed = c.self.inside.closed.items } in v)
     (sym (change_port-absent c.args.number (tell verdict) (ports_of c.self.inside.slots.items) absent)))
+
+pub put_in-requires-clause-room : goal.put_in-requires-clause-room
+put_in-requires-clause-room c =
+    let is = rw c.deref.ensures.value at c.in-Some.ensures in
+    touched_room _ _ _ _ c.args.number c.in-Some.place c.self.invariant.marked is
+
+pub returns-in-Some-clause-spared : goal.returns-in-Some-clause-spared
+returns-in-Some-clause-spared c =
+    let is = rw c.deref.ensures.value at c.in-Some.ensures in
+    let found = found_slot _ _ _ _ is c.index_mut.ensures.value in
+    rw (← c.self.view_is, c.put_in.ensures.items)
+    (spared-set c.self.inside.slots.items c.args.number c.in-Some.place c.self.inside.last c.conclude.new.slot c.index_mut.result.now c.self.inside.closed.items c.self.inside.touched.items is found c.conclude.ensures.number c.conclude.ensures.door)

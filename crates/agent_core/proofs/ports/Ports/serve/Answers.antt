@@ -5,11 +5,12 @@ use Rattle.confirm_desk.specs.Confirmations.{find_asker}
 use Rattle.agent_core.specs.Served.{served_at}
 use Rattle.agent_core.specs.Slots.{OpenPorts, port_of, ports_of}
 use Rattle.agent_core.proofs.HeldLemmas.{after_ok}
-use Rattle.agent_core.proofs.KeptLemmas.{found_slot, kept-changed, kept_rising, same_found, serve_changed}
+use Rattle.agent_core.proofs.KeptLemmas.{found_slot, kept_rising, same_found, serve_changed}
+use Rattle.agent_core.proofs.TouchedLemmas.{listed-changed, spared-set, touched_room}
 use Rattle.agent_core.proofs.ports.Ports.serve.Goals as goal
 
 pub place_near-requires : goal.place_near-requires
-place_near-requires c = rw c.deref.ensures.value (kept_rising _ _ _ _ c.self.invariant)
+place_near-requires c = rw c.deref.ensures.value (kept_rising _ _ _ _ c.self.invariant.kept)
 
 pub serve-requires-clause-due : goal.serve-requires-clause-due
 serve-requires-clause-due c =
@@ -22,7 +23,7 @@ invariant_of-self c =
     let is = rw c.deref.ensures.value at c.in-Some.ensures in
     let found = found_slot _ _ _ _ is c.index_mut.ensures.value in
     let same = found_number c.args.number (ports_of c.self.inside.slots.items) (port_of c.index_mut.result.now) found in
-    kept-changed _ _ _ _ c.args.number c.in-Some.place c.serve.new.slot c.index_mut.result.now c.self.invariant is found c.serve.ensures.number c.serve.ensures.door
+    rw c.put_in.ensures.items (listed-changed _ _ _ _ _ _ c.args.number c.in-Some.place c.serve.new.slot c.index_mut.result.now _ c.self.invariant is found c.serve.ensures.number c.serve.ensures.door c.put_in.ensures.room)
 
 pub returns-clause-ports : goal.returns-clause-ports
 returns-clause-ports c =
@@ -55,3 +56,15 @@ serve-requires-clause-alone c =
     let found = found_slot _ _ _ _ is c.index_mut.ensures.value in
     let same = found_number c.args.number (ports_of c.self.inside.slots.items) (port_of c.index_mut.result.now) found in
     ap (λ n. find_asker n c.args.under_way.now.confirmations) same ∙ c.requires.alone
+
+pub put_in-requires-clause-room : goal.put_in-requires-clause-room
+put_in-requires-clause-room c =
+    let is = rw c.deref.ensures.value at c.in-Some.ensures in
+    touched_room _ _ _ _ c.args.number c.in-Some.place c.self.invariant.marked is
+
+pub returns-clause-spared : goal.returns-clause-spared
+returns-clause-spared c =
+    let is = rw c.deref.ensures.value at c.in-Some.ensures in
+    let found = found_slot _ _ _ _ is c.index_mut.ensures.value in
+    rw (← c.self.view_is, c.put_in.ensures.items)
+    (spared-set c.self.inside.slots.items c.args.number c.in-Some.place c.self.inside.last c.serve.new.slot c.index_mut.result.now c.self.inside.closed.items c.self.inside.touched.items is found c.serve.ensures.number c.serve.ensures.door)
