@@ -13,6 +13,7 @@ ghost use Rattle.agent_core.specs.Bound.{WantsNoMemory};
 ghost use Rattle.agent_core.specs.Happenings.{happening};
 ghost use Rattle.agent_core.specs.Owing.{is_client_at, next_child_owed};
 ghost use Rattle.agent_core.specs.Parts.{IsSpared, opening, settings_in, settings_of, stepped_of};
+ghost use Rattle.lists.specs.Rising.{IsRisingList};
 ghost use Rattle.under_way.specs.Times.{limits_of};
 
 use crate::keys::Keys;
@@ -173,7 +174,8 @@ impl Agent {
 
     /// The ports that the last step touched, rising: any other that it didn't close is as it was before it.
     pub fn touched(&self) -> &[u64]
-        ensures { result.now ≡ self.now.touched }
+        ensures value { result.now ≡ self.now.touched }
+        ensures rising { IsRisingList self.now.touched }
     {
         self.parts.ports.touched()
     }

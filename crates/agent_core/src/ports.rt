@@ -6,6 +6,7 @@ ghost use Rattle.agent_model.specs.State.{Port, client_count, find_port, unnamed
 ghost use Rattle.agent_core.specs.Owing.{is_client_at};
 ghost use Rattle.agent_core.specs.Roles.{door_by};
 ghost use Rattle.agent_core.specs.Slots.{chain_of, first_above, heard_in, owing_of, port_of};
+ghost use Rattle.lists.specs.Rising.{IsRisingList};
 
 mod joining;
 mod serving;
@@ -123,7 +124,8 @@ impl Ports {
     }
 
     pub fn touched(&self) -> &[u64]
-        ensures { result.now ≡ self.now.touched }
+        ensures value { result.now ≡ self.now.touched }
+        ensures rising { IsRisingList self.now.touched }
     {
         &self.touched
     }
