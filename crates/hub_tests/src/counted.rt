@@ -42,6 +42,8 @@ impl Core for Counted {
 
     ghost closes = { λ counted. counted.agent.closes };
 
+    ghost touched = { λ counted. counted.agent.touched };
+
     fn step(&mut self, moment: Moment, event: &Event<'_>) -> Result<(), AllocError> {
         self.agent.step(moment, event)
     }
@@ -49,21 +51,6 @@ impl Core for Counted {
     fn owed(&self, port: u64) -> &[u8] {
         self.count();
         self.agent.owed(port)
-    }
-
-    fn next_owed(&self, after: u64) -> Option<u64> {
-        self.count();
-        self.agent.next_owed(after)
-    }
-
-    fn next_child_owed(&self, after: u64) -> Option<u64> {
-        self.count();
-        self.agent.next_child_owed(after)
-    }
-
-    fn is_client(&self, port: u64) -> bool {
-        self.count();
-        self.agent.is_client(port)
     }
 
     fn wants(&self, port: u64) -> bool {
@@ -84,6 +71,11 @@ impl Core for Counted {
     fn closes(&self) -> &[u64] {
         self.count();
         self.agent.closes()
+    }
+
+    fn touched(&self) -> &[u64] {
+        self.count();
+        self.agent.touched()
     }
 
     fn next_due(&self) -> Option<u64> {

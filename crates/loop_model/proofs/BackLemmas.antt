@@ -102,7 +102,7 @@ calls-called state thing line =
     (record line { queue = line.queue ++ thing ∷ []; aside = taken_back thing line.aside }) line))
     (calls_by (set_of (things_aside line.aside) thing && is_servable state thing) state thing line refl)
 
-calls-own : (state : State) (own : Option ℕ) (line : Line)
+pub calls-own : (state : State) (own : Option ℕ) (line : Line)
     → Calls state line (called_own state own line)
 calls-own state None line = calls-none state line
 calls-own state (Some port) line =

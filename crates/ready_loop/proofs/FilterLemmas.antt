@@ -41,11 +41,6 @@ numbers_alike test other (first ∷ ports) same =
     ∙ ap (kept (other first) first)
     (numbers_alike test other ports (λ port there. same port (or_right (port == first) (is_among port ports) there)))
 
--- where none passes, none is left
-pub numbers_none : (ports : List ℕ) → filter (λ port. false) ports ≡ []
-numbers_none [] = refl
-numbers_none (first ∷ ports) = numbers_none ports
-
 -- ---- of listeners
 
 pub doors_all : (test : Door → Bool) (doors : List Door)

@@ -160,9 +160,9 @@ cold-back state closes own (Some thing) line cold =
     cold-recalled state own (settled state closes line) thing (cold-settled state closes line thing cold)
 
 -- what an event lets be served of what is set aside was aside before
-pub stirred-settled : (state : State) (closes : List ℕ) (own : Option ℕ) (all : Bool) (line : Line)
-    → IsStirred state own all line → IsStirred state own all (settled state closes line)
-stirred-settled state closes own all line stirred = λ thing there able.
+pub stirred-settled : (state : State) (closes ports : List ℕ) (line : Line) → IsStirred state ports line
+    → IsStirred state ports (settled state closes line)
+stirred-settled state closes ports line stirred = λ thing there able.
     elim (or_either (set_of line.queue thing && is_stuck state thing) (set_of (things_aside line.aside) thing)
     (settled-either state closes line thing there)) [
       | inl stuck ↦ absurd (stuck_not (is_servable state thing) (stands thing state) able

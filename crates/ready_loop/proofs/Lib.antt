@@ -10,7 +10,6 @@ pub mod RoundingLemmas
 pub mod MomentLemmas
 pub mod LineLemmas
 pub mod CallingLemmas
-pub mod NextLemmas
 pub mod RecallLemmas
 pub mod IdleLemmas
 pub mod TurningLemmas

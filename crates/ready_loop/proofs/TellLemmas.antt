@@ -1,5 +1,5 @@
 -- What an event lets be served of what was set aside.
-use Rattle.std.proofs.Common.{◌≡◌, ◌∙◌, ℕ, ◌-◌, ◌^◌, ◌<◌, max, Bool, true, false, List, Option, Some, refl, sym, ap, subst, not, ◌||◌, arith}
+use Rattle.std.proofs.Common.{◌≡◌, ◌∙◌, ℕ, ◌-◌, ◌^◌, ◌<◌, ◌≤◌, Bool, true, false, List, Option, Some, refl, sym, ap, subst, not, arith}
 use Rattle.std.proofs.lemmas.Bool.Decides.{Decides-ltb}
 use Rattle.std.proofs.lemmas.Bool.{eqb-true}
 use Rattle.world_ports.specs.declared.events.Door.{Door}
@@ -7,99 +7,79 @@ use Rattle.world_ports.specs.declared.events.Door.TheVariants.{Children, Clients
 use Rattle.world_ports.specs.declared.events.Moment.{Moment}
 use Rattle.agent_model.specs.Events.{Happening, Joined, Heard, Ended, Took, Started, StartFailed, Tick}
 use Rattle.agent_model.specs.Sound.{IsRising}
-use Rattle.agent_model.specs.State.{State, find_port}
+use Rattle.agent_model.specs.State.{State, is_open, is_some_bytes, wants_by}
 use Rattle.agent_model.specs.Step.{step}
 use Rattle.agent_model.proofs.RunLemmas.{step-last_port, step-rises}
 use Rattle.loop_model.specs.Calls.{served_of}
-use Rattle.loop_model.specs.Elsewhere.{calls_all, is_clients, is_due, is_joining, is_of, may_end, stands, tells_others}
+use Rattle.agent_core.specs.Parts.{IsSpared}
+use Rattle.lists.specs.Rising.{is_among}
+use Rattle.loop_model.specs.Elsewhere.{is_joining, may_end, stands}
 use Rattle.loop_model.specs.Orderly.{IsOrderly}
 use Rattle.loop_model.specs.Servable.{is_servable}
 use Rattle.loop_model.specs.Things.{same_door, set_of}
 use Rattle.loop_model.specs.Aside.{things_aside}
 use Rattle.loop_model.specs.declared.thing.Thing.{Thing}
 use Rattle.loop_model.specs.declared.thing.Thing.TheVariants.{Accept, Read, Write}
-use Rattle.loop_model.proofs.ClosedLemmas.{open-closes}
-use Rattle.loop_model.proofs.DueLemmas.{none_ends}
-use Rattle.loop_model.proofs.ElsewhereLemmas.{owed_before, wanted_before}
+use Rattle.loop_model.proofs.ClosedLemmas.{closed-shut, open-closes}
 use Rattle.ready_loop.specs.Happenings.{number_after}
-use Rattle.loop_model.specs.Dues.{port_of}
 use Rattle.loop_model.specs.Lines.{IsListed, IsQuiet, Line, hot_of}
 use Rattle.loop_model.proofs.RoundLemmas.{stands_able}
 use Rattle.loop_model.proofs.StandLemmas.{servable_after}
 use Rattle.loop_model.proofs.TestLemmas.{or_left, true_false}
 use Rattle.loop_model.proofs.ThingLemmas.{false_by, same_thing-true}
-use Rattle.ready_loop.specs.Standing.{IsCold, IsKept, IsStirred, is_at_any, is_listener, is_own, may_stir}
+use Rattle.ready_loop.specs.Standing.{IsCold, IsKept, IsStirred, is_at_any, is_listener}
 use Rattle.ready_loop.proofs.HandLemmas.{hot-parts}
 
--- another port than the event's own is one that the event isn't of
-own_is : (event : Happening) (last port : ℕ)
-    → is_own port (port_of event (number_after event last)) ≡ is_of event last port
-own_is (Joined door) last port = refl
-own_is (Heard number piece) last port = refl
-own_is (Ended number) last port = refl
-own_is (Took number count) last port = refl
-own_is (Started job ticket) last port = refl
-own_is (StartFailed job) last port = refl
-own_is Tick last port = refl
+-- ---- what was set aside
 
--- what is set aside couldn't be served, and can be now, is stirred
-stirred_by : (own all client : Bool) → (own ≡ false → all ≡ false → client ≡ true → ⊥)
-    → (own || (all || not client)) ≡ true
-stirred_by true all client never = refl
-stirred_by false true client never = refl
-stirred_by false false true never = absurd (never refl refl refl)
-stirred_by false false false never = refl
+-- a port at which something can be served wasn't closed
+left_open : (state next : State) (closes : List ℕ) (moment : Moment) (event : Happening) (thing : Thing) (port : ℕ)
+    → stands thing next ≡ is_open port next
+    → next ≡ (step state moment event).state → closes ≡ (step state moment event).closes
+    → IsRising 0 state.last_port state.ports → is_servable next thing ≡ true → is_among port closes ≡ false
+left_open state next closes moment event thing port of is closed rising able =
+    false_by (is_among port closes) (λ among.
+    true_false (is_open port next) (sym of ∙ stands_able next thing able)
+    (ap (is_open port) is
+    ∙ closed-shut state moment event port rising (ap (is_among port) (sym closed) ∙ among)))
 
-own_by : (own : Bool) → (own ≡ false → ⊥) → own ≡ true
-own_by true never = refl
-own_by false never = absurd (never refl)
+-- at a port that was neither closed nor touched nothing can be served that couldn't be
+stirred_thing : (state next : State) (closes touched : List ℕ) (moment : Moment) (event : Happening) (thing : Thing)
+    → next ≡ (step state moment event).state → closes ≡ (step state moment event).closes
+    → IsSpared state (record { state = next; closes = closes; touched = touched })
+    → IsRising 0 state.last_port state.ports
+    → is_servable state thing ≡ false → is_servable next thing ≡ true → is_at_any touched thing ≡ true
+stirred_thing state next closes touched moment event (Accept door) is closed spared rising never able =
+    let below : next.last_port < 2 ^ 64 - 1 = (Decides-ltb next.last_port (2 ^ 64 - 1)).0 able in
+    let rises : state.last_port ≤ next.last_port =
+    subst (λ (s : State). state.last_port ≤ s.last_port) (sym is) (step-rises state moment event) in
+    absurd (true_false (is_servable state (Accept door))
+    ((Decides-ltb state.last_port (2 ^ 64 - 1)).1 (omega (arith, rises, below))) never)
+stirred_thing state next closes touched moment event (Read port) is closed spared rising never able =
+    by_touched (is_among port touched) refl
+  where
+    by_touched : (b : Bool) → is_among port touched ≡ b → b ≡ true
+    by_touched true there = refl
+    by_touched false there =
+        let shut = left_open state next closes moment event (Read port) port refl is closed rising able in
+        let same = spared port (shut, there) in
+        absurd (true_false (is_servable state (Read port)) (sym (ap wants_by same.0) ∙ able) never)
+stirred_thing state next closes touched moment event (Write port) is closed spared rising never able =
+    by_touched (is_among port touched) refl
+  where
+    by_touched : (b : Bool) → is_among port touched ≡ b → b ≡ true
+    by_touched true there = refl
+    by_touched false there =
+        let shut = left_open state next closes moment event (Write port) port refl is closed rising able in
+        let same = spared port (shut, there) in
+        absurd (true_false (is_servable state (Write port)) (sym (ap is_some_bytes same.1) ∙ able) never)
 
-both_ways : (able : Bool) → able ≡ false → able ≡ true → ⊥
-both_ways true never is = cc
-both_ways false never is = cc
-
--- nor is anything due where not all is looked at, nor does the event tell others
-neither_of : (due tells : Bool) → (due || tells) ≡ false → (due ≡ false) × (tells ≡ false)
-neither_of true tells none = absurd (true_false true refl none)
-neither_of false tells none = (refl, none)
-
-stirred_thing : (state : State) (moment : Moment) (event : Happening) (thing : Thing)
-    → IsRising 0 state.last_port state.ports → max state.moment.mono moment.mono < 2 ^ 64
-    → is_servable state thing ≡ false → is_servable (step state moment event).state thing ≡ true
-    → may_stir (step state moment event).state (port_of event (number_after event state.last_port)) (calls_all moment event state) thing ≡ true
-stirred_thing state moment event (Accept door) rising clock never is =
-    let below = (Decides-ltb (step state moment event).state.last_port (2 ^ 64 - 1)).0 is in
-    let rises = step-rises state moment event in
-    absurd (both_ways (is_servable state (Accept door)) never ((Decides-ltb state.last_port (2 ^ 64 - 1)).1 (omega (arith, rises, below))))
-stirred_thing state moment event (Read port) rising clock never is =
-    own_is event state.last_port port
-    ∙ own_by (is_of event state.last_port port)
-    (λ elsewhere. both_ways (is_servable state (Read port)) never (wanted_before state moment event port rising elsewhere is))
-stirred_thing state moment event (Write port) rising clock never is =
-    ap (λ (b : Bool). b || (calls_all moment event state || not (is_clients (find_port port (step state moment event).state.ports)))) (own_is event state.last_port port)
-    ∙ stirred_by (is_of event state.last_port port) (calls_all moment event state) (is_clients (find_port port (step state moment event).state.ports))
-    (λ elsewhere quiet client.
-    let neither = neither_of (is_due moment state) (tells_others event state) quiet in
-    both_ways (is_servable state (Write port)) never
-    (owed_before state moment event port rising (none_ends state moment clock neither.0) neither.1 elsewhere client is))
-
-stirs_now : (state : State) (moment : Moment) (event : Happening) (line : Line)
-    → IsRising 0 state.last_port state.ports → max state.moment.mono moment.mono < 2 ^ 64
-    → IsQuiet state line
-    → IsStirred (step state moment event).state (port_of event (number_after event state.last_port)) (calls_all moment event state) line
-stirs_now state moment event line rising clock quiet = λ thing there is.
-    stirred_thing state moment event thing rising clock (quiet thing there) is
-
-pub stirs : (state next : State) (moment : Moment) (event : Happening) (own : Option ℕ) (all : Bool) (line : Line)
-    → next ≡ (step state moment event).state
-    → own ≡ port_of event (number_after event state.last_port) → all ≡ calls_all moment event state
-    → IsRising 0 state.last_port state.ports → max state.moment.mono moment.mono < 2 ^ 64
-    → IsQuiet state line → IsStirred next own all line
-stirs state next moment event own all line is own_is all_is rising clock quiet =
-    subst (λ (n : State). IsStirred n own all line) (sym is)
-    (subst (λ (o : Option ℕ). IsStirred (step state moment event).state o all line) (sym own_is)
-    (subst (λ (a : Bool). IsStirred (step state moment event).state (port_of event (number_after event state.last_port)) a line) (sym all_is)
-    (stirs_now state moment event line rising clock quiet)))
+pub stirs : (state next : State) (closes touched : List ℕ) (moment : Moment) (event : Happening) (line : Line)
+    → next ≡ (step state moment event).state → closes ≡ (step state moment event).closes
+    → IsSpared state (record { state = next; closes = closes; touched = touched })
+    → IsRising 0 state.last_port state.ports → IsQuiet state line → IsStirred next touched line
+stirs state next closes touched moment event line is closed spared rising quiet = λ thing there able.
+    stirred_thing state next closes touched moment event thing is closed spared rising (quiet thing there) able
 
 -- ---- what stood in the list
 

@@ -1,17 +1,16 @@
--- What holds of a line in storage, so that the front of its queue and its own port are all that a turn looks at (ours).
-use Rattle.std.specs.Prelude.{◌≡◌, ℕ, Bool, true, false, List, [], ◌∷◌, ◌++◌, Option, Some, None, ◌==◌, ◌||◌, not, if◌then◌else◌}
+-- What holds of a line in storage, so that the front of its queue and the ports that an event touched are all that a turn looks at (ours).
+use Rattle.std.specs.Prelude.{◌≡◌, ℕ, Bool, true, false, List, [], ◌∷◌, ◌++◌, Option, Some, None, not, if◌then◌else◌}
 use Rattle.lists.specs.Rising.{is_among}
 use Rattle.world_ports.specs.declared.events.Door.{Door}
-use Rattle.agent_model.specs.State.{State, find_port, is_open, next_owed}
-use Rattle.agent_core.specs.Owing.{next_child_owed}
-use Rattle.loop_model.specs.Elsewhere.{is_clients, stands}
+use Rattle.agent_model.specs.State.{State, is_open}
+use Rattle.loop_model.specs.Elsewhere.{stands}
 use Rattle.loop_model.specs.Servable.{is_servable}
 use Rattle.loop_model.specs.Things.{set_of}
 use Rattle.loop_model.specs.declared.thing.Thing.{Thing}
 use Rattle.loop_model.specs.declared.thing.Thing.TheVariants.{Accept, Read, Write}
 use Rattle.loop_model.specs.Aside.{Aside, put_aside, taken_back, things_aside}
 use Rattle.loop_model.specs.Fairness.{GoesRound, KeepsOrder}
-use Rattle.loop_model.specs.Lines.{Line, hot_of}
+use Rattle.loop_model.specs.Lines.{Line, called, hot_of}
 use Rattle.loop_model.specs.Queues.{AreApart, dropped}
 
 -- nothing stands twice in the queue, nor both there and aside
@@ -99,25 +98,12 @@ Rounds false (thing ∷ others) after = GoesRound thing (thing ∷ others) after
 
 -- ---- what comes back
 
--- the event is of this port
-abbrev pub is_own : ℕ → Option ℕ → Bool
-is_own port None = false
-is_own port (Some own) = own == port
+-- of what is set aside nothing can be served but what is at one of these ports
+abbrev pub IsStirred : State → List ℕ → Line → Type 0
+IsStirred state ports line = (thing : Thing) → set_of (things_aside line.aside) thing ≡ true
+    → is_servable state thing ≡ true → is_at_any ports thing ≡ true
 
--- the thing is one that an event of this port may have let be served: with `all` any port to write to, and otherwise
--- those of child processes
-abbrev pub may_stir : State → Option ℕ → Bool → Thing → Bool
-may_stir state own all (Accept door) = false
-may_stir state own all (Read port) = is_own port own
-may_stir state own all (Write port) =
-    is_own port own || (all || not (is_clients (find_port port state.ports)))
-
--- of what is set aside nothing else can be served
-abbrev pub IsStirred : State → Option ℕ → Bool → Line → Type 0
-IsStirred state own all line = (thing : Thing) → set_of (things_aside line.aside) thing ≡ true
-    → is_servable state thing ≡ true → may_stir state own all thing ≡ true
-
--- the port of the least number above this one that is owed bytes: with `all` any, and otherwise a child process's
-abbrev pub next_called : Bool → ℕ → State → Option ℕ
-next_called true after state = next_owed after state
-next_called false after state = next_child_owed after state
+-- these things come back, one after another, where they were set aside and can be served
+abbrev pub called_each : State → List Thing → Line → Line
+called_each state [] line = line
+called_each state (thing ∷ things) line = called_each state things (called state thing line)

@@ -2,11 +2,11 @@
 
 ghost use Rattle.std.specs.Prelude.{◌≡◌, List, OnOk, ℕ};
 ghost use Rattle.agent_model.specs.Sound.{IsRising};
-ghost use Rattle.agent_model.specs.State.{Fits, State, client_count, find_port, is_open, next_due, next_owed, owed_of, starts, wants};
+ghost use Rattle.agent_model.specs.State.{Fits, State, client_count, is_open, next_due, owed_of, starts, wants};
 ghost use Rattle.agent_model.specs.Step.{step};
 ghost use Rattle.agent_core.specs.Happenings.{happening};
-ghost use Rattle.agent_core.specs.Owing.{next_child_owed};
-ghost use Rattle.loop_model.specs.Elsewhere.{is_clients};
+ghost use Rattle.agent_core.specs.Parts.{IsSpared};
+ghost use Rattle.lists.specs.Rising.{IsRisingList};
 
 use agent_core::{Agent, Event};
 use std::alloc::AllocError;
@@ -21,31 +21,23 @@ pub trait Core {
     /// The ports that the last event closed, rising.
     ghost closes: { Self → List ℕ };
 
-    /// Takes one event at a moment. Where memory runs out the agent can only be dropped.
+    /// The ports that the last event touched, rising.
+    ghost touched: { Self → List ℕ };
+
+    /// Takes one event at a moment. A port that it neither closed nor touched is found as it was before, and is owed
+    /// what it was owed. Where memory runs out the agent can only be dropped.
     fn step(&mut self, moment: Moment, event: &Event<'_>) -> Result<(), AllocError>
         requires { Fits (happening event.now) (state self.old) }
         ensures stepped { OnOk result
             (state self.new ≡ (step (state self.old) moment (happening event.now)).state) }
         ensures closed { OnOk result
-            (closes self.new ≡ (step (state self.old) moment (happening event.now)).closes) };
+            (closes self.new ≡ (step (state self.old) moment (happening event.now)).closes) }
+        ensures spared { OnOk result (IsSpared (state self.old)
+            (record { state = state self.new; closes = closes self.new; touched = touched self.new })) };
 
     /// What the port is owed: nothing where it isn't open.
     fn owed(&self, port: u64) -> &[u8]
         ensures { result.now ≡ owed_of port (state self.now) };
-
-    /// The open port of the least number above `after` that is owed bytes. The numbers of the open ports rise.
-    fn next_owed(&self, after: u64) -> Option<u64>
-        ensures next { result ≡ next_owed after (state self.now) }
-        ensures rising { IsRising 0 (state self.now).last_port (state self.now).ports };
-
-    /// The open port of the least number above `after` that is owed bytes and a child process's.
-    fn next_child_owed(&self, after: u64) -> Option<u64>
-        ensures next { result ≡ next_child_owed after (state self.now) }
-        ensures rising { IsRising 0 (state self.now).last_port (state self.now).ports };
-
-    /// Whether the port is open, and a client's.
-    fn is_client(&self, port: u64) -> bool
-        ensures { result ≡ is_clients (find_port port (state self.now).ports) };
 
     /// Whether the port is to be read: not where it isn't open.
     fn wants(&self, port: u64) -> bool
@@ -62,6 +54,11 @@ pub trait Core {
     /// The ports that the last event closed, rising.
     fn closes(&self) -> &[u64]
         ensures { result.now ≡ closes self.now };
+
+    /// The ports that the last event touched, rising.
+    fn touched(&self) -> &[u64]
+        ensures value { result.now ≡ touched self.now }
+        ensures rising { IsRisingList (touched self.now) };
 
     /// The next second at which something is due, so that a moment brings more than its event: an identity is dead, or
     /// a wait has lasted its limit. `None` where the clock comes to none.
@@ -87,24 +84,14 @@ impl Core for Agent {
 
     ghost closes = { λ agent. agent.closes };
 
+    ghost touched = { λ agent. agent.touched };
+
     fn step(&mut self, moment: Moment, event: &Event<'_>) -> Result<(), AllocError> {
         Agent::step(self, moment, event)
     }
 
     fn owed(&self, port: u64) -> &[u8] {
         Agent::owed(self, port)
-    }
-
-    fn next_owed(&self, after: u64) -> Option<u64> {
-        Agent::next_owed(self, after)
-    }
-
-    fn next_child_owed(&self, after: u64) -> Option<u64> {
-        Agent::next_child_owed(self, after)
-    }
-
-    fn is_client(&self, port: u64) -> bool {
-        Agent::is_client(self, port)
     }
 
     fn wants(&self, port: u64) -> bool {
@@ -121,6 +108,10 @@ impl Core for Agent {
 
     fn closes(&self) -> &[u64] {
         Agent::closes(self)
+    }
+
+    fn touched(&self) -> &[u64] {
+        Agent::touched(self)
     }
 
     fn next_due(&self) -> Option<u64> {

@@ -1,11 +1,10 @@
 //! What follows from an event: the agent is told of it, what it lets be served comes back, and what it closed is closed.
 
-ghost use Rattle.std.specs.Prelude.{◌≡◌, ◌<◌, ◌≤◌, ◌^◌, OnOk, max};
+ghost use Rattle.std.specs.Prelude.{◌≡◌, ◌≤◌, OnOk};
 ghost use Rattle.agent_model.specs.State.{Fits};
 ghost use Rattle.agent_model.specs.Step.{step};
 ghost use Rattle.loop_model.specs.Calls.{served_of};
 ghost use Rattle.loop_model.specs.Dues.{Free, NowFor, due_of, port_of};
-ghost use Rattle.loop_model.specs.Elsewhere.{calls_all, is_due, tells_others};
 ghost use Rattle.loop_model.specs.LegalJournal.{in_state};
 ghost use Rattle.agent_core.specs.Happenings.{happening};
 ghost use Rattle.ready_loop.specs.Happenings.{HasHappened, MayJoin, number_after};
@@ -43,40 +42,6 @@ pub fn close_all<A: Core, W: World>(
         };
     }
     Ok(())
-}
-
-// Whether the event may let something be written to a client at another port.
-#[inline(always)]
-fn tells_others<A: Core>(agent: &A, event: &Event<'_>) -> bool
-    ensures { result ≡ tells_others (happening event.now) (A.state agent.now) }
-{
-    match *event {
-        Event::Heard { port, .. } | Event::Ended { port } => !agent.is_client(port),
-        Event::StartFailed { .. } => true,
-        Event::Joined(_) | Event::Took { .. } | Event::Started { .. } | Event::Tick => false,
-    }
-}
-
-// Whether something is due at this moment, so that its event isn't all that it brings.
-#[inline(always)]
-fn is_due<A: Core>(agent: &A, moment: Moment) -> bool
-    ensures value { result ≡ is_due moment (A.state agent.now) }
-    ensures clock { max (A.state agent.now).moment.mono moment.mono < 2 ^ 64 }
-{
-    let second = agent.second().max(moment.mono);
-    match agent.next_due() {
-        Some(due) => due <= second,
-        None => false,
-    }
-}
-
-// Whether an event or its moment may let something be written to a client at another port.
-#[inline(always)]
-fn calls_all<A: Core>(agent: &A, moment: Moment, event: &Event<'_>) -> bool
-    ensures value { result ≡ calls_all moment (happening event.now) (A.state agent.now) }
-    ensures clock { max (A.state agent.now).moment.mono moment.mono < 2 ^ 64 }
-{
-    is_due(agent, moment) || tells_others(agent, event)
 }
 
 // The port of an event, where `last` is the number of the last one that joined before it.
@@ -125,10 +90,9 @@ pub fn tell<A: Core>(
         (port_of (happening event.now) (A.state agent.new).last_port)
         (served_of (happening event.now)) queue.old) }
 {
-    let all = calls_all(agent, moment, event);
     let own = port_of(event, agent.ports_so_far());
     agent.step(moment, event)?;
-    queue.turn(agent, own, all, served_of(event))?;
+    queue.turn(agent, own, served_of(event))?;
     Ok(())
 }
 

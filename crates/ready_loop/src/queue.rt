@@ -4,16 +4,16 @@
 //! memory, which costs more than what is done with them.
 
 ghost use Rattle.std.specs.Bool.{OnTrue};
-ghost use Rattle.std.specs.Prelude.{◌≡◌, ◌&&◌, ◌||◌, ◌==◌, None, OnOk, Some, false, length};
-ghost use Rattle.agent_model.specs.Sound.{IsRising};
+ghost use Rattle.std.specs.Prelude.{◌≡◌, ◌&&◌, ◌||◌, ◌==◌, OnOk, Some, false, length, map};
 ghost use Rattle.agent_model.specs.State.{is_client};
 ghost use Rattle.lists.specs.Rising.{IsRisingList};
 ghost use Rattle.loop_model.specs.Aside.{put_aside, things_aside};
 ghost use Rattle.loop_model.specs.Elsewhere.{stands};
-ghost use Rattle.loop_model.specs.Lines.{after_event, brought, called, called_all, called_own, empty_line, hot_of, in_hand, placed, queued, queued_all, queued_by, queued_if, queued_port, recalled, returned, settled};
+ghost use Rattle.loop_model.specs.Lines.{after_event, called, called_all, called_own, empty_line, hot_of, in_hand, placed, queued, queued_all, queued_by, queued_if, queued_port, recalled, returned, settled};
 ghost use Rattle.loop_model.specs.Queues.{AreApart};
 ghost use Rattle.loop_model.specs.Things.{set_of};
-ghost use Rattle.ready_loop.specs.Standing.{IsCold, IsFront, IsKept, IsStirred, door_aside, front_of, listed_last, next_called, without_port, without_ports};
+ghost use Rattle.ready_loop.specs.Standing.{IsCold, IsFront, IsKept, IsStirred, called_each, door_aside, front_of, listed_last, without_port, without_ports};
+ghost use Rattle.loop_model.specs.declared.thing.Thing.TheVariants.{Read, Write};
 ghost use Rattle.world_ports.specs.declared.events.Door.TheVariants.{Children, Clients};
 
 use crate::Core;
@@ -119,24 +119,22 @@ impl Queue {
         let _ = &self.things;
     }
 
-    // An event happened, of this port, and closed some: what it lets be served comes back, and then what was served, if
-    // anything was. With `all` the event may let be served what is to be written at any port, and otherwise at those of
-    // child processes alone.
+    // An event happened, of this port, and closed and touched some: what it lets be served comes back, which is at one
+    // that it touched, and then what was served, if anything was.
     pub fn turn<A: Core>(
         &mut self,
         agent: &A,
         own: Option<u64>,
-        all: bool,
         hand: Option<Thing>,
     ) -> Result<(), AllocError>
         requires kept { IsKept (A.state agent.now) (A.closes agent.now) self.old.queue }
-        requires stirred { IsStirred (A.state agent.now) own all self.old }
+        requires stirred { IsStirred (A.state agent.now) (A.touched agent.now) self.old }
         requires cold { IsCold hand self.old }
         ensures { OnOk result (self.new
             ≡ after_event (A.state agent.now) (A.closes agent.now) own hand self.old) }
     {
         self.settle(agent)?;
-        self.recall(agent, own, all)?;
+        self.recall(agent, own)?;
         self.put_back(agent, hand)
     }
 }
@@ -186,13 +184,13 @@ impl Queue {
         Ok(())
     }
 
-    // What was set aside and can be served comes back.
-    fn recall<A: Core>(&mut self, agent: &A, own: Option<u64>, all: bool) -> Result<(), AllocError>
-        requires { IsStirred (A.state agent.now) own all self.old }
+    // What was set aside and can be served comes back, the event's own port first.
+    fn recall<A: Core>(&mut self, agent: &A, own: Option<u64>) -> Result<(), AllocError>
+        requires { IsStirred (A.state agent.now) (A.touched agent.now) self.old }
         ensures { OnOk result (self.new ≡ recalled (A.state agent.now) own self.old) }
     {
         self.call_own(agent, own)?;
-        self.call_writes(agent, all)
+        self.call_touched(agent)
     }
 
     // What was served stands last, or is set aside; it isn't ready where its port was closed.
@@ -326,17 +324,6 @@ impl Queue {
         Ok(())
     }
 
-    // The thing comes back where it was set aside.
-    #[inline(always)]
-    fn bring(&mut self, thing: Thing) -> Result<(), AllocError>
-        ensures { OnOk result (self.new ≡ brought thing self.old) }
-    {
-        if self.is_aside(thing) {
-            self.list(thing)?;
-        }
-        Ok(())
-    }
-
     // Whether the thing is set aside, and so not in the list.
     #[inline(always)]
     fn is_aside(&mut self, thing: Thing) -> bool
@@ -347,38 +334,47 @@ impl Queue {
         self.standings.is_aside(thing)
     }
 
-    // The numbers of the ports rise that are set aside to be written to.
-    fn writes_rise(&self)
-        ensures { IsRisingList self.now.aside.writes }
+    // The numbers of the ports rise that are set aside, to be read and to be written to.
+    fn aside_rises(&self)
+        ensures reads { IsRisingList self.now.aside.reads }
+        ensures writes { IsRisingList self.now.aside.writes }
     {
-        self.standings.writes_rise();
+        self.standings.aside_rises();
     }
 
-    // Every port that is owed bytes comes back where it was set aside: with `all` any, otherwise those of child processes
-    // alone.
-    fn call_writes<A: Core>(&mut self, agent: &A, all: bool) -> Result<(), AllocError>
-        requires { IsStirred (A.state agent.now) None all self.old }
+    // What was set aside at a port that the event touched comes back where it can be served: what is to be read first.
+    #[inline(always)]
+    fn call_touched<A: Core>(&mut self, agent: &A) -> Result<(), AllocError>
+        requires { IsStirred (A.state agent.now) (A.touched agent.now) self.old }
         ensures { OnOk result (self.new ≡ called_all (A.state agent.now) self.old) }
     {
-        self.writes_rise();
-        let mut after = 0;
-        'ports: while let Some(port) = next_owed(agent, after, all) {
-            self.bring(Thing::Write(port))?;
-            after = port;
+        self.aside_rises();
+        let touched = agent.touched();
+        self.call_reads(agent, touched)?;
+        self.call_writes(agent, touched)?;
+        Ok(())
+    }
+
+    // What is to be read at these ports comes back where it was set aside and can be served.
+    #[inline(always)]
+    fn call_reads<A: Core>(&mut self, agent: &A, ports: &[u64]) -> Result<(), AllocError>
+        ensures { OnOk result (self.new ≡ called_each (A.state agent.now) (map Read ports.now) self.old) }
+    {
+        'ports: for port in ports {
+            self.call(agent, Thing::Read(*port))?;
         }
         Ok(())
     }
-}
 
-// The open port of the least number above `after` that is owed bytes: with `all` any, otherwise a child process's.
-fn next_owed<A: Core>(agent: &A, after: u64, all: bool) -> Option<u64>
-    ensures next { result ≡ next_called all after (A.state agent.now) }
-    ensures rising { IsRising 0 (A.state agent.now).last_port (A.state agent.now).ports }
-{
-    if all {
-        agent.next_owed(after)
-    } else {
-        agent.next_child_owed(after)
+    // What is to be written there comes back where it was set aside and can be served.
+    #[inline(always)]
+    fn call_writes<A: Core>(&mut self, agent: &A, ports: &[u64]) -> Result<(), AllocError>
+        ensures { OnOk result (self.new ≡ called_each (A.state agent.now) (map Write ports.now) self.old) }
+    {
+        'ports: for port in ports {
+            self.call(agent, Thing::Write(*port))?;
+        }
+        Ok(())
     }
 }
 

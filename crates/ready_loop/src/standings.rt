@@ -44,9 +44,10 @@ impl Standings {
         }
     }
 
-    // The numbers of the ports rise that are set aside to be written to.
-    pub fn writes_rise(&self)
-        ensures { IsRisingList self.now.aside.writes }
+    // The numbers of the ports rise that are set aside, to be read and to be written to.
+    pub fn aside_rises(&self)
+        ensures reads { IsRisingList self.now.aside.reads }
+        ensures writes { IsRisingList self.now.aside.writes }
     {
         self.marks.rise();
     }

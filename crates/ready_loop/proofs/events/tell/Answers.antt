@@ -16,11 +16,10 @@ turn-requires-clause-kept g c =
 
 pub turn-requires-clause-stirred : goal.turn-requires-clause-stirred
 turn-requires-clause-stirred g c =
-    let event = happening c.args.event.now in
-    stirs (g.A.Core.state c.args.agent.now) (g.A.Core.state c.step.new.self) c.args.moment event
-    c.port_of-own.result c.calls_all-all.result c.args.queue.now c.in_ok-step.ensures.stepped
-    (c.port_of-own.ensures ∙ ap (λ (n : ℕ). port_of event (number_after event n)) c.ports_so_far.ensures.last)
-    c.calls_all-all.ensures.value c.ports_so_far.ensures.rising c.calls_all-all.ensures.clock c.requires.ordered.quiet
+    stirs (g.A.Core.state c.args.agent.now) (g.A.Core.state c.step.new.self) (g.A.Core.closes c.step.new.self)
+    (g.A.Core.touched c.step.new.self) c.args.moment (happening c.args.event.now) c.args.queue.now
+    c.in_ok-step.ensures.stepped c.in_ok-step.ensures.closed c.in_ok-step.ensures.spared
+    c.requires.orderly.sound.rising c.requires.ordered.quiet
 
 pub turn-requires-clause-cold : goal.turn-requires-clause-cold
 turn-requires-clause-cold g c =

@@ -1,14 +1,10 @@
-use Rattle.std.proofs.Common.{◌≡◌, ◌-◌}
-use Rattle.lists.specs.Rising.{IsRisingList}
-use Rattle.ready_loop.proofs.RecallLemmas.{called_upto}
+use Rattle.std.proofs.Common.{◌≡◌, drop, map}
+use Rattle.loop_model.specs.declared.thing.Thing.TheVariants.{Write}
+use Rattle.ready_loop.specs.Standing.{called_each}
 use Rattle.ready_loop.proofs.queue.Queue.call_writes.Given as goal
 
--- the ports up to the last one are back
+-- the ports from the index on are to be called
 abbrev pub invariant-ports : goal.invariant-ports
-invariant-ports g l = record {
-  rising : IsRisingList l.fn.self.aside.writes;
-  back : l.self ≡ called_upto l.all (g.A.Core.state l.agent) l.after l.fn.self;
-}
-
-abbrev pub decreases-ports : goal.decreases-ports
-decreases-ports g l = (g.A.Core.state l.agent).last_port - l.after
+invariant-ports g l =
+    called_each (g.A.Core.state l.agent) (map Write (drop l.port-index l.ports)) l.self
+    ≡ called_each (g.A.Core.state l.agent) (map Write l.ports) l.fn.self

@@ -7,8 +7,9 @@ use Rattle.ready_loop.proofs.queue.Queue.turn.Goals as goal
 pub recall-requires : goal.recall-requires
 recall-requires g c =
     let state = g.A.Core.state c.args.agent.now in
-    subst (IsStirred state c.args.own c.args.all) (sym c.in_ok-settle.ensures)
-    (stirred-settled state (g.A.Core.closes c.args.agent.now) c.args.own c.args.all c.args.self.now c.requires.stirred)
+    let touched = g.A.Core.touched c.args.agent.now in
+    subst (IsStirred state touched) (sym c.in_ok-settle.ensures)
+    (stirred-settled state (g.A.Core.closes c.args.agent.now) touched c.args.self.now c.requires.stirred)
 
 pub put_back-requires : goal.put_back-requires
 put_back-requires g c =
