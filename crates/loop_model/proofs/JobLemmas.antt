@@ -1,5 +1,5 @@
 -- Where a job waits to be started, nothing else comes.
-use Rattle.std.proofs.Common.{◌≡◌, ◌∙◌, Bool, true, false, List, ◌++◌, length, Some, ap, refl, subst, sym, ◌==◌, ◌&&◌, not}
+use Rattle.std.proofs.Common.{◌≡◌, ◌∙◌, Bool, true, List, ◌++◌, length, Some, ap, refl, subst, sym, ◌==◌, ◌&&◌, not}
 use Rattle.std.specs.List.{list_any}
 use Rattle.std.specs.Option.{option_eq}
 use Rattle.std.specs.Prelude.{nat_eq}

@@ -5,7 +5,6 @@ use Rattle.std.specs.Str.{bytes_eq}
 use Rattle.world_ports.specs.declared.entry.Entry.{Entry}
 use Rattle.world_ports.specs.declared.entry.Entry.TheVariants as entry
 use Rattle.agent_model.specs.State.{State, owed_of}
-use Rattle.loop_model.specs.Dues.{is_free}
 use Rattle.loop_model.specs.LegalJournal.{LoopState, after_entries, after_entry, after_if, after_if_legal, comes_next, is_read, is_taken, may_serve}
 use Rattle.world_ports.specs.Worlds.{read_room}
 use Rattle.loop_model.specs.Queues.{is_next}

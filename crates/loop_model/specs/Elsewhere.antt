@@ -1,10 +1,9 @@
--- Which port an event is of, when clients at other ports are told something, and what it may end that can be served
--- (ours).
+-- Which port an event is of, when a wait ends, and what an event may end that can be served (ours).
 use Rattle.std.specs.Prelude.{ℕ, suc, max, nat_lt, Bool, true, false, Option, Some, None, not, ◌==◌, ◌||◌}
 use Rattle.std.specs.List.{list_any}
 use Rattle.world_ports.specs.declared.events.Moment.{Moment}
 use Rattle.agent_model.specs.Events.{Happening, Joined, Heard, Ended, Took, Started, StartFailed, Tick}
-use Rattle.agent_model.specs.State.{Port, State, UnderWay, find_port, is_client, is_open, next_due}
+use Rattle.agent_model.specs.State.{Port, State, UnderWay, is_client, is_open, next_due}
 use Rattle.agent_model.specs.Time.{is_helper_late, is_late, taken_in}
 use Rattle.loop_model.specs.declared.thing.Thing.{Thing}
 use Rattle.loop_model.specs.declared.thing.Thing.TheVariants.{Accept, Read, Write}
@@ -40,20 +39,6 @@ has_come (Some due) second = not (nat_lt second due)
 -- at the moment something is due: an identity dies, or a wait ends
 abbrev pub is_due : Moment → State → Bool
 is_due moment state = has_come (next_due state) (max state.moment.mono moment.mono)
-
--- what other clients are owed may change by the event: a child process sent something or ended, or couldn't be started
-abbrev pub tells_others : Happening → State → Bool
-tells_others (Joined door) state = false
-tells_others (Heard port piece) state = not (is_clients (find_port port state.ports))
-tells_others (Ended port) state = not (is_clients (find_port port state.ports))
-tells_others (Took port count) state = false
-tells_others (Started job ticket) state = false
-tells_others (StartFailed job) state = true
-tells_others Tick state = false
-
--- all that was set aside is looked at: something is due at the moment, or the event tells others
-abbrev pub calls_all : Moment → Happening → State → Bool
-calls_all moment event state = is_due moment state || tells_others event state
 
 -- the event is that bytes came at this port
 abbrev pub brings_bytes : Happening → ℕ → Bool

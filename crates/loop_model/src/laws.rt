@@ -10,10 +10,10 @@ ghost use Rattle.world_ports.specs.declared.events.Moment.{Moment};
 ghost use Rattle.agent_model.specs.Events.{Happening};
 ghost use Rattle.agent_model.specs.Runs.{AllFit, AreInRange};
 ghost use Rattle.agent_model.specs.Sound.{IsRising};
-ghost use Rattle.agent_model.specs.State.{Settings, State, find_port, first_state, is_some_bytes, owed_of, wants};
+ghost use Rattle.agent_model.specs.State.{Settings, State, first_state, wants};
 ghost use Rattle.agent_model.specs.Step.{step};
 ghost use Rattle.loop_model.specs.Dues.{Free};
-ghost use Rattle.loop_model.specs.Elsewhere.{ends_waits, is_clients, is_due, is_of, may_end, stands, tells_others};
+ghost use Rattle.loop_model.specs.Elsewhere.{ends_waits, is_due, is_of, may_end, stands};
 ghost use Rattle.loop_model.specs.Fitting.{AreOfOneRead, AreTyped, journal_events};
 ghost use Rattle.loop_model.specs.Fronts.{HasFront, RestsAfter};
 ghost use Rattle.loop_model.specs.LegalJournal.{LoopState, after_entries, in_state};
@@ -42,17 +42,6 @@ pub fn an_event_wants_no_other_port()
     ensures { (state : State) (moment : Moment) (event : Happening) (port : ℕ)
         → IsRising 0 state.last_port state.ports → is_of event state.last_port port ≡ false
         → wants port (step state moment event).state ≡ true → wants port state ≡ true }
-{}
-
-/// Unless a wait ends at the moment, or a child process sent something, ended or couldn't be started, no other client
-/// than the event's own is owed bytes that was owed none before.
-pub fn an_event_of_a_client_owes_no_other_client()
-    ensures { (state : State) (moment : Moment) (event : Happening) (port : ℕ)
-        → IsRising 0 state.last_port state.ports → ends_waits moment state ≡ false
-        → tells_others event state ≡ false → is_of event state.last_port port ≡ false
-        → is_clients (find_port port (step state moment event).state.ports) ≡ true
-        → is_some_bytes (owed_of port (step state moment event).state) ≡ true
-        → is_some_bytes (owed_of port state) ≡ true }
 {}
 
 /// At a moment before the second that the agent tells as the next one at which something is due no wait ends. The clock

@@ -10,8 +10,8 @@ mod thing;
 
 pub use laws::{
     an_event_leaves_an_orderly_agent, an_event_leaves_what_can_be_served,
-    an_event_of_a_client_owes_no_other_client, an_event_wants_no_other_port, every_front_is_legal,
-    no_wait_ends_before_it_is_due, nothing_waits_at_a_poll, the_events_of_a_journal_fit,
+    an_event_wants_no_other_port, every_front_is_legal, no_wait_ends_before_it_is_due,
+    nothing_waits_at_a_poll, the_events_of_a_journal_fit,
 };
 pub use order::{
     a_job_is_started_first, all_wait_their_turn, nothing_that_is_ready_is_lost,
