@@ -11,7 +11,7 @@ ghost use Rattle.agent_model.specs.Step.{step};
 ghost use Rattle.agent_model.specs.Time.{at_moment};
 ghost use Rattle.agent_core.specs.Bound.{WantsNoMemory};
 ghost use Rattle.agent_core.specs.Happenings.{happening};
-ghost use Rattle.agent_core.specs.Owing.{is_client_at, next_child_owed};
+ghost use Rattle.agent_core.specs.Owing.{is_client_at};
 ghost use Rattle.agent_core.specs.Parts.{IsSpared, opening, settings_in, settings_of, stepped_of};
 ghost use Rattle.lists.specs.Rising.{IsRisingList};
 ghost use Rattle.under_way.specs.Times.{limits_of};
@@ -122,15 +122,6 @@ impl Agent {
         ensures steady { IsSteady self.now.state }
     {
         self.parts.next_owed(after)
-    }
-
-    /// The open port of the least number above `after` that is a child process's and owed bytes.
-    #[inline(always)]
-    pub fn next_child_owed(&self, after: u64) -> Option<u64>
-        ensures next { result ≡ next_child_owed after self.now.state }
-        ensures steady { IsSteady self.now.state }
-    {
-        self.parts.next_child_owed(after)
     }
 
     /// Whether the port is to be read: not where it isn't open, and not while a request of it waits to be taken.

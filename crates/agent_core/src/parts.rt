@@ -111,9 +111,8 @@ impl Parts {
         lesser(client, child)
     }
 
-    /// The open port of the least number above `after` that is a child process's and owed bytes.
-    #[inline(always)] // the loop asks it after each event, and most times there is none
-    pub fn next_child_owed(&self, after: u64) -> Option<u64>
+    // The open port of the least number above `after` that is a child process's and owed bytes.
+    fn next_child_owed(&self, after: u64) -> Option<u64>
         requires { IsAtRest self.now.state }
         ensures next { result ≡ next_child_owed after self.now.state }
         ensures steady { IsSteady self.now.state }

@@ -63,7 +63,6 @@ fn each_client_gets_its_own_answer(rt: HostRuntime) {
     holds(&rt, !agent.is_client(3), "the helper is no client");
     holds(&rt, agent.clients() == 2, "two clients");
     finds(&rt, agent.next_owed(0), Some(3), "the helper is owed");
-    finds(&rt, agent.next_child_owed(0), Some(3), "as a child process");
     // Two frames of SIGN.
     holds(&rt, agent.owed(3).len() == 2 * 195, "both requests");
     take_all(&rt, &mut agent, 3);

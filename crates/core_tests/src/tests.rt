@@ -69,7 +69,6 @@ fn a_listing_is_answered_with_ample_memory(rt: HostRuntime) {
     starts(&rt, &agent, &[], "nothing is to be started");
     hear(&rt, &mut agent, 1, &LIST);
     finds(&rt, agent.next_owed(0), Some(1), "it is owed");
-    finds(&rt, agent.next_child_owed(0), None, "no child process is");
     owes(&rt, &agent, 1, &NO_IDENTITIES, "no identity");
     let more = Event::Took { port: 1, count: 10 };
     holds(&rt, !agent.fits(&more), "no more than it is owed");
