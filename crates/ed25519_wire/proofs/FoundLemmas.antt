@@ -17,11 +17,11 @@ use Rattle.wire_core.proofs.Theorems.{string_is_front}
 use Rattle.wire_text.specs.Wire.{IsBytes, string}
 
 -- the same bytes, of a test that held
-same_bytes : (a b : List ℕ) → bytes_eq a b ≡ true → a ≡ b
+pub same_bytes : (a b : List ℕ) → bytes_eq a b ≡ true → a ≡ b
 same_bytes a b is = (bytes_eq-Decides a b).0 is
 
 -- a test that gave a value held, and the value is the one behind it
-chosen : {A : Type 0} (test : Bool) (given : Result A KeyFault) (value : A) → (if test then given else Err Unfit) ≡ Ok value → (test ≡ true) × (given ≡ Ok value)
+pub chosen : {A : Type 0} (test : Bool) (given : Result A KeyFault) (value : A) → (if test then given else Err Unfit) ≡ Ok value → (test ≡ true) × (given ≡ Ok value)
 chosen true given value is = (refl, is)
 chosen false given value is = cc is
 

@@ -1,2 +1,4 @@
 pub mod OnlyLemmas
 pub mod FoundLemmas
+pub mod PublicLemmas
+pub mod SignatureLemmas

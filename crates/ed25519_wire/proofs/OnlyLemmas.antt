@@ -16,11 +16,11 @@ use Rattle.wire_core.proofs.Theorems.{string_at-string}
 use Rattle.wire_text.specs.Wire.{string}
 
 -- the same bytes, as a test
-same : (a : List ℕ) → bytes_eq a a ≡ true
+pub same : (a : List ℕ) → bytes_eq a a ≡ true
 same a = (bytes_eq-Decides a a).1 refl
 
 -- a test that holds
-yes : {A : Type 0} (test : Bool) (value other : A) → test ≡ true → (if test then value else other) ≡ value
+pub yes : {A : Type 0} (test : Bool) (value other : A) → test ≡ true → (if test then value else other) ≡ value
 yes true value other is = refl
 yes false value other is = cc is
 

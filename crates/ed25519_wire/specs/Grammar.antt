@@ -1,5 +1,5 @@
--- Ed25519 keys as a grammar: RFC 8709, section 4; draft-miller-ssh-agent, "Adding keys to the agent"; OpenSSH's
--- PROTOCOL.certkeys.
+-- Ed25519 keys and signatures as a grammar: RFC 8709, sections 4 and 6; draft-miller-ssh-agent, "Adding keys to the
+-- agent"; OpenSSH's PROTOCOL.certkeys.
 use Rattle.std.specs.Prelude.{◌≡◌, ◌⊎◌, ◌<◌, ◌^◌, ℕ, List, ◌++◌, length}
 use Rattle.ed25519_wire.specs.Names.{certified_name, plain_name}
 use Rattle.ed25519_wire.specs.Reading.{KeyPair}
@@ -32,3 +32,8 @@ pub record IsCertified (private blob : List ℕ) (pair : KeyPair) : Type 0 where
 -- blob and private string of one key
 abbrev pub IsPair : List ℕ → List ℕ → KeyPair → Type 0
 IsPair private blob pair = IsPlain private blob pair ⊎ IsCertified private blob pair
+
+-- a signature of 64 bytes
+pub record IsSignature (text bytes : List ℕ) : Type 0 where
+  pub text_is : text ≡ string plain_name ++ string bytes
+  pub sized : length bytes ≡ 64

@@ -7,7 +7,9 @@ mod names;
 mod pair;
 mod signature;
 
-pub use laws::keys_are_read_exactly;
+pub use laws::{
+    a_pair_has_the_key_of_its_blob, keys_are_read_exactly, signatures_are_read_exactly,
+};
 pub use names::{is_certified, is_ed25519, is_plain};
 pub use pair::{Pair, read_authority, read_certified_key, read_pair, read_plain_key};
 pub use signature::read_signature;
