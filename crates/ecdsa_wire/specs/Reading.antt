@@ -102,6 +102,10 @@ pair_in private blob = do
 
 -- ---- public keys by themselves
 
+-- the public key of a pair
+abbrev pub pair_public : KeyPair → PublicKey
+pair_public pair = record { curve = pair.curve; point = pair.point }
+
 -- the public key by the type of the blob, which has to be a plain one
 abbrev pub public_typed : Option KeyType → List ℕ → Result PublicKey KeyFault
 public_typed (Some (Plain curve)) blob = plain_point_at curve blob >>= λ point. Ok record { curve = curve; point = point }
