@@ -9,7 +9,9 @@ mod pair;
 mod public;
 mod signature;
 
-pub use laws::{keys_are_read_exactly, signatures_are_read_exactly};
+pub use laws::{
+    a_pair_has_the_key_of_its_blob, keys_are_read_exactly, signatures_are_read_exactly,
+};
 pub use names::{Algorithm, KeyType, key_type};
 pub use pair::{Factors, Pair, read_pair};
 pub use public::{Public, read_certified_public, read_public};
