@@ -26,11 +26,3 @@ in-range k n some below = grind (arith, nat_tests)
 pub usable-says : (r s : ℕ) → (if nat_eq r 0 then false else (if nat_eq s 0 then false else true)) ≡ true
     → (0 < r) × (0 < s)
 usable-says r s is = grind (arith, nat_tests)
-
--- numbers that are one pass the test of equality
-pub equal-passes : (r s : ℕ) → r ≡ s → nat_eq r s ≡ true
-equal-passes r s is = grind (arith, nat_tests)
-
--- a number that is less passes the test of order
-pub less-passes : (x n : ℕ) → x < n → nat_lt x n ≡ true
-less-passes x n below = grind (arith, nat_tests)

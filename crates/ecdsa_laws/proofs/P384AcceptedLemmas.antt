@@ -1,7 +1,7 @@
 -- What is signed over P-384 is accepted, in bytes: what was encoded is decoded, and r and s are read as they were written.
 use Rattle.std.proofs.Common.{◌≡◌, ◌≢◌, ◌<◌, ℕ, zero, suc, ◌+◌, ◌*◌, ◌%◌, ◌^◌, List, [], ◌++◌, ◌∷◌, take, drop, slice_index, Bool, true, false, Option, Some, None, nat_eq, nat_lt, if◌then◌else◌, arith, ap, refl, sym, subst, ◌∙◌}
 use Rattle.std.proofs.Math.Nat.{mod-eq_of_lt}
-use Rattle.std.proofs.lemmas.Bool.Decides.{nat_tests}
+use Rattle.std.proofs.lemmas.Bool.{eq-eqb, lt-ltb}
 use Rattle.std.proofs.lemmas.Nat.{mul-mod_second}
 use Rattle.sha2.specs.Sha512.{sha384}
 use Rattle.wide_words.specs.Numbers.{big_endian, bits_to_int, octets}
@@ -24,7 +24,7 @@ use Rattle.group_laws.proofs.MultipleLemmas.{has-multiple, multiple-modulo, mult
 use Rattle.group_laws.proofs.P384GroupLemmas.{group}
 use Rattle.group_laws.proofs.P384MultipleLemmas.{base-stands, multiply-stands, once, order-leaves-infinity, stands-for-point}
 use Rattle.ecdsa_laws.proofs.ByteLemmas.{first-read, second-read}
-use Rattle.ecdsa_laws.proofs.NumberLemmas.{equal-passes, less-passes, range-says}
+use Rattle.ecdsa_laws.proofs.NumberLemmas.{range-says}
 use Rattle.ecdsa_laws.proofs.P384SignedLemmas.{inverse-is, r-in-range, s-in-range, signed-meets}
 
 -- ---- the public key
@@ -52,12 +52,12 @@ never-infinity d some below is =
 -- a point of the curve passes the tests of its coordinates
 curve-passes : (x y : ℕ) → IsOnCurve x y → is_on_curve x y ≡ true
 unfolding is_on_curve
-curve-passes x y is = equal-passes _ _ is
+curve-passes x y is = eq-eqb _ _ is
 
 valid-is : (x y : ℕ) → IsFinite x y → valid_point x y ≡ Some (point_at x y)
 unfolding valid_point
 valid-is x y on =
-    rw (less-passes x prime on.x_below, less-passes y prime on.y_below, curve-passes x y on.on_curve) refl
+    rw (lt-ltb x prime on.x_below, lt-ltb y prime on.y_below, curve-passes x y on.on_curve) refl
 
 -- below p there are no more than 48 bytes
 in-bytes : (x : ℕ) → x < prime → x < 256 ^ 48

@@ -1,6 +1,7 @@
 -- What is signed over P-384 verifies: [u1]G + [u2]([d]G) is [k]G, since u1 + u2 d is k modulo n.
 use Rattle.std.proofs.Common.{◌≡◌, ◌<◌, ℕ, Some, true, ◌+◌, ◌*◌, ◌%◌, ◌^◌, ◌-◌, arith, ap, refl, sym, ◌∙◌}
 use Rattle.std.proofs.Math.Nat.{mod-eq_of_lt, mod-mod}
+use Rattle.std.proofs.lemmas.Bool.{eq-eqb}
 use Rattle.std.proofs.lemmas.Nat.{mod_below, mul-mod_second}
 use Rattle.p384_order.specs.Scalars.{order, scalar_add, scalar_inv, scalar_mul, scalar_pow}
 use Rattle.p384_curve.specs.declared.point.Point.{Point}
@@ -20,7 +21,7 @@ use Rattle.group_laws.proofs.LoopLemmas.{stands-for-sum}
 use Rattle.group_laws.proofs.MultipleLemmas.{multiple-modulo, multiple-of-multiple}
 use Rattle.group_laws.proofs.P384GroupLemmas.{group}
 use Rattle.group_laws.proofs.P384MultipleLemmas.{Stands, base-stands, formula, multiply-stands, order-leaves-infinity, stands-for-point}
-use Rattle.ecdsa_laws.proofs.NumberLemmas.{equal-passes, in-range, nonce-is, range-says, usable-says}
+use Rattle.ecdsa_laws.proofs.NumberLemmas.{in-range, nonce-is, range-says, usable-says}
 
 -- ---- numbers modulo n
 
@@ -132,5 +133,5 @@ pub signed-meets : (d e k : ℕ) (q : Point) (z : Affine)
 unfolding meets in_range
 signed-meets d e k q z d_is q_is range usable =
     let x_is = recovered-x d e k q z d_is q_is (range-says k order range) usable in
-    equal-passes (affine_x (recovered q e (signed_with d e k).r (signed_with d e k).s) % order) (signed_with d e k).r
+    eq-eqb (affine_x (recovered q e (signed_with d e k).r (signed_with d e k).s) % order) (signed_with d e k).r
     (ap (λ x. x % order) x_is ∙ r-is d e k)

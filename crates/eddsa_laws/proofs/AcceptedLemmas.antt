@@ -1,7 +1,7 @@
 -- What is signed with Ed25519 is accepted: [S]B + [k](- A) is [r]B, since S is r + k s modulo L and A is [s]B.
 use Rattle.std.proofs.Common.{◌≡◌, ◌<◌, ◌-◌, ℕ, zero, suc, ◌+◌, ◌*◌, ◌/◌, ◌%◌, ◌^◌, List, ◌++◌, take, drop, true, false, Option, Some, nat_eq, nat_lt, if◌then◌else◌, arith, ap, refl, sym, ◌∙◌, mul_comm, pow-suc}
 use Rattle.std.proofs.Math.Nat.{div-div-eq-div-mul, mod-eq_of_lt, mod-mod}
-use Rattle.std.proofs.lemmas.Bool.Decides.{nat_tests}
+use Rattle.std.proofs.lemmas.Bool.{eq-eqb, lt-ltb}
 use Rattle.std.proofs.lemmas.Nat.{mod_below}
 use Rattle.std.specs.Int.{byte_at, bytes_low_first}
 use Rattle.sha2.specs.Sha512.{sha512}
@@ -150,12 +150,6 @@ same-point s k r q a r_below k_below q_is a_is =
 
 -- ---- the check
 
-less-passes : (s : ℕ) → s < order → nat_lt s order ≡ true
-less-passes s below = grind (arith, nat_tests)
-
-equal-passes : (e : ℕ) → nat_eq e e ≡ true
-equal-passes e = grind (arith, nat_tests)
-
 in-octets : (s : ℕ) → s < order → s < 2 ^ 256
 in-octets s below = omega (arith, below)
 
@@ -165,8 +159,8 @@ accepted-by : (message public : List ℕ) (e s : ℕ) (q : Point) → e < 2 ^ 25
     → accepts public message (octets e ++ octets s) ≡ true
 unfolding accepts meets
 accepted-by message public e s q e_fits s_below key is =
-    rw (first-octets e (octets s), second-octets e s, number-of-octets s (in-octets s s_below), number-of-octets e e_fits, less-passes s s_below, key, is)
-    (equal-passes e)
+    rw (first-octets e (octets s), second-octets e s, number-of-octets s (in-octets s s_below), number-of-octets e e_fits, lt-ltb s order s_below, key, is)
+    (eq-eqb e e refl)
 
 -- y and a bit have 32 bytes
 encoding-fits : (p : Point) (z : Affine) → StandsFor p z → encoded p < 2 ^ 256

@@ -1,6 +1,7 @@
 -- What a point of edwards25519 is encoded as is decoded again: steps 2 to 4 find the x of each point.
 use Rattle.std.proofs.Common.{◌≡◌, ◌<◌, ◌-◌, ◌⊎◌, inl, inr, ℕ, zero, suc, ◌+◌, ◌*◌, ◌/◌, ◌%◌, ◌^◌, arith, ap, refl, sym, ◌∙◌, Bool, true, false, Option, Some, None, nat_eq, nat_lt, if◌then◌else◌}
 use Rattle.std.proofs.Math.Nat.{mod-eq_of_lt, pow-succ'}
+use Rattle.std.proofs.lemmas.Bool.{eq-eqb, lt-ltb}
 use Rattle.std.proofs.lemmas.Bool.Decides.{nat_tests}
 use Rattle.std.proofs.lemmas.Nat.{mod_below, pow-add, pow-mod}
 use Rattle.field25519.specs.Field.{field_add, field_mul, field_pow, field_sub, prime}
@@ -185,12 +186,9 @@ found false true x y either = record { root = y; is = refl }
 found false false x y (inl is) = absurd (grind arith)
 found false false x y (inr is) = absurd (grind arith)
 
-same-passes : (a b : ℕ) → a ≡ b → nat_eq a b ≡ true
-same-passes a b is = grind (arith, nat_tests)
-
 either-passes : (w u o : ℕ) → (w ≡ u) ⊎ (w ≡ o) → (nat_eq w u ≡ true) ⊎ (nat_eq w o ≡ true)
-either-passes w u o (inl is) = inl (same-passes w u is)
-either-passes w u o (inr is) = inr (same-passes w o is)
+either-passes w u o (inl is) = inl (eq-eqb w u is)
+either-passes w u o (inr is) = inr (eq-eqb w o is)
 
 by-passing : (u v : ℕ)
     → (field_mul v (field_mul (root_candidate u v) (root_candidate u v)) ≡ u)
@@ -219,7 +217,7 @@ next-not-zero x = grind (arith, nat_tests)
 sign-same : (x : ℕ) → with_sign (x % 2) x ≡ Some x
 unfolding with_sign
 sign-same zero = refl
-sign-same (suc x) = rw (next-not-zero x, same-passes (suc x % 2) (suc x % 2) refl) refl
+sign-same (suc x) = rw (next-not-zero x, eq-eqb (suc x % 2) (suc x % 2) refl) refl
 
 not-zero : (r x : ℕ) → r + x ≡ prime → x < prime → nat_eq r 0 ≡ false
 not-zero r x is below = grind (arith, nat_tests)
@@ -310,11 +308,8 @@ low-part x y below = omega arith
 high-part : (x y : ℕ) → y < prime → (y + 2 ^ 255 * (x % 2)) / 2 ^ 255 ≡ x % 2
 high-part x y below = omega arith
 
-less-passes : (y : ℕ) → y < prime → nat_lt y prime ≡ true
-less-passes y below = grind (arith, nat_tests)
-
 pub decoded-again : (p : Point) (z : Affine) → StandsFor p z → decoded (encoded p) ≡ Some (point_at z.x z.y)
 unfolding decoded point_of
 decoded-again p z is =
     let below = is.is_point.y_below in
-    rw (encoding-is p z is, low-part z.x z.y below, high-part z.x z.y below, less-passes z.y below, x-recovered z is.is_point) refl
+    rw (encoding-is p z is, low-part z.x z.y below, high-part z.x z.y below, lt-ltb z.y prime below, x-recovered z is.is_point) refl
