@@ -1,5 +1,10 @@
+pub mod AcceptedLemmas
 pub mod AnswerLemmas
 pub mod EcdsaLemmas
 pub mod LawLemmas
 pub mod NumberLemmas
+pub mod PublicLemmas
 pub mod SigningLemmas
+pub mod TextLemmas
+pub mod TypeLemmas
+pub mod VerifiedLemmas

@@ -21,5 +21,5 @@ mod types;
 mod verifying;
 
 pub use keys::SignerKeys;
-pub use laws::a_known_key_stays;
+pub use laws::{a_known_key_stays, what_is_signed_verifies};
 pub use program::signer_main;
