@@ -18,7 +18,8 @@ SCRIPT = """
 set pagination off
 set confirm off
 set breakpoint pending on
-target remote | vgdb --pid={pid} --wait=60
+set remotetimeout 120
+target remote | vgdb --pid={pid} --wait=120
 break {function}
 continue
 {marks}

@@ -36,6 +36,10 @@ MESSAGE = b"a message that is signed, of forty bytes"
 PIECE = 8
 # What reduces the hash of the nonce, and then the challenge.
 REDUCES = "scalar25519::scalar::Scalar::from_bytes"
+# So many powers of a message are in the row of which RSA takes one for each five bits of an exponent.
+ROW = 32
+# What squares in Montgomery's form.
+SQUARES = "rsa_powers::form::square_assign"
 # A piece of an array of words may stand with each word's bytes turned round, as SHA-512 takes them.
 WORD = 8
 
@@ -193,14 +197,13 @@ def the_helper_s_request_is_found_while_the_rest_is_to_come(_):
         assert any(name == "seed" for name, _ in found), "the search finds nothing, also where something is"
 
 
-@check
-def what_the_helper_signs_with_is_found_while_it_signs(folder):
-    """The other control: stopped at the challenge it has the seed, the secret scalar and the nonce."""
-    stopped = folder / "stopped"
+def found_while_it_signs(folder, body, function, calls, pieces):
+    """The names of the pieces that stand in a helper which is stopped behind so many calls of a function, and its answer."""
+    stopped, ready = folder / "stopped", folder / "ready"
     with helper() as child:
         commands = [
-            f"break {REDUCES}", "ignore 1 1",
-            f"shell touch {folder}/ready",
+            f"break {function}", f"ignore 1 {calls}",
+            f"shell touch {ready}",
             "continue",
             f"shell touch {stopped}; while [ -e {stopped} ]; do sleep 0.1; done",
             "delete",
@@ -209,16 +212,24 @@ def what_the_helper_signs_with_is_found_while_it_signs(folder):
         words = ["gdb", "-q", "-batch", "-p", str(child.process.pid), *(word for line in commands for word in ("-ex", line))]
         debugger = subprocess.Popen(words, stdin=subprocess.DEVNULL, stdout=subprocess.PIPE, stderr=subprocess.STDOUT, text=True)
         try:
-            rig.until((folder / "ready").exists, 60, what="the debugger")
-            child.peer.send(request(SEEDS[0]))
-            rig.until(stopped.exists, 60, what="the challenge")
-            names = {name for name, _ in found_in(memory(child.process.pid), secrets(SEEDS[0]))}
+            rig.until(ready.exists, 60, what="the debugger")
+            child.peer.send(body)
+            rig.until(stopped.exists, 60, what=function)
+            names = {name for name, _ in found_in(memory(child.process.pid), pieces)}
         finally:
             with contextlib.suppress(FileNotFoundError):
                 stopped.unlink()
-            said = debugger.communicate(timeout=60)[0]
-        assert {"seed", "scalar", "nonce"} <= names, (names, said[-500:])
-        assert child.peer.reply().endswith(model.sign(SEEDS[0], MESSAGE))
+            ready.unlink(missing_ok=True)
+            debugger.communicate(timeout=60)
+        return names, child.peer.reply()
+
+
+@check
+def what_the_helper_signs_with_is_found_while_it_signs(folder):
+    """The other control: stopped at the challenge it has the seed, the secret scalar and the nonce."""
+    names, answer = found_while_it_signs(folder, request(SEEDS[0]), REDUCES, 1, secrets(SEEDS[0]))
+    assert {"seed", "scalar", "nonce"} <= names, names
+    assert answer.endswith(model.sign(SEEDS[0], MESSAGE))
 
 
 def numbered(name, number, size):
@@ -250,11 +261,17 @@ def ecdsa_secrets(curve, d, message):
 
 
 def rsa_secrets(numbers, signature):
-    """d and the factors, what is made of them, and the two parts of the signature."""
+    """d and the factors, what is made of them, the two parts of the signature, and the powers that they are made by."""
     n, e, d, inverse, p, q = numbers
     signed = int.from_bytes(signature, "big")
     secret = {"d": d, "p": p, "q": q, "iqmp": inverse, "p - 1": p - 1, "q - 1": q - 1, "dP": d % (p - 1), "dQ": d % (q - 1)}
     secret |= {"s modulo p": signed % p, "s modulo q": signed % q}
+    message = pow(signed, e, n)
+    for name, factor in (("p", p), ("q", q)):
+        # A factor's row of powers, in Montgomery's form: of it a power by d is made.
+        radix = 2 ** (64 * -(-factor.bit_length() // 64))
+        secret |= {f"power {power} modulo {name}": pow(message, power, factor) * radix % factor for power in range(ROW)}
+        secret[f"square of the radix modulo {name}"] = radix * radix % factor
     texts, size = {}, (n.bit_length() + 7) // 8
     for name, number in secret.items():
         texts |= numbered(name, number, size)
@@ -287,6 +304,23 @@ def the_helper_s_answers_leave_nothing_of_other_keys(folder):
             assert not found, sorted(set(found))
             child.peer.socket.sendall(string(signing(key.private, key.blob, flags))[:-1])
             assert found_in_helper(child, pieces), "the search finds nothing, also where something is"
+
+
+@check
+def an_rsa_key_s_row_of_powers_is_found_while_it_signs(folder):
+    """The control of the row: stopped in the squares of one power it has that factor's row, and of it more than a half."""
+    if rig.is_rattle_s(rig.there(HELPER)):
+        raise rig.Skip("Rattle's own compiler inlines a square")
+    key = openssh.generate(folder, "rsa", "2048")
+    body = signing(key.private, key.blob, 4)
+    with helper() as child:
+        child.peer.send(body)
+        answer = child.peer.reply()
+    pieces = rsa_secrets([int.from_bytes(field, "big") for field in key.fields], answer[-256:])
+    names, again = found_while_it_signs(folder, body, SQUARES, 100, pieces)
+    powers = {name for name in names if name.startswith("power ")}
+    assert len(powers) > ROW / 2, sorted(names)
+    assert again == answer
 
 
 if __name__ == "__main__":
