@@ -7,7 +7,7 @@ ghost use Rattle.p256_order.specs.Scalars.{order};
 ghost use Rattle.p256_ecdsa.specs.Keys.{in_range, public_key};
 ghost use Rattle.p256_ecdsa.specs.Signatures.{first_usable, is_usable, joined, signature, signed_with};
 
-use crate::keys::{is_in_range, key_of};
+use crate::keys::{is_in_range, is_key_of};
 use crate::nonce::{State, both, leftmost_bits, mac, tagged};
 use p256_multiples::BaseTable;
 use p256_order::Scalar;
@@ -49,7 +49,7 @@ pub fn sign_checked(
     if !is_in_range(&d) {
         return None;
     }
-    if key_of(table, &d) != *public {
+    if !is_key_of(table, &d, public) {
         return None;
     }
     sign_twice(table, &Scalar::from_words(&d), message)

@@ -1,15 +1,18 @@
 -- Numbers in range, and public keys.
-use Rattle.std.proofs.Common.{◌≡◌, ◌<◌, ◌*◌, ◌%◌, ◌^◌, arith, ℕ, List, Bool, true, false, not, sym, refl, ◌∙◌, nat_eq, nat_lt, if◌then◌else◌}
-use Rattle.std.proofs.lemmas.Bool.{both_ways, ltb-true, not-false, not-true}
+use Rattle.std.proofs.Common.{◌≡◌, ◌<◌, ◌*◌, ◌%◌, ◌^◌, arith, ℕ, List, Bool, true, false, refl, ◌∙◌, nat_eq, nat_lt, if◌then◌else◌}
+use Rattle.std.proofs.lemmas.Bool.{both_ways, ltb-true}
 use Rattle.std.proofs.Math.Nat.{mod-eq_of_lt}
-use lib.Pointwise.{pointwise, bytes_decides}
-use lib.Dec.{eqb}
 use mir.Val.{bool_byte}
 use Rattle.p384_order.specs.Scalars.{order}
 use Rattle.p384_curve.specs.declared.point.Point.{Point}
-use Rattle.p384_curve.specs.Points.{base}
+use Rattle.p384_curve.specs.Points.{base, base_x, base_y}
 use Rattle.p384_curve.specs.Multiples.{multiply}
 use Rattle.p384_curve.specs.Encoding.{encoded}
+use Rattle.curve_laws.specs.P384.{At, Infinity, IsGroupSum}
+use Rattle.group_laws.specs.Groups.{HasMultiple}
+use Rattle.group_laws.proofs.MultipleLemmas.{has-multiple}
+use Rattle.group_laws.proofs.P384GroupLemmas.{group}
+use Rattle.group_laws.proofs.P384MultipleLemmas.{base-stands, stands-for-point}
 use Rattle.p384_ecdsa.specs.Keys.{in_range, public_key}
 
 -- two flags are 1 where both comparisons hold
@@ -45,12 +48,10 @@ pub public_key-made : (d : ℕ) (point : Point) (made : List ℕ) → encoded po
 unfolding public_key
 public_key-made d point made point_is made_is = cc
 
--- what the comparison of the public keys says
-pub keys-differ : (made public key : List ℕ) → made ≡ key → true ≡ not (pointwise eqb made public) → public ≡ key → ⊥
-keys-differ made public key made_is test same =
-    both_ways (pointwise eqb made public) (not-true (pointwise eqb made public) (sym test))
-    ((bytes_decides made public).1 (made_is ∙ sym same))
+-- the base point's multiple
+pub has-base-multiple : (d : ℕ) → HasMultiple IsGroupSum Infinity (At base_x base_y) d
+has-base-multiple d = has-multiple group (At base_x base_y) (stands-for-point base (At base_x base_y) base-stands) d
 
-pub keys-same : (made public key : List ℕ) → made ≡ key → false ≡ not (pointwise eqb made public) → public ≡ key
-keys-same made public key made_is test =
-    sym ((bytes_decides made public).0 (not-false (pointwise eqb made public) (sym test))) ∙ made_is
+pub public_key-is : (d : ℕ) → encoded (multiply d base) ≡ public_key d
+unfolding public_key
+public_key-is d = refl

@@ -1,3 +1,4 @@
+pub mod EncodingLemmas
 pub mod KeyLemmas
 pub mod NonceLemmas
 pub mod SigningLemmas

@@ -324,7 +324,7 @@ rsa-accepted pair e algorithm message bytes whole e_is accepted =
     let size = accepted-size n e (info (hash_of algorithm) message) bytes by_n in
     rw (
       rsa-is-read (rsa_text algorithm bytes) (record { algorithm = algorithm; bytes = bytes })
-      (record { text_is = refl; fits = omega (arith, size.1) }),
+          (record { text_is = refl; fits = omega (arith, size.1) }),
       e_is,
       filled-whole (length n) bytes (size.0 ∙ ap length same),
       by_n,

@@ -61,7 +61,7 @@ by-ecdsa name None key named is = by-rsa name (rsa_named name) key refl is
 
 by-name : (name : List ℕ) (plain certified : Bool) (key : KeyType) → is_plain_name name ≡ plain → is_certified_name name ≡ certified
     → option_or (if plain then Some (Plain Ed25519) else if certified then Some (Certified Ed25519) else None)
-      (option_or (ecdsa_type (ecdsa_named name)) (rsa_type (rsa_named name))) ≡ Some key
+    (option_or (ecdsa_type (ecdsa_named name)) (rsa_type (rsa_named name))) ≡ Some key
     → IsNameOf key name
 by-name name true certified key plain_is certified_is is =
     let same : Plain Ed25519 ≡ key = cc (is) in

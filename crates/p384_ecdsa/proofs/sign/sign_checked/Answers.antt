@@ -1,9 +1,9 @@
-use Rattle.std.proofs.Common.{◌≡◌, ◌≢◌, ◌⊎◌, ◌∙◌, ap, sym, inl, inr, ℕ, List, true, false, Some, None, Option, MatchOption, ◌%◌}
+use Rattle.std.proofs.Common.{◌≡◌, ◌≢◌, ◌⊎◌, ◌∙◌, ap, sym, refl, inl, inr, ℕ, List, true, false, Some, None, Option, MatchOption, ◌%◌}
 use Rattle.sha2.specs.Sha512.{sha384}
 use Rattle.p384_order.specs.Scalars.{order}
 use Rattle.p384_ecdsa.specs.Keys.{in_range, public_key}
 use Rattle.p384_ecdsa.specs.Signatures.{signature}
-use Rattle.p384_ecdsa.proofs.KeyLemmas.{in_range-same, keys-differ, keys-same}
+use Rattle.p384_ecdsa.proofs.KeyLemmas.{in_range-same}
 use Rattle.p384_ecdsa.proofs.sign.sign_checked.Goals as goal
 
 -- what the signature of the hash says of that of the message
@@ -23,12 +23,12 @@ checked (Some bytes) d s number public text d_is within same s_is is =
 pub returns-then-not-is_in_range : goal.returns-then-not-is_in_range
 returns-then-not-is_in_range c = inl (ap in_range (sym c.from_bytes-d.ensures) ∙ sym c.if-not-is_in_range.ensures)
 
-pub returns-then-ne : goal.returns-then-ne
-returns-then-ne c =
-    inr (inl (keys-differ c.key_of.result c.args.public.now _ (c.key_of.ensures ∙ ap public_key c.from_bytes-d.ensures) c.if-ne.ensures))
+pub returns-then-not-is_key_of : goal.returns-then-not-is_key_of
+returns-then-not-is_key_of c =
+    inr (inl (λ same. c.if-not-is_key_of.ensures.other refl (same ∙ ap public_key (sym c.from_bytes-d.ensures))))
 
 pub returns : goal.returns
 returns c =
     checked _ _ _ _ _ _ c.from_bytes-d.ensures (sym c.if-not-is_in_range.ensures)
-    (keys-same c.key_of.result c.args.public.now _ (c.key_of.ensures ∙ ap public_key c.from_bytes-d.ensures) c.if-ne.ensures)
+    (c.if-not-is_key_of.ensures.same refl ∙ ap public_key c.from_bytes-d.ensures)
     c.from_words.ensures c.sign_twice.ensures
