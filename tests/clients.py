@@ -700,6 +700,67 @@ def plink_and_dbclient_log_in(folder):
             raise Skip("neither plink nor dbclient")
 
 
+# An entry's settings as KeePassXC keeps them, in UTF-16: its key is added when the database opens, for ten minutes, and removed
+# when it closes.
+KEEPASSXC = """<?xml version="1.0" encoding="UTF-16"?>
+<EntrySettings>
+ <AllowUseOfSshKey>true</AllowUseOfSshKey>
+ <AddAtDatabaseOpen>true</AddAtDatabaseOpen>
+ <RemoveAtDatabaseClose>true</RemoveAtDatabaseClose>
+ <UseLifetimeConstraintWhenAdding>true</UseLifetimeConstraintWhenAdding>
+ <LifetimeConstraintDuration>600</LifetimeConstraintDuration>
+ <Location><SelectedType>attachment</SelectedType><AttachmentName>key</AttachmentName></Location>
+</EntrySettings>
+"""
+
+
+@check
+def keepassxc_adds_a_key_and_takes_it_away(folder):
+    if not shutil.which("keepassxc"):
+        raise Skip("no keepassxc")
+    key, home = keygen(folder / "key"), folder / "home"
+    (home / ".config/keepassxc").mkdir(parents=True)
+    (home / ".config/keepassxc/keepassxc.ini").write_text(
+        "[General]\nConfigVersion=2\nUpdateCheckMessageShown=true\n[SSHAgent]\nEnabled=true\n"
+    )
+    settings = folder / "settings"
+    settings.write_bytes(KEEPASSXC.encode("utf-16"))
+    environment = dict(os.environ, HOME=str(home), QT_QPA_PLATFORM="offscreen")
+
+    def cli(*words):
+        run(["keepassxc-cli", *words], input="secret\nsecret\n", env=environment)
+
+    cli("db-create", "-q", "-p", folder / "db.kdbx")
+    cli("add", "-q", folder / "db.kdbx", "login")
+    for name, file in (("key", key), ("KeeAgent.settings", settings)):
+        cli("attachment-import", "-q", folder / "db.kdbx", "login", name, file)
+
+    def listed(agent):
+        return agent.run("ssh-add", "-l", status=None)
+
+    def case(agent):
+        words = ["keepassxc", "--pw-stdin", folder / "db.kdbx"]
+        quiet = dict(stdin=subprocess.PIPE, stdout=subprocess.DEVNULL, stderr=subprocess.DEVNULL)
+        program = subprocess.Popen(words, env=dict(environment, SSH_AUTH_SOCK=agent.path), **quiet)
+        try:
+            program.stdin.write(b"secret\n")
+            program.stdin.close()
+            until(lambda: "ED25519" in listed(agent), 60, what="the key")
+            (folder / "text").write_text("text")
+            agent.run("ssh-keygen", "-q", "-Y", "sign", "-n", "file", "-f", f"{key}.pub", folder / "text")
+            (folder / "text.sig").unlink()
+            seen = listed(agent)
+            program.send_signal(signal.SIGINT)
+            program.wait(60)
+        finally:
+            program.kill()
+            program.wait()
+        return seen, listed(agent)
+
+    seen, left = alike(folder, case)
+    assert "ED25519" in seen and "no identities" in left, (seen, left)
+
+
 LIBSSH2 = r"""
 #include <libssh2.h>
 #include <netinet/in.h>
