@@ -65,10 +65,10 @@ JUMPS = {
 # The curves of ecdsa_tool, and the words of 64 bits and the bytes of a number.
 CURVES = {"p256": (4, 32), "p384": (6, 48), "p521": (9, 66)}
 
-# The same of ecdsa_tool, where products stand as they do in LLVM's build: over P-521 that modulo p has a form of its own, and
-# that modulo n its two parts.
+# The same of ecdsa_tool, where products stand as they do in LLVM's build: over P-256 that modulo p is inlined, here into what
+# makes Montgomery's form; over P-521 it has a form of its own, and that modulo n its two parts.
 PRODUCTS = {
-    "p256": ("p256_field::residue::Residue::product", "p256_order::residue::Residue::product"),
+    "p256": ("p256_field::element::Element::from_words", "p256_order::residue::Residue::product"),
     "p384": ("p384_field::residue::product_of", "p384_order::residue::product_of"),
     "p521": ("p521_field::element::Element::mul", "wide_words::u576::U576::widening_mul", "p521_order::residue::reduced"),
 }
