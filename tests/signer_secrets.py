@@ -43,29 +43,38 @@ MESSAGE = b"a message of some bytes"
 FOUND = {"Conditional jump": "jump", "Use of uninitialised value": "address", "Syscall param": "call"}
 
 # The list: for each kind of key the functions in which a jump or an address may depend on a secret, with how many places at
-# most, by either compiler, and why. Of the two names in a line each compiler leaves one, and inlines the other.
+# most in all of a line, by either compiler, and why. Each compiler inlines other functions, so a line has several names.
 READS = "the first byte of a number: its sign, and a zero in front"
-TRIES = "how long the number is, with zeros put in front, and whether it is in range; the public key that was made of it is \
-compared with the key's, and both signatures, the second of which finds a fault of the machine; the finished signature is written"
+SIGNS = "how long the number is, with zeros put in front, and whether it is in range; whether the key's x and y are the coordinates \
+of the point that is made of the number; whether both signatures are the same, the second of which finds a fault of the machine"
 BEGINS_ANEW = "RFC 6979 and FIPS 186-5: whether a nonce is in range, and whether r or s is 0"
 WRITES = "the finished signature is written"
 LIST = {
-    "ed25519": {("ed25519::erase::sign_with_copy",): (1, "the public keys are compared, and both signatures")},
+    "ed25519": {("ed25519::erase::sign_with_copy",): (2, "the public keys are compared, and both signatures")},
     **{
         curve.name: {
             ("ecdsa_wire::pair::read_pair",): (3, READS),
-            ("signer_keys::answers::signature_by", f"signer_keys::answers::{curve.name}_signature"): (10, TRIES),
-            (f"{curve.name}_ecdsa::sign::sign_hash",): (4, BEGINS_ANEW),
-            ("signer_keys::numbers::put_mpint",): (4, WRITES),
+            (
+                "signer_keys::answers::signature_by",
+                f"signer_keys::answers::{curve.name}_signature",
+                f"signer_keys::{curve.name}_signatures::sign",
+                f"{curve.name}_ecdsa::keys::is_key_of",
+                f"{curve.name}_ecdsa::sign::sign_twice",
+                f"{curve.name}_field::element::Element::equals",
+            ): (21, SIGNS),
+            (f"{curve.name}_ecdsa::sign::sign_hash",): (6, BEGINS_ANEW),
+            ("signer_keys::numbers::put_mpint", f"signer_keys::{curve.name}_signatures::text"): (5, WRITES),
         }
         for curve in (P256, P384, P521)
     },
     "rsa": {
         ("rsa_wire::pair::read_private",): (12, READS),
-        ("signer_keys::answers::signature_by", "signer_keys::rsa_signatures::sign_by"): (
-            7,
-            "how long d, the factors and iqmp are without zeros in front, and whether each factor is odd; whether there is a signature",
-        ),
+        (
+            "signer_keys::answers::put_signature",
+            "signer_keys::answers::signature_by",
+            "signer_keys::rsa_signatures::sign_by",
+            "rsa_sign::signing::sign_significant",
+        ): (7, "how long d, the factors and iqmp are without zeros in front; whether each factor is odd; whether there is a signature"),
         ("rsa_verify::verification::opens", "rsa_verify::verification::verify_info"): (2, "the signature, which is verified"),
     },
 }
