@@ -279,6 +279,10 @@ def rsa_secrets(numbers, signature):
     return pieces_of(texts, public)
 
 
+def is_of_a_row(name, where):
+    return name.startswith("power ") and where == "registers"
+
+
 def signing(private, blob, flags):
     return struct.pack(">BQ", 1, 1) + string(private) + string(blob) + string(MESSAGE) + struct.pack(">I", flags)
 
@@ -300,7 +304,8 @@ def the_helper_s_answers_leave_nothing_of_other_keys(folder):
                 answer = child.peer.reply()
                 assert answer[0] == (102 if fields is changed else 101), answer
             pieces = ecdsa_secrets(curve, numbers[2], MESSAGE) if curve else rsa_secrets(numbers, answer[-256:])
-            found = found_in_helper(child, pieces)
+            # A word of the last row that was chosen stays in a vector register (docs/THREATS.md), and in no memory.
+            found = [(name, where) for name, where in found_in_helper(child, pieces) if not is_of_a_row(name, where)]
             assert not found, sorted(set(found))
             child.peer.socket.sendall(string(signing(key.private, key.blob, flags))[:-1])
             assert found_in_helper(child, pieces), "the search finds nothing, also where something is"
