@@ -13,13 +13,17 @@ import rig
 
 WORDS = ["valgrind", "-q", "--vgdb=yes", "--vgdb-error=0", "--vgdb-shadow-registers=yes"]
 
-# Where the program stops, what is marked there, and how often it is continued until then.
-SCRIPT = """
+# How gdb gets at the program that memcheck runs, on a busy machine too.
+BEGIN = """
 set pagination off
 set confirm off
 set breakpoint pending on
 set remotetimeout 120
 target remote | vgdb --pid={pid} --wait=120
+"""
+
+# Where the program stops, what is marked there, and how often it is continued until then.
+SCRIPT = BEGIN + """
 break {function}
 continue
 {marks}

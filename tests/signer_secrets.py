@@ -90,12 +90,7 @@ MOST = 1_000_000
 
 # Where the helper stops first, and what it does there: the private string is looked for behind each register that the call
 # is passed, through what that points to, and its secret fields are marked.
-SCRIPT = """
-set pagination off
-set confirm off
-set breakpoint pending on
-set remotetimeout 120
-target remote | vgdb --pid={pid} --wait=120
+SCRIPT = memcheck.BEGIN + """
 break signer_keys::answers::put_signature
 continue
 python
